@@ -1,0 +1,29 @@
+-- `starts_with` meets its contract: a shorter part starts with nothing longer; else the fronts are compared.
+-- Assumes nothing.
+use native.Mathlib.Omega.{arith}
+use mathlib.Core.Path.{sym}
+use borrow.Author.Needs.{needs}
+use lib.ListN.{length}
+use lib.Seq.{length-take-le}
+use Rattle.parts.specs.Same.{startsWith}
+use Rattle.parts.proofs.SameLaws.{starts-short}
+use Rattle.parts.proofs.starts_with.Statement.{statement}
+use Rattle.parts.proofs.starts_with.Tie as tie
+
+returns : tie.Need-returns
+returns c = let a = c .before .before .before .args in sym (starts-short (a .prefix .now) (a .s .now) (omega arith))
+
+slice-aggregate-same : tie.Need-slice-aggregate-same
+slice-aggregate-same c =
+    let a = c .before .before .before .before .args in
+    sym (length-take-le (length (a .prefix .now)) (a .s .now) (omega arith))
+
+same-requires : tie.Need-same-requires
+same-requires c κs = search needs
+
+returns-2 : tie.Need-returns-2
+unfolding startsWith
+returns-2 c = c .same .ensures
+
+pub starts-with-spec : {M : Type 1} → statement M
+starts-with-spec = tie.close (tie.spec returns slice-aggregate-same same-requires returns-2)

@@ -1,0 +1,43 @@
+-- What the helpers of src/ answer: a place in a text, and the end of a name in an array.
+-- Assumes nothing.
+use Prim.Native.Nat.{ℕ, _+_, _-_, _≤_}
+use mathlib.Core.Path.{_≡_}
+use mathlib.Core.List.{List, _++_}
+use lib.ListN.{length, drop}
+use Rattle.types.specs.declared.KeyRange.{KeyRange}
+use Rattle.types.specs.declared.SegmentId.{SegmentId}
+use Rattle.topic.specs.Parents.{beforeSlash, behindSlash}
+use Rattle.topic.specs.Names.{decimal, descriptor}
+use Rattle.topic.specs.declared.descriptor.Tail.{Tail}
+
+-- r is the place of the first '/' from the place from on, or the end
+pub record SlashAt (s : List ℕ) (from r : ℕ) : Type 0 where
+  pub low : from ≤ r
+  pub high : r ≤ length s
+  pub before : length (beforeSlash (drop from s)) ≡ r - from
+  pub after : behindSlash (drop from s) ≡ drop (r + 1) s
+
+-- the bytes that the array ends with
+abbrev pub tailOf : Tail → List ℕ
+tailOf t = drop (t .from) (t .bytes)
+
+-- n bytes still fit in front
+pub record Room (n : ℕ) (t : Tail) : Type 0 where
+  pub low : n ≤ t .from
+  pub high : t .from ≤ 32
+  pub long : length (t .bytes) ≡ 32
+
+-- r is t with the bytes bs in front
+pub record Longer (t : Tail) (bs : List ℕ) (r : Tail) : Type 0 where
+  pub long : length (r .bytes) ≡ 32
+  pub from : r .from + length bs ≡ t .from
+  pub tail : tailOf r ≡ bs ++ tailOf t
+
+-- r is the number in decimal, and 12 bytes still fit
+pub record DecimalIs (id : ℕ) (r : Tail) : Type 0 where
+  pub room : Room 12 r
+  pub tail : tailOf r ≡ decimal id
+
+pub record DescriptorIs (range : KeyRange) (id : SegmentId) (r : Tail) : Type 0 where
+  pub room : Room 0 r
+  pub tail : tailOf r ≡ descriptor range id

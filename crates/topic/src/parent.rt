@@ -1,0 +1,76 @@
+// Parents: `topic://` and a path of tenant, namespace and local name.
+ghost use mathlib.Core.Path.{_≡_};
+ghost use Prim.Native.Nat.{_≤_};
+ghost use lib.ListN.{length, drop};
+ghost use Rattle.topic.specs.Parents.{clean, isPath, isParent};
+ghost use Rattle.topic.specs.Answers.{SlashAt};
+use crate::class::{HASH, QUESTION, SLASH, class_of};
+
+// The place of the first '/' from a place on, or the end.
+fn slash_from(s: &[u8], from: usize) -> usize
+    requires { ⌜ from ≤ length (now s) ⌝ }
+    ensures { λ r. ⌜ SlashAt (now (s .entry)) from r ⌝ }
+{
+    let mut i = from;
+    while i < s.len() {
+        if class_of(s[i]) == SLASH {
+            return i;
+        }
+        i = i + 1;
+    }
+    i
+}
+
+// No byte from a place on is '?' or '#'.
+fn is_clean(s: &[u8], from: usize) -> bool
+    ensures { λ r. ⌜ r ≡ clean (drop from (now (s .entry))) ⌝ }
+{
+    let mut i = from;
+    while i < s.len() {
+        let class = class_of(s[i]);
+        if class == QUESTION {
+            return false;
+        }
+        if class == HASH {
+            return false;
+        }
+        i = i + 1;
+    }
+    true
+}
+
+// The part is a path of tenant, namespace and local name.
+pub fn is_path(p: &[u8]) -> bool
+    ensures { λ r. ⌜ r ≡ isPath (now (p .entry)) ⌝ }
+{
+    let end = p.len();
+    let a = slash_from(p, 0);
+    if a == 0 {
+        return false;
+    }
+    if end <= a {
+        return false;
+    }
+    let b = slash_from(p, a + 1);
+    if b == a + 1 {
+        return false;
+    }
+    if end <= b + 1 {
+        return false;
+    }
+    if class_of(p[end - 1]) == SLASH {
+        return false;
+    }
+    is_clean(p, b + 1)
+}
+
+// The text is a parent.
+pub fn is_parent(s: &[u8]) -> bool
+    ensures { λ r. ⌜ r ≡ isParent (now (s .entry)) ⌝ }
+{
+    if parts::starts_with(s, b"topic://") {
+        is_path(&s[8..])
+    } else {
+        false
+    }
+}

@@ -1,0 +1,41 @@
+-- Ranges of the 16-bit key space (01, Ranges), and why two numbers are none.
+--
+-- `newKeyRange` is the Rust's `KeyRange::new`. `kindOf` and `numbersOf` give what a refusal attaches: the kind, 1 to 3, and that kind's own
+-- numbers in the order of the Rust's fields.
+-- Assumes nothing.
+use Prim.Native.Nat.{ℕ}
+use mathlib.Core.Bool.{cond}
+use mathlib.Core.List.{List, [], _∷_}
+use lib.Dec.{ltb}
+use Rattle.types.specs.declared.KeyRange.{KeyRange}
+use Rattle.types.specs.declared.KeyRangeError.{KeyRangeError}
+use Rattle.types.specs.declared.KeyRangeError.the-variants.{StartOutOfBounds, EndOutOfBounds, Reversed}
+use Rattle.types.specs.declared.RangeResult.{RangeResult}
+use Rattle.types.specs.declared.RangeResult.the-variants.{Valid, Invalid}
+
+-- the highest value of the key space
+abbrev pub maxHash : ℕ
+maxHash = 65535
+
+-- the range from start to end
+abbrev pub keyRange : ℕ → ℕ → KeyRange
+keyRange start end = record { start = start; end = end }
+
+-- "start above 65,535, then end above 65,535, then end below start"
+unfoldable pub newKeyRange : ℕ → ℕ → RangeResult
+newKeyRange start end =
+    cond (ltb maxHash start) (Invalid (StartOutOfBounds start))
+    (cond (ltb maxHash end) (Invalid (EndOutOfBounds end))
+    (cond (ltb end start) (Invalid (Reversed start end)) (Valid (keyRange start end))))
+
+-- "kinds 1, 2, 3"
+unfoldable pub kindOf : KeyRangeError → ℕ
+kindOf (StartOutOfBounds s) = 1
+kindOf (EndOutOfBounds e) = 2
+kindOf (Reversed s e) = 3
+
+-- a kind's own numbers
+unfoldable pub numbersOf : KeyRangeError → List ℕ
+numbersOf (StartOutOfBounds s) = s ∷ []
+numbersOf (EndOutOfBounds e) = e ∷ []
+numbersOf (Reversed s e) = s ∷ e ∷ []

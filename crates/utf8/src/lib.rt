@@ -1,0 +1,91 @@
+// Whether a part is UTF-8, by Unicode's Table 3-7, "Well-Formed UTF-8 Byte Sequences".
+//
+// `sequence` goes through the table's rows in their order; `is_utf8` goes through the part once, sequence by sequence.
+ghost use mathlib.Core.Path.{_≡_};
+ghost use mathlib.Core.Bool.{cond};
+ghost use mathlib.Core.List.{[], _∷_};
+ghost use lib.ListN.{drop};
+ghost use Rattle.utf8.specs.Table.{span, trail, fits, sequenceOf, isUtf8};
+
+// The byte at the place i is there and lies in the span from low to high.
+fn in_span(s: &[u8], i: usize, low: u8, high: u8) -> bool
+    ensures { λ r. ⌜ r ≡ fits (span low high ∷ []) (drop i (now (s .entry))) ⌝ }
+{
+    if i < s.len() {
+        let b = s[i];
+        if low <= b {
+            return b <= high;
+        }
+    }
+    false
+}
+
+// 2 where the second byte is a trailing byte, else 0.
+fn two(s: &[u8]) -> usize
+    ensures { λ r. ⌜ r ≡ cond (fits (trail ∷ []) (drop 1 (now (s .entry)))) 2 0 ⌝ }
+{
+    if in_span(s, 1, 0x80, 0xBF) { 2 } else { 0 }
+}
+
+// 3 where the second byte lies in the span and the third is a trailing byte, else 0.
+fn three(s: &[u8], low: u8, high: u8) -> usize
+    ensures { λ r. ⌜ r ≡ cond (fits (span low high ∷ trail ∷ []) (drop 1 (now (s .entry)))) 3 0 ⌝ }
+{
+    if in_span(s, 1, low, high) {
+        if in_span(s, 2, 0x80, 0xBF) {
+            return 3;
+        }
+    }
+    0
+}
+
+// 4 where the second byte lies in the span and the third and fourth are trailing bytes, else 0.
+fn four(s: &[u8], low: u8, high: u8) -> usize
+    ensures { λ r. ⌜ r ≡ cond (fits (span low high ∷ trail ∷ trail ∷ []) (drop 1 (now (s .entry)))) 4 0 ⌝ }
+{
+    if in_span(s, 1, low, high) {
+        if in_span(s, 2, 0x80, 0xBF) {
+            if in_span(s, 3, 0x80, 0xBF) {
+                return 4;
+            }
+        }
+    }
+    0
+}
+
+// The length of the well-formed sequence at the front of the part, or 0 where there is none. The second byte allowed depends on the first.
+pub fn sequence(s: &[u8]) -> usize
+    ensures { λ r. ⌜ r ≡ sequenceOf (now (s .entry)) ⌝ }
+{
+    if s.len() == 0 {
+        return 0;
+    }
+    let lead = s[0];
+    match lead {
+        0x00..=0x7F => 1,
+        0xC2..=0xDF => two(s),
+        0xE0 => three(s, 0xA0, 0xBF),
+        0xE1..=0xEC => three(s, 0x80, 0xBF),
+        0xED => three(s, 0x80, 0x9F),
+        0xEE..=0xEF => three(s, 0x80, 0xBF),
+        0xF0 => four(s, 0x90, 0xBF),
+        0xF1..=0xF3 => four(s, 0x80, 0xBF),
+        0xF4 => four(s, 0x80, 0x8F),
+        _ => 0,
+    }
+}
+
+// The part is UTF-8.
+pub fn is_utf8(s: &[u8]) -> bool
+    ensures { λ r. ⌜ r ≡ isUtf8 (now (s .entry)) ⌝ }
+{
+    let mut at: usize = 0;
+    while at < s.len() {
+        let n = sequence(&s[at..]);
+        if n == 0 {
+            return false;
+        }
+        at = at + n;
+    }
+    true
+}
