@@ -13,7 +13,7 @@ use Rattle.types.specs.KeyRanges.{kindOf, numbersOf}
 use Rattle.refusal.specs.declared.Refusal.{Refusal}
 use Rattle.refusal.specs.declared.Refusal.the-variants.{StoreTooShort, OutputTooShort, InvalidWireFormat, WrongWireType, RepeatedField, MissingField, InvalidUtf8, IdentityTooLong, InvalidRange, InvalidKeyRange, InvalidBucketRange, OverlappingBucketRanges, InvalidParent, AttachmentMismatch, DuplicateSegment, AssignmentTooLong, Broker, Empty, EmptyUpdate, InvalidSegment, SegmentIdMismatch, MalformedInput, ResultTooLong, MalformedStore, IncarnationMismatch, ConsumerMismatch, NonAdvancingIncarnation, CrossIncarnationEpochRegression, StaleEpoch, PreBaselineBufferFull, WatchMismatch, MalformedSet, SetTooLong}
 
-unfoldable pub numberOf : Refusal → ℕ
+abbrev pub numberOf : Refusal → ℕ
 numberOf StoreTooShort = 1
 numberOf OutputTooShort = 2
 numberOf InvalidWireFormat = 3
@@ -58,7 +58,7 @@ idValue id = pos (id .0)
 abbrev pub linkValue : ControllerIncarnation → ℤ
 linkValue link = pos (link .0)
 
-unfoldable pub valuesOf : Refusal → List ℤ
+abbrev pub valuesOf : Refusal → List ℤ
 valuesOf StoreTooShort = []
 valuesOf OutputTooShort = []
 valuesOf InvalidWireFormat = []

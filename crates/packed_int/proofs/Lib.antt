@@ -1,0 +1,3 @@
+pub mod BeLaws
+pub mod PutLaws
+pub mod WidthLaws
