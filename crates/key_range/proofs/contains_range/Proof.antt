@@ -1,0 +1,34 @@
+-- `contains_range` meets its contract, by the answer of `both`.
+-- Assumes nothing.
+use mathlib.Core.Path.{sym, _∙_}
+use Rattle.key_range.specs.Calls.{containsRangeOf, testBoth}
+use borrow.Author.Needs.{needs}
+use Rattle.key_range.proofs.contains_range.Statement.{statement}
+use Rattle.key_range.proofs.contains_range.Tie as tie
+
+both-requires : tie.Need-both-requires
+both-requires c κs = search needs
+
+enum-known-source : tie.Need-enum-known-source
+enum-known-source c = search needs
+
+enum-known-a : tie.Need-enum-known-a
+enum-known-a c = search needs
+
+holds-range-requires : tie.Need-holds-range-requires
+holds-range-requires c κs = search needs
+
+returns : tie.Need-returns
+unfolding containsRangeOf testBoth
+returns c = let e = sym (c .before .before .before .both .ensures) ∙ c .before .source .given .1 in rw e
+
+returns-2 : tie.Need-returns-2
+unfolding containsRangeOf testBoth
+returns-2 c = 
+    let e = sym (c .before .before .before .before .both .ensures) ∙ c .before .before .a .given .1 in
+    rw (e, c .holds-range .ensures)
+
+pub contains-range-spec : {M : Type 1} → statement M
+contains-range-spec =
+    tie.close
+    (tie.spec both-requires enum-known-source enum-known-a holds-range-requires returns returns-2)

@@ -1,0 +1,34 @@
+-- `is_adjacent_to` meets its contract, by the answer of `both`.
+-- Assumes nothing.
+use mathlib.Core.Path.{sym, _∙_}
+use Rattle.key_range.specs.Calls.{isAdjacentOf, testBoth}
+use borrow.Author.Needs.{needs}
+use Rattle.key_range.proofs.is_adjacent_to.Statement.{statement}
+use Rattle.key_range.proofs.is_adjacent_to.Tie as tie
+
+both-requires : tie.Need-both-requires
+both-requires c κs = search needs
+
+enum-known-source : tie.Need-enum-known-source
+enum-known-source c = search needs
+
+enum-known-a : tie.Need-enum-known-a
+enum-known-a c = search needs
+
+touch-requires : tie.Need-touch-requires
+touch-requires c κs = search needs
+
+returns : tie.Need-returns
+unfolding isAdjacentOf testBoth
+returns c = let e = sym (c .before .before .before .both .ensures) ∙ c .before .source .given .1 in rw e
+
+returns-2 : tie.Need-returns-2
+unfolding isAdjacentOf testBoth
+returns-2 c = 
+    let e = sym (c .before .before .before .before .both .ensures) ∙ c .before .before .a .given .1 in
+    rw (e, c .touch .ensures)
+
+pub is-adjacent-to-spec : {M : Type 1} → statement M
+is-adjacent-to-spec =
+    tie.close
+    (tie.spec both-requires enum-known-source enum-known-a touch-requires returns returns-2)

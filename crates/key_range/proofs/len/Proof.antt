@@ -1,0 +1,41 @@
+-- `len` meets its contract: a range that `KeyRange::new` makes is not reversed and ends in the key space, so the sum fits.
+-- Assumes nothing.
+use native.Mathlib.Omega.{arith}
+use mathlib.Core.Path.{sym, _∙_}
+use Rattle.types.proofs.KeyRangeLaws.{new-valid}
+use Rattle.key_range.specs.Calls.{lengthOf, lengthBy}
+use borrow.Author.Needs.{needs}
+use Rattle.key_range.proofs.len.Statement.{statement}
+use Rattle.key_range.proofs.len.Tie as tie
+
+new-requires : tie.Need-new-requires
+new-requires c κs = search needs
+
+enum-known-source : tie.Need-enum-known-source
+enum-known-source c = search needs
+
+enum-known-range : tie.Need-enum-known-range
+enum-known-range c = search needs
+
+sub-t8 : tie.Need-sub-t8
+sub-t8 c = 
+    let e = sym (c .before .before .before .before .new .ensures) ∙ c .before .before .range .given .1 in
+    omega (arith, new-valid _ _ _ e)
+
+add-t9 : tie.Need-add-t9
+add-t9 c = 
+    let e = sym (c .before .before .before .before .new .ensures) ∙ c .before .before .range .given .1 in
+    omega (arith, new-valid _ _ _ e)
+
+returns : tie.Need-returns
+unfolding lengthOf lengthBy
+returns c = let e = sym (c .before .before .before .new .ensures) ∙ c .before .source .given .1 in rw e
+
+returns-2 : tie.Need-returns-2
+unfolding lengthOf lengthBy
+returns-2 c = let e = sym (c .before .before .before .before .new .ensures) ∙ c .before .before .range .given .1 in rw e
+
+pub len-spec : {M : Type 1} → statement M
+len-spec =
+    tie.close
+    (tie.spec new-requires enum-known-source enum-known-range sub-t8 add-t9 returns returns-2)
