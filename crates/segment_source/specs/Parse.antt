@@ -3,11 +3,11 @@
 -- `parseSegmentTopic` is the Rust's `parse_segment_topic`: the text behind `segment://` is split at its last '/' into the parent's path and a
 -- descriptor, the start and the end as four lower-case hex digits each and the id in decimal without leading zeros, joined by '-'.
 -- Assumes nothing.
-use Prim.Native.Nat.{ℕ, zero, suc, _+_, _-_, _*_, _^_}
-use mathlib.Core.Bool.{Bool, true, false, cond, not, _&&_, _||_}
+use Prim.Native.Nat.{ℕ, _+_, _-_}
+use mathlib.Core.Bool.{Bool, false, cond, _&&_, _||_}
 use mathlib.Core.List.{List, [], _∷_, _++_}
 use lib.ListN.{length, take, drop, getD}
-use lib.Dec.{ltb, eqb}
+use lib.Dec.{eqb}
 use Rattle.types.specs.declared.KeyRange.{KeyRange}
 use Rattle.types.specs.declared.SegmentId.{SegmentId}
 use Rattle.types.specs.declared.RangeResult.{RangeResult}
@@ -17,13 +17,16 @@ use Rattle.refusal.specs.declared.Refusal.{Refusal}
 use Rattle.refusal.specs.declared.Refusal.the-variants.{InvalidUtf8, InvalidKeyRange, InvalidParent, InvalidSegment, SegmentIdMismatch}
 use Rattle.parts.specs.Same.{startsWith}
 use Rattle.utf8.specs.Table.{isUtf8}
-use Rattle.topic.specs.Classes.{classOf, isDigit, isHexDigit, isSlash, isDash}
-use Rattle.topic.specs.Parents.{topicScheme, nonEmpty, isPath}
+use Rattle.topic.specs.Classes.{isSlash, isDash}
+use Rattle.topic.specs.Parents.{topicScheme, isPath}
 use Rattle.topic.specs.Names.{segmentScheme}
 use Rattle.topic.specs.Build.{Outcome, refuse, written}
+use Rattle.segment_source.specs.Digits.{decimalValue, hexValue, isHexWord, isSegmentId}
 use Rattle.segment_source.specs.declared.SegmentSource.{SegmentSource}
 use Rattle.segment_source.specs.declared.SourceAnswer.{SourceAnswer}
 use Rattle.segment_source.specs.declared.SourceAnswer.the-variants as source
+use Rattle.segment_source.specs.declared.Slash.{Slash}
+use Rattle.segment_source.specs.declared.Slash.the-variants as slash
 use Rattle.segment_source.specs.declared.Parsed.{Parsed}
 use Rattle.segment_source.specs.declared.Parsed.the-variants as parsed
 
@@ -38,40 +41,9 @@ unfoldable pub beforeLast : List ℕ → List ℕ
 beforeLast [] = []
 beforeLast (b ∷ l) = cond (hasSlash l) (b ∷ beforeLast l) []
 
--- ---- digits
-
-unfoldable pub allDigits : List ℕ → Bool
-allDigits [] = true
-allDigits (b ∷ l) = isDigit b && allDigits l
-
-unfoldable pub allHexDigits : List ℕ → Bool
-allHexDigits [] = true
-allHexDigits (b ∷ l) = isHexDigit b && allHexDigits l
-
--- the number whose leading digits are a and whose others, to the base, are the values of the bytes
-unfoldable pub valueFrom : ℕ → (ℕ → ℕ) → ℕ → List ℕ → ℕ
-valueFrom base value a [] = a
-valueFrom base value a (b ∷ l) = valueFrom base value (a * base + value b) l
-
-abbrev pub digitValue : ℕ → ℕ
-digitValue b = b - 0x30
-
-abbrev pub hexDigitValue : ℕ → ℕ
-hexDigitValue b = cond (isDigit b) (b - 0x30) (b - 0x57)
-
-unfoldable pub decimalValue : List ℕ → ℕ
-decimalValue l = valueFrom 10 digitValue 0 l
-
-unfoldable pub hexValue : List ℕ → ℕ
-hexValue l = valueFrom 16 hexDigitValue 0 l
-
--- four lower-case hexadecimal digits
-unfoldable pub isHexWord : List ℕ → Bool
-isHexWord l = eqb (length l) 4 && allHexDigits l
-
--- decimal digits without leading zeros, of a number below 2 ^ 64
-unfoldable pub isSegmentId : List ℕ → Bool
-isSegmentId l = nonEmpty l && (allDigits l && ((eqb (length l) 1 || not (eqb (getD l 0 0) 0x30)) && ltb (decimalValue l) (2 ^ 64)))
+-- the place of the last '/'
+unfoldable pub lastSlash : List ℕ → Slash
+lastSlash l = cond (hasSlash l) (slash.At (length (beforeLast l))) slash.Nothing
 
 -- ---- the descriptor: ssss-eeee-id
 

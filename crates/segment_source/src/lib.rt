@@ -1,9 +1,14 @@
 // Segment names read: the Rust's `SegmentSource::new` and `parent_topic`.
+//
+// A name is `segment://`, a parent's path, '/', and a descriptor `ssss-eeee-id`. Every function takes a part of any length and content.
+mod digits;
+
 ghost use mathlib.Core.Path.{_≡_};
 ghost use Rattle.topic.specs.Build.{outcome};
-ghost use Rattle.segment_source.specs.Parse.{segmentSource, parentTopic, parseText};
+ghost use Rattle.segment_source.specs.Parse.{lastSlash, descriptorStage, parseSegmentTopic, parseText, segmentSource, parentTopic};
+use digits::{Number, hex_word, segment_id};
 use refusal::Refusal;
-use topic::NameAnswer;
+use topic::{DASH, NameAnswer, SLASH, class_of};
 use types::{KeyRange, RangeResult, SegmentId};
 
 // A segment as its name tells it.
@@ -18,8 +23,124 @@ pub enum SourceAnswer {
     Refused(Refusal),
 }
 
-// A name taken apart: where its path ends, its range and its id.
+// A name taken apart: the place where its path ends, its range and its id.
 pub enum Parsed {
     Name(usize, KeyRange, SegmentId),
     Refused(Refusal),
+}
+
+// Where the last '/' of a part stands.
+pub enum Slash {
+    At(usize),
+    Nothing,
+}
+
+fn last_slash(s: &[u8]) -> Slash
+    ensures { λ r. ⌜ r ≡ lastSlash (now (s .entry)) ⌝ }
+{
+    let mut i = s.len();
+    while 0 < i {
+        i = i - 1;
+        if class_of(s[i]) == SLASH {
+            return Slash::At(i);
+        }
+    }
+    Slash::Nothing
+}
+
+// The descriptor d, behind a path that ends at path_end: 18, then 9.
+fn parse_descriptor(d: &[u8], path_end: usize) -> Parsed
+    ensures { λ r. ⌜ r ≡ descriptorStage «path_end» (now (d .entry)) ⌝ }
+{
+    if d.len() < 11 {
+        return Parsed::Refused(Refusal::InvalidSegment);
+    }
+    if class_of(d[4]) != DASH {
+        return Parsed::Refused(Refusal::InvalidSegment);
+    }
+    if class_of(d[9]) != DASH {
+        return Parsed::Refused(Refusal::InvalidSegment);
+    }
+    let Number::Is(start) = hex_word(&d[..4]) else {
+        return Parsed::Refused(Refusal::InvalidSegment);
+    };
+    let Number::Is(end) = hex_word(&d[5..9]) else {
+        return Parsed::Refused(Refusal::InvalidSegment);
+    };
+    let Number::Is(id) = segment_id(&d[10..]) else {
+        return Parsed::Refused(Refusal::InvalidSegment);
+    };
+    match KeyRange::new(start as u32, end as u32) {
+        RangeResult::Invalid(source) => Parsed::Refused(Refusal::InvalidKeyRange { source }),
+        RangeResult::Valid(range) => Parsed::Name(path_end, range, SegmentId(id)),
+    }
+}
+
+// The name t: 18 without prefix or slash, 12, then the descriptor.
+fn parse_segment_topic(t: &[u8]) -> Parsed
+    ensures { λ r. ⌜ r ≡ parseSegmentTopic (now (t .entry)) ⌝ }
+{
+    if !parts::starts_with(t, b"segment://") {
+        return Parsed::Refused(Refusal::InvalidSegment);
+    }
+    let Slash::At(n) = last_slash(&t[10..]) else {
+        return Parsed::Refused(Refusal::InvalidSegment);
+    };
+    let path_end = 10 + n;
+    if !topic::is_path(&t[10..path_end]) {
+        return Parsed::Refused(Refusal::InvalidParent);
+    }
+    parse_descriptor(&t[path_end + 1..], path_end)
+}
+
+// The text t: 7, then the name.
+fn parse_text(t: &[u8]) -> Parsed
+    ensures { λ r. ⌜ r ≡ parseText (now (t .entry)) ⌝ }
+{
+    if !utf8::is_utf8(t) {
+        return Parsed::Refused(Refusal::InvalidUtf8);
+    }
+    parse_segment_topic(t)
+}
+
+// Reads the name of the segment with the given id. Tested in order: UTF-8 (7), prefix and slash (18), the parent's path (12), the descriptor (18),
+// its range (9), its id (19).
+pub fn segment_source(id: SegmentId, topic: &[u8]) -> SourceAnswer
+    ensures { λ r. ⌜ r ≡ segmentSource id (now (topic .entry)) ⌝ }
+{
+    match parse_text(topic) {
+        Parsed::Refused(refusal) => SourceAnswer::Refused(refusal),
+        Parsed::Name(_, key_range, topic_id) => {
+            if topic_id.0 == id.0 {
+                SourceAnswer::Source(SegmentSource {
+                    segment_id: id,
+                    key_range,
+                })
+            } else {
+                SourceAnswer::Refused(Refusal::SegmentIdMismatch {
+                    segment_id: id,
+                    topic_id,
+                })
+            }
+        }
+    }
+}
+
+// Writes the parent of a segment's name: `topic://` and the path. Tested as by `segment_source` without the id, then the room (21). A refusal
+// leaves the output as it was.
+pub fn parent_topic(topic: &[u8], out: &mut [u8]) -> NameAnswer
+    ensures { λ r. ⌜ outcome r (now (out .exit)) ≡ parentTopic (now (topic .entry)) (now (out .entry)) ⌝ }
+{
+    match parse_text(topic) {
+        Parsed::Refused(refusal) => NameAnswer::Refused(refusal),
+        Parsed::Name(path_end, _, _) => {
+            let n = path_end - 2;
+            if out.len() < n {
+                return NameAnswer::Refused(Refusal::ResultTooLong);
+            }
+            packed_int::put_bytes(out, 0, b"topic://");
+            packed_int::put_bytes(out, 8, &topic[10..path_end]);
+            NameAnswer::Written(n)
+        }
+    }
 }

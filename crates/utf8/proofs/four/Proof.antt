@@ -1,0 +1,52 @@
+-- `four` meets its contract: the row's tests, one byte behind the other. Assumes nothing.
+use mathlib.Core.Path.{sym, _∙_}
+use borrow.Author.Needs.{needs}
+use Rattle.utf8.proofs.RowLaws.{fits-cons}
+use Rattle.utf8.proofs.four.Statement.{statement}
+use Rattle.utf8.proofs.four.Tie as tie
+
+in-span-requires : tie.Need-in-span-requires
+in-span-requires c κs = search needs
+
+in-span-requires-2 : tie.Need-in-span-requires-2
+in-span-requires-2 c κs = search needs
+
+in-span-requires-3 : tie.Need-in-span-requires-3
+in-span-requires-3 c κs = search needs
+
+returns : tie.Need-returns
+returns c =
+    let e = sym (c .before .before .before .before .before .in-span .ensures) ∙ c .before .before .before .before .if1 .taken in
+    let f = sym (c .before .before .before .in-span2 .ensures) ∙ c .before .before .if2 .taken in
+    let g = sym (c .before .in-span3 .ensures) ∙ c .if3 .taken in
+    rw (fits-cons _ _ 1 _, fits-cons _ _ 2 _, e, f, g)
+
+returns-2 : tie.Need-returns-2
+returns-2 c =
+    let e = sym (c .before .before .before .before .before .in-span .ensures) ∙ c .before .before .before .before .if1 .taken in
+    let f = sym (c .before .before .before .in-span2 .ensures) ∙ c .before .before .if2 .taken in
+    let g = sym (c .before .in-span3 .ensures) ∙ c .if3 .left in
+    rw (fits-cons _ _ 1 _, fits-cons _ _ 2 _, e, f, g)
+
+returns-3 : tie.Need-returns-3
+returns-3 c =
+    let e = sym (c .before .before .before .in-span .ensures) ∙ c .before .before .if1 .taken in
+    let f = sym (c .before .in-span2 .ensures) ∙ c .if2 .left in
+    rw (fits-cons _ _ 1 _, fits-cons _ _ 2 _, e, f)
+
+returns-4 : tie.Need-returns-4
+returns-4 c =
+    let e = sym (c .before .in-span .ensures) ∙ c .if1 .left in
+    rw (fits-cons _ _ 1 _, e)
+
+pub four-spec : {M : Type 1} → statement M
+four-spec =
+    tie.close
+    (tie.spec
+    in-span-requires
+    in-span-requires-2
+    in-span-requires-3
+    returns
+    returns-2
+    returns-3
+    returns-4)

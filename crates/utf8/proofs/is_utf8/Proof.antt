@@ -1,0 +1,83 @@
+-- `is_utf8` meets its contract. The invariant: what is left of the part, from `at` on, decides the whole. The measure is what is left.
+-- Assumes nothing.
+use Prim.Native.Nat.{_-_, _≤_}
+use native.Mathlib.Omega.{arith}
+use mathlib.Core.Path.{_≡_, refl, sym, _∙_}
+use borrow.Author.Needs.{needs}
+use lib.ListN.{length, drop}
+use Rattle.utf8.specs.Table.{isUtf8}
+use Rattle.utf8.proofs.TextLaws.{text-end, turn-fits, turn-stops, turn-goes-on}
+use Rattle.utf8.proofs.is_utf8.Statement.{statement}
+use Rattle.utf8.proofs.is_utf8.Tie as tie
+
+abbrev Inv-loop : tie.InvT-loop
+Inv-loop s at₀ at = (at ≤ length s) × (isUtf8 s ≡ isUtf8 (drop at s))
+
+abbrev μ-loop : tie.MeasureT-loop
+μ-loop s at₀ at = length s - at
+
+loop-holds : tie.Need-loop-holds Inv-loop μ-loop
+loop-holds c = (omega arith, refl)
+
+sub-sequence : tie.Need-sub-sequence Inv-loop μ-loop
+sub-sequence c = search needs
+
+part-sequence-start : tie.Need-part-sequence-start Inv-loop μ-loop
+part-sequence-start c = search needs
+
+part-sequence-end : tie.Need-part-sequence-end Inv-loop μ-loop
+part-sequence-end c = search needs
+
+sequence-requires : tie.Need-sequence-requires Inv-loop μ-loop
+sequence-requires c κs = search needs
+
+returns : tie.Need-returns Inv-loop μ-loop
+returns c =
+    let l = c .before .before .before .before .loop in
+    let s = c .before .before .before .before .before .before .args .s .now in
+    let q = c .before .sequence in
+    sym (l .inv .1 ∙ turn-stops s (l .at) (q .result) (omega arith) (q .ensures) (c .if1 .taken))
+
+add-at : tie.Need-add-at Inv-loop μ-loop
+add-at c =
+    let l = c .before .before .before .before .loop in
+    let s = c .before .before .before .before .before .before .args .s .now in
+    let q = c .before .sequence in
+    omega (arith, turn-fits s (l .at) (q .result) (omega arith) (q .ensures))
+
+loop-less : tie.Need-loop-less Inv-loop μ-loop
+loop-less c =
+    let l = c .before .before .before .before .loop in
+    let s = c .before .before .before .before .before .before .args .s .now in
+    let q = c .before .sequence in
+    omega (arith, turn-fits s (l .at) (q .result) (omega arith) (q .ensures))
+
+loop-again : tie.Need-loop-again Inv-loop μ-loop
+loop-again c =
+    let l = c .before .before .before .before .loop in
+    let s = c .before .before .before .before .before .before .args .s .now in
+    let q = c .before .sequence in (
+      turn-fits s (l .at) (q .result) (omega arith) (q .ensures),
+      l .inv .1 ∙ turn-goes-on s (l .at) (q .result) (omega arith) (q .ensures) (c .if1 .left),
+    )
+
+returns-2 : tie.Need-returns-2 Inv-loop μ-loop
+returns-2 c =
+    let l = c .before .loop in sym (l .inv .1 ∙ text-end (c .before .before .before .args .s .now) (l .at) (omega arith))
+
+pub is-utf8-spec : {M : Type 1} → statement M
+is-utf8-spec =
+    tie.close
+    (tie.spec
+    Inv-loop
+    μ-loop
+    loop-holds
+    sub-sequence
+    part-sequence-start
+    part-sequence-end
+    sequence-requires
+    returns
+    add-at
+    loop-less
+    loop-again
+    returns-2)
