@@ -1,7 +1,8 @@
-// Parts of byte slices: equality and prefixes.
+// Parts of byte slices: equality, prefixes, and a byte as a wider number.
 //
 // The laws that every reader of a slice needs stand in proofs/: what `&s[at..]` is as a list, bytes below 256.
 ghost use mathlib.Core.Path.{_≡_};
+ghost use Prim.Native.Nat.{_<_};
 ghost use Rattle.parts.specs.Same.{sameBytes, startsWith};
 
 // The two parts hold the same bytes.
@@ -30,4 +31,12 @@ pub fn starts_with(s: &[u8], prefix: &[u8]) -> bool
         return false;
     }
     same(&s[..n], prefix)
+}
+
+// The byte as a wider number.
+pub fn wide(x: u8) -> u64
+    ensures { λ r. ⌜ r ≡ x ⌝ }
+    ensures { λ r. ⌜ r < 256 ⌝ }
+{
+    x as u64
 }
