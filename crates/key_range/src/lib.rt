@@ -5,7 +5,9 @@ ghost use mathlib.Core.Path.{_≡_};
 ghost use Rattle.types.specs.KeyRanges.{newKeyRange};
 ghost use Rattle.key_range.specs.Calls.{pairBy, holds, holdsRange, touches, lengthOf, containsOf, containsRangeOf, isAdjacentOf};
 use refusal::Refusal;
-use types::{KeyRange, KeyRangeError, RangeResult};
+use types::KeyRange;
+use types::KeyRangeError;
+use types::RangeResult;
 
 pub enum LengthAnswer {
     // How many values the range has, 1 to 65,536.

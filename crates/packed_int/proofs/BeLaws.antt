@@ -37,7 +37,7 @@ from-split a [] = omega arith
 from-split a (y ∷ ys) =
     let n : ℕ = length ys in
     let e : (a * 256 + y) * 256 ^ n ≡ a * 256 ^ suc n + y * 256 ^ n =
-        add-mul (a * 256) y (256 ^ n) ∙ ap (λ (m : ℕ). m + y * 256 ^ n) (mul-assoc a 256 (256 ^ n) ∙ ap (λ (m : ℕ). a * m) (sym (pow-succ' 256 n))) in
+    add-mul (a * 256) y (256 ^ n) ∙ ap (λ (m : ℕ). m + y * 256 ^ n) (mul-assoc a 256 (256 ^ n) ∙ ap (λ (m : ℕ). a * m) (sym (pow-succ' 256 n))) in
     let z : 0 * 256 + y ≡ y = omega arith in
     from-split (a * 256 + y) ys ∙ rw (z, from-split y ys, e) (omega arith)
 

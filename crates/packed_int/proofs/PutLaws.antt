@@ -38,11 +38,11 @@ put-after o at A B h =
     let s : P ++ (A ++ R) ≡ (P ++ A) ++ R = sym (append-assoc P A R) in
     let t : take (at + length A) (P ++ (A ++ R)) ≡ P ++ A = ap (take (at + length A)) s ∙ take-at (P ++ A) R (at + length A) lpa in
     let d : drop (at + length A + length B) (P ++ (A ++ R)) ≡ drop (at + length (A ++ B)) o =
-        sym (drop-drop (length B) (at + length A) (P ++ (A ++ R)))
-        ∙ ap (λ (l : List ℕ). drop (length B) (drop (at + length A) l)) s
-        ∙ ap (drop (length B)) (drop-at (P ++ A) R (at + length A) lpa)
-        ∙ drop-drop (length B) (at + length A) o
-        ∙ ap (λ (n : ℕ). drop n o) f in
+    sym (drop-drop (length B) (at + length A) (P ++ (A ++ R)))
+    ∙ ap (λ (l : List ℕ). drop (length B) (drop (at + length A) l)) s
+    ∙ ap (drop (length B)) (drop-at (P ++ A) R (at + length A) lpa)
+    ∙ drop-drop (length B) (at + length A) o
+    ∙ ap (λ (n : ℕ). drop n o) f in
     ap (λ (l : List ℕ). l ++ (B ++ drop (at + length A + length B) (P ++ (A ++ R)))) t
     ∙ ap (λ (l : List ℕ). (P ++ A) ++ (B ++ l)) d
     ∙ simp append-assoc

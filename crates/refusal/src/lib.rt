@@ -5,7 +5,9 @@
 // specs/ say the same formally, and every promise about a refusal goes through those two.
 ghost use mathlib.Core.Path.{_≡_};
 ghost use Rattle.refusal.specs.Refusals.{numberOf};
-use types::{ControllerIncarnation, KeyRangeError, SegmentId};
+use types::ControllerIncarnation;
+use types::KeyRangeError;
+use types::SegmentId;
 
 pub enum Refusal {
     // 1: the store has fewer than three slots.
@@ -25,31 +27,56 @@ pub enum Refusal {
     // 8: the three texts of an identity do not fit its slot.
     IdentityTooLong,
     // 9, of a segment in a message: its range is none.
-    InvalidRange { segment_id: SegmentId, source: KeyRangeError },
+    InvalidRange {
+        segment_id: SegmentId,
+        source: KeyRangeError,
+    },
     // 9, of a range outside a message: in a name, or lent to a call.
-    InvalidKeyRange { source: KeyRangeError },
+    InvalidKeyRange {
+        source: KeyRangeError,
+    },
     // 10: a bucket range is none; its place among the segment's buckets, and its ends as they came.
-    InvalidBucketRange { segment_id: SegmentId, index: usize, start: i32, end: i32 },
+    InvalidBucketRange {
+        segment_id: SegmentId,
+        index: usize,
+        start: i32,
+        end: i32,
+    },
     // 11: two bucket ranges of a segment share a value.
-    OverlappingBucketRanges { segment_id: SegmentId },
+    OverlappingBucketRanges {
+        segment_id: SegmentId,
+    },
     // 12: the parent is no `topic://` with tenant, namespace and rest.
     InvalidParent,
     // 13: the segment's topic is not the name of its parent, range and id.
-    AttachmentMismatch { segment_id: SegmentId },
+    AttachmentMismatch {
+        segment_id: SegmentId,
+    },
     // 14: the segment's id came before.
-    DuplicateSegment { segment_id: SegmentId },
+    DuplicateSegment {
+        segment_id: SegmentId,
+    },
     // 15: the packed assignment is longer than a slot.
     AssignmentTooLong,
     // 16: the broker answered with an error code. Its text is handed back beside the refusal.
-    Broker { code: i32 },
+    Broker {
+        code: i32,
+    },
     // 17, of a response: neither an assignment nor an error code.
-    Empty { request_id: u64 },
+    Empty {
+        request_id: u64,
+    },
     // 17, of a watch update: neither an event nor an error code.
-    EmptyUpdate { watch_id: u64 },
+    EmptyUpdate {
+        watch_id: u64,
+    },
     // 18: the text is no name of a segment.
     InvalidSegment,
     // 19: the name is another segment's.
-    SegmentIdMismatch { segment_id: SegmentId, topic_id: SegmentId },
+    SegmentIdMismatch {
+        segment_id: SegmentId,
+        topic_id: SegmentId,
+    },
     // 20: an assignment or a delta that was lent is malformed.
     MalformedInput,
     // 21: the result does not fit the output, or has no packed form.
@@ -57,19 +84,39 @@ pub enum Refusal {
     // 22: a slot in use is malformed, or a count of the record is beyond what it counts.
     MalformedStore,
     // 23: the call is for another link to the controller.
-    IncarnationMismatch { got: ControllerIncarnation, expected: ControllerIncarnation },
+    IncarnationMismatch {
+        got: ControllerIncarnation,
+        expected: ControllerIncarnation,
+    },
     // 24: the update is for another consumer.
-    ConsumerMismatch { got: u64, expected: u64 },
+    ConsumerMismatch {
+        got: u64,
+        expected: u64,
+    },
     // 25: the new link's number is not above the old one's.
-    NonAdvancingIncarnation { got: ControllerIncarnation, prev: ControllerIncarnation },
+    NonAdvancingIncarnation {
+        got: ControllerIncarnation,
+        prev: ControllerIncarnation,
+    },
     // 26: the epoch lies below the highest one that was accepted.
-    CrossIncarnationEpochRegression { got: u64, floor: u64 },
+    CrossIncarnationEpochRegression {
+        got: u64,
+        floor: u64,
+    },
     // 27: the epoch lies below that of the list before it.
-    StaleEpoch { got: u64, prev: u64 },
+    StaleEpoch {
+        got: u64,
+        prev: u64,
+    },
     // 28: the queue is full.
-    PreBaselineBufferFull { max: usize },
+    PreBaselineBufferFull {
+        max: usize,
+    },
     // 29: the update is for another watch.
-    WatchMismatch { got: u64, expected: u64 },
+    WatchMismatch {
+        got: u64,
+        expected: u64,
+    },
     // 30: the topic set that was lent is malformed.
     MalformedSet,
     // 31: the new topic set is longer than its buffer, or one of the event's topics longer than a topic can be.
@@ -89,9 +136,17 @@ pub fn number(refusal: Refusal) -> u8
         Refusal::MissingField => 6,
         Refusal::InvalidUtf8 => 7,
         Refusal::IdentityTooLong => 8,
-        Refusal::InvalidRange { segment_id: _, source: _ } => 9,
+        Refusal::InvalidRange {
+            segment_id: _,
+            source: _,
+        } => 9,
         Refusal::InvalidKeyRange { source: _ } => 9,
-        Refusal::InvalidBucketRange { segment_id: _, index: _, start: _, end: _ } => 10,
+        Refusal::InvalidBucketRange {
+            segment_id: _,
+            index: _,
+            start: _,
+            end: _,
+        } => 10,
         Refusal::OverlappingBucketRanges { segment_id: _ } => 11,
         Refusal::InvalidParent => 12,
         Refusal::AttachmentMismatch { segment_id: _ } => 13,
@@ -101,17 +156,29 @@ pub fn number(refusal: Refusal) -> u8
         Refusal::Empty { request_id: _ } => 17,
         Refusal::EmptyUpdate { watch_id: _ } => 17,
         Refusal::InvalidSegment => 18,
-        Refusal::SegmentIdMismatch { segment_id: _, topic_id: _ } => 19,
+        Refusal::SegmentIdMismatch {
+            segment_id: _,
+            topic_id: _,
+        } => 19,
         Refusal::MalformedInput => 20,
         Refusal::ResultTooLong => 21,
         Refusal::MalformedStore => 22,
-        Refusal::IncarnationMismatch { got: _, expected: _ } => 23,
-        Refusal::ConsumerMismatch { got: _, expected: _ } => 24,
+        Refusal::IncarnationMismatch {
+            got: _,
+            expected: _,
+        } => 23,
+        Refusal::ConsumerMismatch {
+            got: _,
+            expected: _,
+        } => 24,
         Refusal::NonAdvancingIncarnation { got: _, prev: _ } => 25,
         Refusal::CrossIncarnationEpochRegression { got: _, floor: _ } => 26,
         Refusal::StaleEpoch { got: _, prev: _ } => 27,
         Refusal::PreBaselineBufferFull { max: _ } => 28,
-        Refusal::WatchMismatch { got: _, expected: _ } => 29,
+        Refusal::WatchMismatch {
+            got: _,
+            expected: _,
+        } => 29,
         Refusal::MalformedSet => 30,
         Refusal::SetTooLong => 31,
     }

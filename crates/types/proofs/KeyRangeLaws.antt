@@ -37,7 +37,7 @@ new-valid s e r = first (ltb maxHash s)
 
     first : (t : Bool)
         → cond t (Invalid (StartOutOfBounds s))
-            (cond (ltb maxHash e) (Invalid (EndOutOfBounds e)) (cond (ltb e s) (Invalid (Reversed s e)) (Valid (keyRange s e)))) ≡ Valid r
+        (cond (ltb maxHash e) (Invalid (EndOutOfBounds e)) (cond (ltb e s) (Invalid (Reversed s e)) (Valid (keyRange s e)))) ≡ Valid r
         → Makes s e r
     first true q = clash q
     first false q = second (ltb maxHash e) refl q

@@ -15,6 +15,7 @@ pub struct ControllerIncarnation(pub u64);
 
 // The lowest and the highest value of the 16-bit key space.
 pub const MIN_HASH: u32 = 0;
+
 pub const MAX_HASH: u32 = 65535;
 
 // The values from start to end, both included.

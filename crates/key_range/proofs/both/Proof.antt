@@ -30,14 +30,14 @@ returns c = let e = sym (c .before .before .before .new .ensures) ∙ c .before 
 
 returns-2 : tie.Need-returns-2
 unfolding pairBy
-returns-2 c = 
+returns-2 c =
     let e = sym (c .before .before .before .before .before .before .before .new .ensures) ∙ c .before .before .before .before .before .a .given .1 in
     let f = sym (c .before .before .before .new2 .ensures) ∙ c .before .source2 .given .1 in
     rw (e, f)
 
 returns-3 : tie.Need-returns-3
 unfolding pairBy
-returns-3 c = 
+returns-3 c =
     let e = sym (c .before .before .before .before .before .before .before .new .ensures) ∙ c .before .before .before .before .before .a .given .1 in
     let f = sym (c .before .before .before .new2 .ensures) ∙ c .before .b .given .1 in
     rw (e, f)

@@ -24,7 +24,7 @@ returns c = let e = sym (c .before .before .before .new .ensures) ∙ c .before 
 
 returns-2 : tie.Need-returns-2
 unfolding containsOf testBy
-returns-2 c = 
+returns-2 c =
     let e = sym (c .before .before .before .before .new .ensures) ∙ c .before .before .range .given .1 in
     rw (e, c .holds-hash .ensures)
 

@@ -18,12 +18,12 @@ enum-known-range : tie.Need-enum-known-range
 enum-known-range c = search needs
 
 sub-t8 : tie.Need-sub-t8
-sub-t8 c = 
+sub-t8 c =
     let e = sym (c .before .before .before .before .new .ensures) ∙ c .before .before .range .given .1 in
     omega (arith, new-valid _ _ _ e)
 
 add-t9 : tie.Need-add-t9
-add-t9 c = 
+add-t9 c =
     let e = sym (c .before .before .before .before .new .ensures) ∙ c .before .before .range .given .1 in
     omega (arith, new-valid _ _ _ e)
 
