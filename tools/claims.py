@@ -1,0 +1,148 @@
+#!/usr/bin/env python3
+"""Checks docs/CLAIMS.md against the repository and against docs/sentences.txt, the list of the papers' sentences.
+
+    python3 tools/claims.py                        names, ids, helpers
+    python3 tools/claims.py --spec DIR             also: docs/sentences.txt is the list of the papers in DIR
+    python3 tools/claims.py --spec DIR --write     rewrites docs/sentences.txt first
+
+DIR holds mission.md and 01-scope.md; the environment may name it as CUDDREWYN_SPEC. Each fault is a line `claims: ...`, and the exit code is 1.
+
+Sentences. Each of the mission's three demands is a block. In 01 a paragraph is a block, and so is a list item; a heading is none. A heading or
+block that starts with one of LEADS begins that section; others belong to the section before. In a block a sentence ends at a full stop with white
+space behind it, unless a lone capital letter stands before the stop (`A. ..`). Its id is the section and its number there, from 1 on; a sentence
+with a number or letter of its own (`7 ..`, `A. ..`) keeps that. The list has the id and the first 12 hex digits of the SHA-256 of the sentence,
+its white space made single blanks.
+"""
+import argparse, hashlib, os, re, sys
+from collections import Counter
+from pathlib import Path
+
+ROOT = Path(__file__).resolve().parent.parent
+LIST = ROOT / "docs/sentences.txt"
+LEADS = {
+    "Sources:": "Sources", "**Fields": "Fields", "**Ranges": "Ranges", "**Names": "Names", "**Sheet": "Sheet", "**Store": "Store",
+    "**Session": "Session", "- *Update": "Update", "- *Response": "Response", "- *Drain": "Drain", "- *Begin": "Begin", "**Delta": "Delta",
+    "**Apply": "Apply", "**Demand 3": "Demand3", "**The uploader": "Uploader", "**The sender": "Sender", "## The rest": "Rest",
+    "**Watch": "Watch", "## Refused for the input": "Calls", "1 ": "Refusal", "22 ": "Refusal", "Ours,": "Ours", "Update:": "Orders",
+    "## Sessions": "Rows", "## Wrong turns": "Wrong", "## What each place": "Forms", "## What the Rust owns": "Rust",
+}
+faults = []
+fault = faults.append
+
+
+def blocks(text):
+    """The headings, paragraphs and list items of a paper, each on one line."""
+    text = re.sub(r"^(#.*)$", r"\n\1\n", text, flags=re.M)
+    text = re.sub(r"^- ", "\n- ", text, flags=re.M)
+    return [" ".join(block.split()) for block in re.split(r"\n\s*\n", text) if block.strip()]
+
+
+def listing(folder):
+    """The lines of docs/sentences.txt, made from the papers."""
+    section, parts = None, [("Mission" + n, t) for n, t in re.findall(r"^> (\d)\. (.*)$", (folder / "mission.md").read_text(), re.M)]
+    for block in blocks((folder / "01-scope.md").read_text()):
+        section = next((key for lead, key in LEADS.items() if block.startswith(lead)), section)
+        if section and not block.startswith("#"):
+            parts.append((section, block.removeprefix("- ")))
+    count, lines = Counter(), []
+    for section, text in parts:
+        for sentence in map(str.strip, re.split(r"(?<=\.)(?<! [A-Z]\.) ", " " + " ".join(text.split()))):
+            own = re.match(r"(\d+) |([A-Z])\. ", sentence)
+            count[section] += 1
+            number = (own[1] or own[2]) if own else count[section]
+            lines.append(f"{section}.{number} {hashlib.sha256(sentence.encode()).hexdigest()[:12]}")
+    return lines
+
+
+def expand(cell, ids):
+    """The ids of a cell `Delta.2` or `Delta.2-4`, none where it fits none; of a cell `Rest.1a` also the part, which is `a`."""
+    if m := re.fullmatch(r"(\w+\.\d+)([a-z])", cell):
+        return [i for i in ids if i == m[1]], m[2]
+    first, _, last = cell.partition("-")
+    last = first.split(".")[0] + "." + last if last else first
+    return (ids[ids.index(first):ids.index(last) + 1] if first in ids and last in ids else []), ""
+
+
+def check_rows(text, ids):
+    """Each sentence has one row, or one row for each of its parts; no row has another id."""
+    rows = [[cell.strip() for cell in line.strip("| ").split(" | ")] for line in re.findall(r"^\| [A-Z]\w*\.\w.*", text, re.M)]
+    covered = {i: [] for i in ids}
+    for row in rows:
+        found, part = expand(row[0], ids)
+        if not found or len(row) != 5 or not all(row):
+            fault(f"{row[0]}: " + ("not five cells" if found else "no such sentence"))
+        for i in found:
+            covered[i].append(part)
+    for i, parts in covered.items():
+        if parts != [""] and (len(parts) < 2 or parts != list("abcdefghijklmnopqrstuvwxyz"[:len(parts)])):
+            fault(f"{i}: " + ("neither one row nor its parts in order" if parts else "no row"))
+    for cell in re.findall(r"\bsee ([A-Z]\w*\.[\w-]+)", text):
+        if not expand(cell, ids)[0]:
+            fault(f"see {cell}: no such sentence")
+    return len(rows)
+
+
+def declares(path, name):
+    text = path.read_text()
+    owner, _, last = name.rpartition("::")
+    word = re.escape(last)
+    if path.suffix == ".antt":
+        return re.search(rf"^\s*((pub|abbrev|unfoldable) +)*((record|data) +{word}(?=\s|$)|{word}( [{{(].*)? *:)", text, re.M)
+    if owner:
+        bodies = re.findall(rf"^(?:pub )?(?:impl|enum) {re.escape(owner)}\b.*?^}}", text, re.M | re.S)
+        return any(re.search(rf"\b(fn|const) {word}\b|^ +{word} *[({{,]", body, re.M) for body in bodies)
+    return re.search(rf"^\s*(pub(\(\w+\))? )?(fn|struct|enum|const) {word}\b", text, re.M)
+
+
+def check_names(text):
+    """Each file:name is declared; each crate cited is in crates.txt or named as not proved yet, not both."""
+    cited = sorted({c for c in re.findall(r"`([^`\n]+)`", text) if c.startswith(("crates/", "docs/", "tools/"))})
+    for citation in cited:
+        path, _, name = citation.partition(":")
+        if not (ROOT / path).is_file():
+            fault(f"{citation}: no such file")
+        elif path.endswith((".rt", ".antt")) != bool(name):
+            fault(f"{citation}: a name belongs behind .rt and .antt, and there alone")
+        elif name and not declares(ROOT / path, name):
+            fault(f"{citation}: not declared there")
+    proved = set(re.findall(r"^(\w+):", (ROOT / "crates.txt").read_text(), re.M))
+    waiting = set(re.findall(r"`(\w+)`", " ".join(re.findall(r"^Not proved yet: .*", text, re.M))))
+    for crate in sorted(({c.split("/")[1] for c in cited if c.startswith("crates/")} - proved) ^ waiting):
+        fault(f"{crate}: " + ("strike it from" if crate in waiting else "cited and not in crates.txt, so name it under") + " 'Not proved yet'")
+    return len(cited)
+
+
+def check_helpers(text):
+    """The functions with a `requires` are those in the table of internal helpers."""
+    listed, real = set(re.findall(r"^\| `(crates/[^`]+)`", text, re.M)), set()
+    for path in ROOT.glob("crates/*/src/**/*.rt"):
+        for m in re.finditer(r"^\s*(?:pub )?fn (\w+)(?:(?!^[ \t]*\{).)*?^\s+requires\b", path.read_text(), re.M | re.S):
+            real.add(f"{path.relative_to(ROOT)}:{m[1]}")
+    for citation in sorted(listed ^ real):
+        fault(f"{citation}: " + ("not among the internal helpers" if citation in real else "an internal helper without a requires"))
+
+
+def main():
+    parser = argparse.ArgumentParser(description="Checks docs/CLAIMS.md.")
+    parser.add_argument("--spec", default=os.environ.get("CUDDREWYN_SPEC"), help="folder of mission.md and 01-scope.md")
+    parser.add_argument("--write", action="store_true", help="rewrite docs/sentences.txt from that folder")
+    args = parser.parse_args()
+    if args.write and not args.spec:
+        parser.error("--write needs --spec")
+    fresh = listing(Path(args.spec)) if args.spec else None
+    if args.write:
+        LIST.write_text("".join(line + "\n" for line in fresh))
+    lines = LIST.read_text().splitlines()
+    if args.spec and fresh != lines:
+        for name in sorted({line.split()[0] for line in set(lines) ^ set(fresh)}) or ["the order"]:
+            fault(f"{name}: docs/sentences.txt differs from the papers")
+    text = (ROOT / "docs/CLAIMS.md").read_text()
+    rows, names = check_rows(text, [line.split()[0] for line in lines]), check_names(text)
+    check_helpers(text)
+    for line in faults or [f"{rows} rows, {names} names, {len(lines)} sentences"]:
+        print("claims: " + line)
+    return 1 if faults else 0
+
+
+if __name__ == "__main__":
+    sys.exit(main())
