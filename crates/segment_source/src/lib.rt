@@ -6,10 +6,17 @@ mod digits;
 ghost use mathlib.Core.Path.{_≡_};
 ghost use Rattle.topic.specs.Build.{outcome};
 ghost use Rattle.segment_source.specs.Parse.{lastSlash, descriptorStage, parseSegmentTopic, parseText, segmentSource, parentTopic};
-use digits::{Number, hex_word, segment_id};
+use digits::Number;
+use digits::hex_word;
+use digits::segment_id;
 use refusal::Refusal;
-use topic::{DASH, NameAnswer, SLASH, class_of};
-use types::{KeyRange, RangeResult, SegmentId};
+use topic::DASH;
+use topic::NameAnswer;
+use topic::SLASH;
+use topic::class_of;
+use types::KeyRange;
+use types::RangeResult;
+use types::SegmentId;
 
 // A segment as its name tells it.
 pub struct SegmentSource {

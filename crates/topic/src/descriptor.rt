@@ -4,7 +4,8 @@ ghost use mathlib.Core.List.{[], _∷_};
 ghost use Prim.Native.Nat.{_+_, _<_};
 ghost use Rattle.topic.specs.Names.{hexDigit, hex4};
 ghost use Rattle.topic.specs.Answers.{Room, Longer, DecimalIs, DescriptorIs};
-use types::{KeyRange, SegmentId};
+use types::KeyRange;
+use types::SegmentId;
 
 // The bytes of an array from a place on. A descriptor has at most 31.
 pub struct Tail {

@@ -13,7 +13,9 @@ pub use class::class_of;
 pub use parent::is_parent;
 pub use parent::is_path;
 use refusal::Refusal;
-use types::{KeyRange, RangeResult, SegmentId};
+use types::KeyRange;
+use types::RangeResult;
+use types::SegmentId;
 
 // What a call that writes a name answers.
 pub enum NameAnswer {
@@ -62,7 +64,13 @@ fn write_name(path: &[u8], range: KeyRange, id: SegmentId, out: &mut [u8]) -> Na
 
 // Writes the name of the segment with that range and id below the parent. Tested in order: the parent's UTF-8 (7), the range (9), the parent (12),
 // the room (21). A refusal leaves the output as it was.
-pub fn canonical_segment_topic(parent: &[u8], start: u32, end: u32, id: SegmentId, out: &mut [u8]) -> NameAnswer
+pub fn canonical_segment_topic(
+    parent: &[u8],
+    start: u32,
+    end: u32,
+    id: SegmentId,
+    out: &mut [u8],
+) -> NameAnswer
     ensures { λ r. ⌜ outcome r (now (out .exit)) ≡ canonicalSegmentTopic (now (parent .entry)) start end id (now (out .entry)) ⌝ }
 {
     if !utf8::is_utf8(parent) {

@@ -4,7 +4,10 @@ ghost use Prim.Native.Nat.{_≤_};
 ghost use lib.ListN.{length, drop};
 ghost use Rattle.topic.specs.Parents.{clean, isPath, isParent};
 ghost use Rattle.topic.specs.Answers.{SlashAt};
-use crate::class::{HASH, QUESTION, SLASH, class_of};
+use crate::class::HASH;
+use crate::class::QUESTION;
+use crate::class::SLASH;
+use crate::class::class_of;
 
 // The place of the first '/' from a place on, or the end.
 fn slash_from(s: &[u8], from: usize) -> usize
