@@ -59,7 +59,8 @@ fn write_name(path: &[u8], range: KeyRange, id: SegmentId, out: &mut [u8]) -> Na
     packed_int::put_bytes(out, 0, b"segment://");
     packed_int::put_bytes(out, 10, path);
     packed_int::put_bytes(out, n, &bytes[from..]);
-    NameAnswer::Written(rest + path.len())
+    let len = rest + path.len();
+    NameAnswer::Written(len)
 }
 
 // Writes the name of the segment with that range and id below the parent. Tested in order: the parent's UTF-8 (7), the range (9), the parent (12),

@@ -1,0 +1,5 @@
+mod Table
+pub mod PathLaws
+pub mod NameLaws
+mod TailLaws
+mod BuildLaws

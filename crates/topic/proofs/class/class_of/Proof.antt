@@ -1,0 +1,17 @@
+-- `class_of` meets its contract: the table's 256 entries are the values of `classOf`, which antt computes.
+-- Assumes nothing.
+use borrow.Author.Needs.{needs}
+use Rattle.topic.specs.Classes.{classOf}
+use Rattle.topic.proofs.Table.{values-at}
+use Rattle.topic.proofs.class.class_of.Statement.{statement}
+use Rattle.topic.proofs.class.class_of.Tie as tie
+
+array-read-result : tie.Need-array-read-result
+array-read-result c = search needs
+
+returns : tie.Need-returns
+unfolding classOf
+returns c = values-at classOf 256 (c .args .b) (search needs)
+
+pub class-of-spec : {M : Type 1} → statement M
+class-of-spec = tie.close (tie.spec array-read-result returns)

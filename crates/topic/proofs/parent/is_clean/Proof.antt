@@ -1,0 +1,74 @@
+-- `is_clean` meets its contract. The invariant: the text from the place i on decides. The measure is what is left of the text.
+-- Assumes nothing.
+use Prim.Native.Nat.{_-_}
+use native.Mathlib.Omega.{arith}
+use mathlib.Core.Logic.{inl, inr}
+use mathlib.Core.Path.{_≡_, refl, sym, _∙_}
+use lib.ListN.{length, drop}
+use borrow.Author.Needs.{needs}
+use Rattle.topic.specs.Parents.{clean}
+use Rattle.topic.proofs.PathLaws.{clean-mark, clean-next, clean-end}
+use Rattle.topic.proofs.parent.is_clean.Statement.{statement}
+use Rattle.topic.proofs.parent.is_clean.Tie as tie
+
+abbrev Inv-loop : tie.InvT-loop
+Inv-loop s from i₀ i = clean (drop from s) ≡ clean (drop i s)
+
+abbrev μ-loop : tie.MeasureT-loop
+μ-loop s from i₀ i = length s - i
+
+loop-holds : tie.Need-loop-holds Inv-loop μ-loop
+loop-holds c = refl
+
+shared-slice-read-class-of : tie.Need-shared-slice-read-class-of Inv-loop μ-loop
+shared-slice-read-class-of c = search needs
+
+class-of-requires : tie.Need-class-of-requires Inv-loop μ-loop
+class-of-requires c κs = search needs
+
+returns : tie.Need-returns Inv-loop μ-loop
+returns c =
+    let s = c .before .before .before .before .before .before .args .s .now in
+    let l = c .before .before .before .before .loop in
+    sym (l .inv ∙ clean-mark s (l .i) (omega arith) (inl (sym (c .before .class-of .ensures) ∙ c .if1 .taken)))
+
+returns-2 : tie.Need-returns-2 Inv-loop μ-loop
+returns-2 c =
+    let s = c .before .before .before .before .before .before .before .args .s .now in
+    let l = c .before .before .before .before .before .loop in
+    sym (l .inv ∙ clean-mark s (l .i) (omega arith) (inr (sym (c .before .before .class-of .ensures) ∙ c .if2 .taken)))
+
+add-i : tie.Need-add-i Inv-loop μ-loop
+add-i c = search needs
+
+loop-less : tie.Need-loop-less Inv-loop μ-loop
+loop-less c = search needs
+
+loop-again : tie.Need-loop-again Inv-loop μ-loop
+loop-again c =
+    let s = c .before .before .before .before .before .before .before .args .s .now in
+    let l = c .before .before .before .before .before .loop in
+    let class = c .before .before .class-of .ensures in
+    l .inv ∙ clean-next s (l .i) (omega arith) (λ e. c .before .if1 .left (class ∙ e)) (λ e. c .if2 .left (class ∙ e))
+
+returns-3 : tie.Need-returns-3 Inv-loop μ-loop
+returns-3 c =
+    let s = c .before .before .before .args .s .now in
+    let l = c .before .loop in
+    sym (l .inv ∙ clean-end s (l .i) (omega arith))
+
+pub is-clean-spec : {M : Type 1} → statement M
+is-clean-spec =
+    tie.close
+    (tie.spec
+    Inv-loop
+    μ-loop
+    loop-holds
+    shared-slice-read-class-of
+    class-of-requires
+    returns
+    returns-2
+    add-i
+    loop-less
+    loop-again
+    returns-3)

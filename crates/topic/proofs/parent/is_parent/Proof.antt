@@ -1,0 +1,55 @@
+-- `is_parent` meets its contract: the scheme, then the path behind it.
+-- Assumes nothing.
+use native.Mathlib.Omega.{arith}
+use mathlib.Core.Path.{_≡_, sym, ap, _∙_}
+use mathlib.Core.Bool.{true}
+use borrow.Author.Needs.{needs}
+use Rattle.parts.specs.Same.{startsWith}
+use Rattle.parts.proofs.PartLaws.{rest}
+use Rattle.parts.proofs.SameLaws.{starts-long}
+use Rattle.topic.specs.Parents.{topicScheme, isPath}
+use Rattle.topic.proofs.PathLaws.{parent-is, parent-not}
+use Rattle.topic.proofs.parent.is_parent.Statement.{statement}
+use Rattle.topic.proofs.parent.is_parent.Tie as tie
+
+has-scheme : (c : tie.Then1) → startsWith topicScheme (c .before .before .before .before .args .s .now) ≡ true
+has-scheme c = sym (c .before .starts-with .ensures) ∙ c .if1 .taken
+
+slice-aggregate-starts-with : tie.Need-slice-aggregate-starts-with
+slice-aggregate-starts-with c = search needs
+
+starts-with-requires : tie.Need-starts-with-requires
+starts-with-requires c κs = search needs
+
+sub-is-path : tie.Need-sub-is-path
+sub-is-path c = starts-long topicScheme (c .before .before .before .before .args .s .now) (has-scheme c)
+
+part-is-path-start : tie.Need-part-is-path-start
+part-is-path-start c = omega (arith, sub-is-path c)
+
+part-is-path-end : tie.Need-part-is-path-end
+part-is-path-end c = search needs
+
+is-path-requires : tie.Need-is-path-requires
+is-path-requires c κs = search needs
+
+returns : tie.Need-returns
+returns c =
+    let s = c .before .before .before .before .before .before .args .s .now in
+    c .is-path .ensures ∙ ap isPath (rest s 8) ∙ sym (parent-is s (has-scheme (c .before .before)))
+
+returns-2 : tie.Need-returns-2
+returns-2 c = sym (parent-not (c .before .before .before .before .args .s .now) (sym (c .before .starts-with .ensures) ∙ c .if1 .left))
+
+pub is-parent-spec : {M : Type 1} → statement M
+is-parent-spec =
+    tie.close
+    (tie.spec
+    slice-aggregate-starts-with
+    starts-with-requires
+    sub-is-path
+    part-is-path-start
+    part-is-path-end
+    is-path-requires
+    returns
+    returns-2)

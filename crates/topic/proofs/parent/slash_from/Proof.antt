@@ -1,0 +1,68 @@
+-- `slash_from` meets its contract. The invariant: what is the first '/' from the place i on is the first one from the start on.
+-- The measure is what is left of the text.
+-- Assumes nothing.
+use Prim.Native.Nat.{ℕ, _-_, _≤_}
+use native.Mathlib.Omega.{arith}
+use mathlib.Core.Path.{_≡_, sym, _∙_}
+use lib.ListN.{length}
+use borrow.Author.Needs.{needs}
+use Rattle.topic.specs.Answers.{SlashAt}
+use Rattle.topic.proofs.PathLaws.{slash-here, slash-next, slash-end}
+use Rattle.topic.proofs.parent.slash_from.Statement.{statement}
+use Rattle.topic.proofs.parent.slash_from.Tie as tie
+
+abbrev Inv-loop : tie.InvT-loop
+Inv-loop s from i₀ i = (from ≤ i) × (i ≤ length s) × ((r : ℕ) → SlashAt s i r → SlashAt s from r)
+
+abbrev μ-loop : tie.MeasureT-loop
+μ-loop s from i₀ i = length s - i
+
+loop-holds : tie.Need-loop-holds Inv-loop μ-loop
+loop-holds c = (omega arith, c .before .pre, λ r q. q)
+
+shared-slice-read-class-of : tie.Need-shared-slice-read-class-of Inv-loop μ-loop
+shared-slice-read-class-of c = search needs
+
+class-of-requires : tie.Need-class-of-requires Inv-loop μ-loop
+class-of-requires c κs = search needs
+
+returns : tie.Need-returns Inv-loop μ-loop
+returns c =
+    let s = c .before .before .before .before .before .before .args .s .now in
+    let l = c .before .before .before .before .loop in
+    l .inv .2 (l .i) (slash-here s (l .i) (omega arith) (sym (c .before .class-of .ensures) ∙ c .if1 .taken))
+
+add-i : tie.Need-add-i Inv-loop μ-loop
+add-i c = search needs
+
+loop-less : tie.Need-loop-less Inv-loop μ-loop
+loop-less c = search needs
+
+loop-again : tie.Need-loop-again Inv-loop μ-loop
+loop-again c =
+    let s = c .before .before .before .before .before .before .args .s .now in
+    let l = c .before .before .before .before .loop in
+    let class = c .before .class-of .ensures in
+    (omega arith, omega arith, λ r q. l .inv .2 r (slash-next s (l .i) (omega arith) r (λ e. c .if1 .left (class ∙ e)) q))
+
+returns-2 : tie.Need-returns-2 Inv-loop μ-loop
+returns-2 c =
+    let s = c .before .before .before .args .s .now in
+    let l = c .before .loop in
+    let e : l .i ≡ length s = omega arith in
+    l .inv .2 (l .i) (rw e (slash-end s))
+
+pub slash-from-spec : {M : Type 1} → statement M
+slash-from-spec =
+    tie.close
+    (tie.spec
+    Inv-loop
+    μ-loop
+    loop-holds
+    shared-slice-read-class-of
+    class-of-requires
+    returns
+    add-i
+    loop-less
+    loop-again
+    returns-2)

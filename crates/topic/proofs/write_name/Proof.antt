@@ -1,0 +1,104 @@
+-- `write_name` meets its contract: a name that does not fit is refused; another is put in three pieces, each behind the one before.
+-- Assumes nothing.
+use Prim.Native.Nat.{_+_, _-_}
+use native.Mathlib.Omega.{arith}
+use mathlib.Core.Path.{_≡_, sym, ap, _∙_}
+use lib.ListN.{length}
+use borrow.Author.Needs.{needs}
+use Rattle.topic.specs.Names.{descriptor}
+use Rattle.topic.specs.Build.{outcome}
+use Rattle.topic.proofs.TailLaws.{descriptor-part, descriptor-from}
+use Rattle.topic.proofs.BuildLaws.{name-no-room, name-written}
+use Rattle.topic.proofs.write_name.Statement.{statement}
+use Rattle.topic.proofs.write_name.Tie as tie
+
+-- the length of scheme and descriptor
+besides : (c : tie.After-descriptor-of) →
+    let a = c .before .before .before .args in
+    42 - c .descriptor-of .result .from ≡ 10 + length (descriptor (a .range) (a .id))
+besides c =
+    let a = c .before .before .before .args in
+    let d = c .descriptor-of in
+    omega (arith, descriptor-from (a .range) (a .id) (d .result) (d .ensures), d .ensures .room .high)
+
+descriptor-of-requires : tie.Need-descriptor-of-requires
+descriptor-of-requires c κs = search needs
+
+sub-rest : tie.Need-sub-rest
+sub-rest c = search needs
+
+returns : tie.Need-returns
+returns c =
+    let a = c .before .before .before .before .before .args in
+    sym (name-no-room (a .path .now) (a .range) (a .id) (a .out .now) _ (besides (c .before .before)) (omega arith))
+
+sub-if2 : tie.Need-sub-if2
+sub-if2 c = search needs
+
+returns-2 : tie.Need-returns-2
+returns-2 c =
+    let a = c .before .before .before .before .before .before .args in
+    sym (name-no-room (a .path .now) (a .range) (a .id) (a .out .now) _ (besides (c .before .before .before)) (omega arith))
+
+add-n : tie.Need-add-n
+add-n c = search needs
+
+slice-aggregate-put-bytes : tie.Need-slice-aggregate-put-bytes
+slice-aggregate-put-bytes c = search needs
+
+put-bytes-requires : tie.Need-put-bytes-requires
+put-bytes-requires c κs = search needs
+
+put-bytes-requires-2 : tie.Need-put-bytes-requires-2
+put-bytes-requires-2 c κs = search needs
+
+sub-put-bytes : tie.Need-sub-put-bytes
+sub-put-bytes c = search needs
+
+part-put-bytes-start : tie.Need-part-put-bytes-start
+part-put-bytes-start c = search needs
+
+part-put-bytes-end : tie.Need-part-put-bytes-end
+part-put-bytes-end c = search needs
+
+put-bytes-requires-3 : tie.Need-put-bytes-requires-3
+put-bytes-requires-3 c κs = search needs
+
+add-len : tie.Need-add-len
+add-len c = search needs
+
+same-length : tie.Need-same-length
+same-length c = search needs
+
+returns-3 : tie.Need-returns-3
+returns-3 c =
+    let third = c .before .before in
+    let second = third .before .before .before .before .before .before in
+    let first = second .before .before .before .before in
+    let place = first .before .before .before .before .before .before in
+    let d = place .descriptor-of in
+    let a = place .before .before .before .args in
+    let part = descriptor-part (a .range) (a .id) (d .result) (d .ensures) in
+    let wrote = rw (part, second .put-bytes2 .ensures, first .put-bytes .ensures) at (third .put-bytes3 .ensures) in
+    ap (outcome _) wrote ∙ sym (name-written (a .path .now) (a .range) (a .id) (a .out .now) _ (besides place) (omega arith))
+
+pub write-name-spec : {M : Type 1} → statement M
+write-name-spec =
+    tie.close
+    (tie.spec
+    descriptor-of-requires
+    sub-rest
+    returns
+    sub-if2
+    returns-2
+    add-n
+    slice-aggregate-put-bytes
+    put-bytes-requires
+    put-bytes-requires-2
+    sub-put-bytes
+    part-put-bytes-start
+    part-put-bytes-end
+    put-bytes-requires-3
+    add-len
+    same-length
+    returns-3)
