@@ -1,0 +1,4 @@
+mod CondLaws
+pub mod VarintLaws
+pub mod FieldLaws
+pub mod FieldsLaws

@@ -1,0 +1,39 @@
+-- `varint::read_varint` meets its contract: no byte and one byte by `varint-nil` and `varint-one`, the rest by what `read_long_varint`
+-- ensures. Assumes nothing.
+use native.Mathlib.Omega.{arith}
+use mathlib.Core.Path.{_≡_, sym, _∙_}
+use borrow.Author.Needs.{needs}
+use Rattle.wire.proofs.VarintLaws.{varint-nil, varint-one}
+use Rattle.wire.proofs.varint.read_varint.Statement.{statement}
+use Rattle.wire.proofs.varint.read_varint.Tie as tie
+
+returns : tie.Need-returns
+returns c = sym (varint-nil (c .before .before .args .s .now) (omega arith))
+
+shared-slice-read-wide : tie.Need-shared-slice-read-wide
+shared-slice-read-wide c = search needs
+
+wide-requires : tie.Need-wide-requires
+wide-requires c κs = search needs
+
+returns-2 : tie.Need-returns-2
+returns-2 c =
+    let s = c .before .before .before .before .before .args .s .now in
+    rw (c .before .wide .ensures .0) (sym (varint-one s (omega arith) (omega arith)))
+
+read-long-varint-requires : tie.Need-read-long-varint-requires
+read-long-varint-requires c κs = search needs
+
+returns-3 : tie.Need-returns-3
+returns-3 c = search needs
+
+pub read-varint-spec : {M : Type 1} → statement M
+read-varint-spec =
+    tie.close
+    (tie.spec
+    returns
+    shared-slice-read-wide
+    wide-requires
+    returns-2
+    read-long-varint-requires
+    returns-3)
