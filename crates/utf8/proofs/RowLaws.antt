@@ -2,18 +2,19 @@
 --
 -- In order: what a row asks at the place i of a slice (`fits-cons`, `span-there`, `span-below`, `span-past`); the table's rows rise
 -- by their first spans (`Rising`), so that a first byte lies in one of them at most: the row that it lies in decides alone
--- (`lead-row`), and between two rows nothing fits (`lead-gap`); an empty list has no sequence (`sequence-nil`); a sequence is no longer
+-- (`lead-row`; `first-row` at a place), and between two rows nothing fits (`lead-gap`); an empty list has no sequence (`sequence-nil`); a sequence is no longer
 -- than the list (`sequence-le`).
 --
 -- A caller of `sequence` needs `sequence-le` alone; the rest serves the proofs of this crate.
 -- Assumes nothing.
 use Prim.Native.Nat.{ℕ, zero, suc, _+_, _≤_, _<_}
+use native.Mathlib.Nat.{add-zero}
 use native.Mathlib.Omega.{arith}
 use mathlib.Core.Path.{_≡_, refl, sym, _∙_}
 use mathlib.Core.Bool.{Bool, true, false, cond, _&&_, and-true, and-false, true≢false}
 use mathlib.Core.List.{List, [], _∷_}
-use lib.ListN.{length, getD, drop, drop-of-length-le}
-use lib.Seq.{drop-drop, drop-cons}
+use lib.ListN.{length, getD, drop, length-drop, drop-of-length-le}
+use lib.Seq.{drop-drop, drop-cons, getD-drop}
 use lib.Dec.{leb}
 use borrow.Author.Tests.{le-leb, lt-leb}
 use Rattle.utf8.specs.Table.{Span, span, table, within, fits, sequenceIn, sequenceOf}
@@ -119,6 +120,13 @@ pub lead-gap : (s : List ℕ) (k : ℕ) → 0 < length s → k < length table
 unfolding sequenceOf
 lead-gap [] k h n p q = absurd (let z : ⊥ = omega arith in z)
 lead-gap (b ∷ l) k h n p q = rows-between b l 0 table k table-rises n p q
+
+-- a byte of the first row, at a place of a slice, is a sequence by itself
+pub first-row : (s : List ℕ) (at : ℕ) → at < length s → getD s at 0 ≤ 127 → sequenceOf (drop at s) ≡ 1
+unfolding fits table
+first-row s at h b =
+    let g : getD (drop at s) 0 0 ≤ 127 = rw (getD-drop, add-zero) b in
+    lead-row (drop at s) 0 (omega (arith, length-drop at s)) (omega arith) (omega arith) g
 
 pub sequence-nil : (s : List ℕ) → length s ≡ 0 → sequenceOf s ≡ 0
 unfolding sequenceOf sequenceIn table fits

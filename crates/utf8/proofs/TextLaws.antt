@@ -5,14 +5,13 @@
 -- Assumes nothing.
 use Prim.Native.Nat.{ℕ, zero, suc, _+_, _-_, _≤_, _<_}
 use native.Mathlib.Omega.{arith}
-use mathlib.Core.Path.{_≡_, refl, sym, ap, _∙_}
+use mathlib.Core.Path.{_≡_, refl, _∙_}
 use mathlib.Core.Bool.{true, false, cond}
 use mathlib.Core.List.{List, [], _∷_}
-use lib.ListN.{length, take, drop, length-drop, drop-of-length-le}
+use lib.ListN.{length, drop, length-drop, drop-of-length-le}
 use lib.Seq.{drop-drop}
 use lib.Dec.{eqb}
 use borrow.Author.Tests.{eq-eqb, ne-eqb}
-use Rattle.parts.proofs.PartLaws.{rest}
 use Rattle.utf8.specs.Table.{sequenceOf, textAfter, isUtf8}
 use Rattle.utf8.proofs.RowLaws.{sequence-le}
 
@@ -39,15 +38,12 @@ text-end s at h = rw (drop-of-length-le s h)
 
 -- ---- a turn of a loop
 
-module _ (s : List ℕ) (at n : ℕ) (h : at < length s) (e : n ≡ sequenceOf (take (length s - at) (drop at s))) where
-  here : sequenceOf (drop at s) ≡ n
-  here = ap sequenceOf (sym (rest s at)) ∙ sym e
-
+module _ (s : List ℕ) (at n : ℕ) (h : at < length s) (e : n ≡ sequenceOf (drop at s)) where
   pub turn-fits : at + n ≤ length s
-  turn-fits = omega (arith, length-drop at s, here, sequence-le (drop at s))
+  turn-fits = omega (arith, length-drop at s, e, sequence-le (drop at s))
 
   pub turn-stops : n ≡ 0 → isUtf8 (drop at s) ≡ false
-  turn-stops z = text-step (drop at s) (omega (arith, length-drop at s)) ∙ rw (here, eq-eqb n 0 z)
+  turn-stops z = text-step (drop at s) (omega (arith, length-drop at s)) ∙ rw (← e, eq-eqb n 0 z)
 
   pub turn-goes-on : (n ≡ 0 → ⊥) → isUtf8 (drop at s) ≡ isUtf8 (drop (at + n) s)
-  turn-goes-on z = text-step (drop at s) (omega (arith, length-drop at s)) ∙ rw (here, ne-eqb n 0 z, drop-drop n at s)
+  turn-goes-on z = text-step (drop at s) (omega (arith, length-drop at s)) ∙ rw (← e, ne-eqb n 0 z, drop-drop n at s)

@@ -4,7 +4,8 @@
 ghost use mathlib.Core.Path.{_≡_};
 ghost use mathlib.Core.Bool.{cond};
 ghost use mathlib.Core.List.{[], _∷_};
-ghost use lib.ListN.{drop};
+ghost use Prim.Native.Nat.{_<_};
+ghost use lib.ListN.{length, drop};
 ghost use Rattle.utf8.specs.Table.{span, trail, fits, sequenceOf, isUtf8};
 
 // The byte at the place i is there and lies in the span from low to high.
@@ -75,13 +76,24 @@ pub fn sequence(s: &[u8]) -> usize
     }
 }
 
+// The same at a place of the part. A byte of the table's first row, the usual one, is told by one test.
+fn sequence_at(s: &[u8], at: usize) -> usize
+    requires { ⌜ at < length (now s) ⌝ }
+    ensures { λ r. ⌜ r ≡ sequenceOf (drop at (now (s .entry))) ⌝ }
+{
+    if s[at] <= 0x7F {
+        return 1;
+    }
+    sequence(&s[at..])
+}
+
 // The part is UTF-8.
 pub fn is_utf8(s: &[u8]) -> bool
     ensures { λ r. ⌜ r ≡ isUtf8 (now (s .entry)) ⌝ }
 {
     let mut at: usize = 0;
     while at < s.len() {
-        let n = sequence(&s[at..]);
+        let n = sequence_at(s, at);
         if n == 0 {
             return false;
         }

@@ -19,44 +19,35 @@ abbrev μ-loop : tie.MeasureT-loop
 loop-holds : tie.Need-loop-holds Inv-loop μ-loop
 loop-holds c = (omega arith, refl)
 
-sub-sequence : tie.Need-sub-sequence Inv-loop μ-loop
-sub-sequence c = search needs
-
-part-sequence-start : tie.Need-part-sequence-start Inv-loop μ-loop
-part-sequence-start c = search needs
-
-part-sequence-end : tie.Need-part-sequence-end Inv-loop μ-loop
-part-sequence-end c = search needs
-
-sequence-requires : tie.Need-sequence-requires Inv-loop μ-loop
-sequence-requires c κs = search needs
+sequence-at-requires : tie.Need-sequence-at-requires Inv-loop μ-loop
+sequence-at-requires c κs = search needs
 
 returns : tie.Need-returns Inv-loop μ-loop
 returns c =
-    let l = c .before .before .before .before .loop in
-    let s = c .before .before .before .before .before .before .args .s .now in
-    let q = c .before .sequence in
+    let l = c .before .before .before .loop in
+    let s = c .before .before .before .before .before .args .s .now in
+    let q = c .before .sequence-at in
     sym (l .inv .1 ∙ turn-stops s (l .at) (q .result) (omega arith) (q .ensures) (c .if1 .taken))
 
 add-at : tie.Need-add-at Inv-loop μ-loop
 add-at c =
-    let l = c .before .before .before .before .loop in
-    let s = c .before .before .before .before .before .before .args .s .now in
-    let q = c .before .sequence in
+    let l = c .before .before .before .loop in
+    let s = c .before .before .before .before .before .args .s .now in
+    let q = c .before .sequence-at in
     omega (arith, turn-fits s (l .at) (q .result) (omega arith) (q .ensures))
 
 loop-less : tie.Need-loop-less Inv-loop μ-loop
 loop-less c =
-    let l = c .before .before .before .before .loop in
-    let s = c .before .before .before .before .before .before .args .s .now in
-    let q = c .before .sequence in
+    let l = c .before .before .before .loop in
+    let s = c .before .before .before .before .before .args .s .now in
+    let q = c .before .sequence-at in
     omega (arith, turn-fits s (l .at) (q .result) (omega arith) (q .ensures))
 
 loop-again : tie.Need-loop-again Inv-loop μ-loop
 loop-again c =
-    let l = c .before .before .before .before .loop in
-    let s = c .before .before .before .before .before .before .args .s .now in
-    let q = c .before .sequence in (
+    let l = c .before .before .before .loop in
+    let s = c .before .before .before .before .before .args .s .now in
+    let q = c .before .sequence-at in (
       turn-fits s (l .at) (q .result) (omega arith) (q .ensures),
       l .inv .1 ∙ turn-goes-on s (l .at) (q .result) (omega arith) (q .ensures) (c .if1 .left),
     )
@@ -72,10 +63,7 @@ is-utf8-spec =
     Inv-loop
     μ-loop
     loop-holds
-    sub-sequence
-    part-sequence-start
-    part-sequence-end
-    sequence-requires
+    sequence-at-requires
     returns
     add-at
     loop-less
