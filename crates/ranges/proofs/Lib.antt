@@ -1,0 +1,6 @@
+mod LendRow
+pub mod OverlapLaws
+mod Row
+mod RowTests
+pub mod Walk
+pub mod Words
