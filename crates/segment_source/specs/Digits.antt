@@ -10,13 +10,16 @@ use Rattle.topic.specs.Parents.{nonEmpty}
 use Rattle.segment_source.specs.declared.digits.Number.{Number}
 use Rattle.segment_source.specs.declared.digits.Number.the-variants as number
 
-unfoldable pub allDigits : List ℕ → Bool
-allDigits [] = true
-allDigits (b ∷ l) = isDigit b && allDigits l
+-- every byte passes the test
+unfoldable pub every : (ℕ → Bool) → List ℕ → Bool
+every test [] = true
+every test (b ∷ l) = test b && every test l
 
-unfoldable pub allHexDigits : List ℕ → Bool
-allHexDigits [] = true
-allHexDigits (b ∷ l) = isHexDigit b && allHexDigits l
+abbrev pub allDigits : List ℕ → Bool
+allDigits l = every isDigit l
+
+abbrev pub allHexDigits : List ℕ → Bool
+allHexDigits l = every isHexDigit l
 
 -- the number whose leading digits are a and whose others, to the base, are the values of the bytes
 unfoldable pub valueFrom : ℕ → (ℕ → ℕ) → ℕ → List ℕ → ℕ

@@ -8,12 +8,10 @@ use mathlib.Core.Bool.{Bool, false, cond, _&&_, _||_}
 use mathlib.Core.List.{List, [], _∷_, _++_}
 use lib.ListN.{length, take, drop, getD}
 use lib.Dec.{eqb}
-use Rattle.types.specs.declared.KeyRange.{KeyRange}
 use Rattle.types.specs.declared.SegmentId.{SegmentId}
 use Rattle.types.specs.declared.RangeResult.{RangeResult}
 use Rattle.types.specs.declared.RangeResult.the-variants.{Valid, Invalid}
 use Rattle.types.specs.KeyRanges.{newKeyRange}
-use Rattle.refusal.specs.declared.Refusal.{Refusal}
 use Rattle.refusal.specs.declared.Refusal.the-variants.{InvalidUtf8, InvalidKeyRange, InvalidParent, InvalidSegment, SegmentIdMismatch}
 use Rattle.parts.specs.Same.{startsWith}
 use Rattle.utf8.specs.Table.{isUtf8}
@@ -22,7 +20,6 @@ use Rattle.topic.specs.Parents.{topicScheme, isPath}
 use Rattle.topic.specs.Names.{segmentScheme}
 use Rattle.topic.specs.Build.{Outcome, refuse, written}
 use Rattle.segment_source.specs.Digits.{decimalValue, hexValue, isHexWord, isSegmentId}
-use Rattle.segment_source.specs.declared.SegmentSource.{SegmentSource}
 use Rattle.segment_source.specs.declared.SourceAnswer.{SourceAnswer}
 use Rattle.segment_source.specs.declared.SourceAnswer.the-variants as source
 use Rattle.segment_source.specs.declared.Slash.{Slash}

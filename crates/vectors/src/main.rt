@@ -1,21 +1,21 @@
 // Vectors from outside, run on the code: a line of output for each, held to the file stdout.
 //
 // What each line should be is reckoned anew by tools/vectors.py, by other means: Python's own decoder for UTF-8, and its own reading of names and ranges.
-mod names;
+mod name_vectors;
 mod print;
-mod ranges;
-mod texts;
+mod range_vectors;
+mod text_vectors;
 
 fn main() {
-    texts::table_rows();
-    texts::outside();
-    texts::runs();
-    names::built();
-    names::refused();
-    names::read();
-    names::unread();
-    names::parents();
-    ranges::calls();
-    ranges::refused();
-    ranges::rows();
+    text_vectors::table_rows();
+    text_vectors::outside();
+    text_vectors::runs();
+    name_vectors::built();
+    name_vectors::refused();
+    name_vectors::read();
+    name_vectors::unread();
+    name_vectors::parents();
+    range_vectors::calls();
+    range_vectors::refused();
+    range_vectors::rows();
 }

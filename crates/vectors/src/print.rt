@@ -7,6 +7,13 @@ pub fn text(s: &[u8]) {
     io::write_all(STDOUT_FILENO, s);
 }
 
+// The first n bytes.
+pub fn front(s: &[u8], n: usize) {
+    if n <= s.len() {
+        text(&s[..n]);
+    }
+}
+
 pub fn number(n: u64) {
     io::print_decimal(STDOUT_FILENO, n);
 }

@@ -4,32 +4,33 @@ use segment_source::SourceAnswer;
 use topic::NameAnswer;
 use types::SegmentId;
 
-fn answer(r: NameAnswer, out: &[u8; 128]) {
+fn answer(r: NameAnswer, out: &[u8]) {
     match r {
         NameAnswer::Written(n) => {
-            if n <= 128 {
-                print::text(&out[..n]);
-            }
+            print::front(out, n);
             print::text(b"\n");
         }
         NameAnswer::Refused(x) => print::refused(x),
     }
 }
 
+fn build_into(out: &mut [u8], parent: &[u8], start: u32, end: u32, id: u64) {
+    let r = topic::canonical_segment_topic(parent, start, end, SegmentId(id), out);
+    answer(r, out);
+}
+
 fn build(parent: &[u8], start: u32, end: u32, id: u64) {
     let mut out = [0u8; 128];
     print::text(b"build ");
-    let r = topic::canonical_segment_topic(parent, start, end, SegmentId(id), &mut out);
-    answer(r, &out);
+    build_into(&mut out, parent, start, end, id);
 }
 
-// The same with an output of n bytes.
+// The same with an output of n bytes, 128 at most.
 fn build_within(n: usize, parent: &[u8], start: u32, end: u32, id: u64) {
     let mut out = [0u8; 128];
     print::text(b"within ");
     if n <= 128 {
-        let r = topic::canonical_segment_topic(parent, start, end, SegmentId(id), &mut out[..n]);
-        answer(r, &out);
+        build_into(&mut out[..n], parent, start, end, id);
     }
 }
 
@@ -46,19 +47,22 @@ fn source(id: u64, name: &[u8]) {
     }
 }
 
+fn parent_into(out: &mut [u8], name: &[u8]) {
+    let r = segment_source::parent_topic(name, out);
+    answer(r, out);
+}
+
 fn parent(name: &[u8]) {
     let mut out = [0u8; 128];
     print::text(b"parent ");
-    let r = segment_source::parent_topic(name, &mut out);
-    answer(r, &out);
+    parent_into(&mut out, name);
 }
 
 fn parent_within(n: usize, name: &[u8]) {
     let mut out = [0u8; 128];
     print::text(b"within ");
     if n <= 128 {
-        let r = segment_source::parent_topic(name, &mut out[..n]);
-        answer(r, &out);
+        parent_into(&mut out[..n], name);
     }
 }
 

@@ -1,0 +1,5 @@
+pub mod TestLaws
+pub mod ClassLaws
+pub mod DigitLaws
+pub mod SlashLaws
+pub mod ParseLaws

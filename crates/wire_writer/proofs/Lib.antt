@@ -1,0 +1,4 @@
+pub mod VarintBytesLaws
+mod LeftLaws
+mod WriteLaws
+pub mod EncodeLaws
