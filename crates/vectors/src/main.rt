@@ -1,21 +1,54 @@
-// Vectors from outside, run on the code: a line of output for each, held to the file stdout.
+// Runs vectors on the code: reads one to a line from standard input and writes a line for each.
 //
-// What each line should be is reckoned anew by tools/vectors.py, by other means: Python's own decoder for UTF-8, and its own reading of names and ranges.
+// A line is a command and its arguments, with a space between two; a line that starts with '#' is passed over. An argument is a decimal number, or bytes: as they
+// stand, or in hexadecimal behind 0x. What each line should give is reckoned anew by tools/vectors.py, by other means.
 mod name_vectors;
 mod print;
 mod range_vectors;
 mod text_vectors;
+mod wire_vectors;
+
+use libc::STDIN_FILENO;
+
+// The most bytes that are read.
+const ROOM: usize = 262144;
+
+fn run(line: &[u8]) {
+    if parts::starts_with(line, b"#") {
+        return;
+    }
+    let name = lines::word(line, 0);
+    if text_vectors::run(name, line) {
+        return;
+    }
+    if name_vectors::run(name, line) {
+        return;
+    }
+    if range_vectors::run(name, line) {
+        return;
+    }
+    if wire_vectors::run(name, line) {
+        return;
+    }
+    print::text(b"unknown command\n");
+}
+
+fn run_all(text: &[u8]) {
+    let mut at: usize = 0;
+    while at < text.len() {
+        let end = lines::line_end(text, at);
+        run(&text[at..end]);
+        at = end;
+        if at < text.len() {
+            at = at + 1;
+        }
+    }
+}
 
 fn main() {
-    text_vectors::table_rows();
-    text_vectors::outside();
-    text_vectors::runs();
-    name_vectors::built();
-    name_vectors::refused();
-    name_vectors::read();
-    name_vectors::unread();
-    name_vectors::parents();
-    range_vectors::calls();
-    range_vectors::refused();
-    range_vectors::rows();
+    let mut buffer = [0u8; ROOM];
+    let n = io::read_full(STDIN_FILENO, &mut buffer);
+    if n <= ROOM {
+        run_all(&buffer[..n]);
+    }
 }

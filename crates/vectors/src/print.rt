@@ -23,15 +23,6 @@ pub fn attached(n: u64) {
     number(n);
 }
 
-// The bytes in hexadecimal, two digits each.
-pub fn hex(s: &[u8]) {
-    let mut i: usize = 0;
-    while i < s.len() {
-        io::print_hex(STDOUT_FILENO, parts::wide(s[i]), 2);
-        i = i + 1;
-    }
-}
-
 pub fn yes(b: bool) {
     if b {
         text(b"yes\n");

@@ -4,9 +4,9 @@ use key_range::LengthAnswer;
 use key_range::TestAnswer;
 use types::KeyRange;
 
-fn length(start: u32, end: u32) {
-    print::text(b"length ");
-    match key_range::len(start, end) {
+// length START END
+fn length(line: &[u8]) {
+    match key_range::len(lines::number32_at(line, 1), lines::number32_at(line, 2)) {
         LengthAnswer::Length(n) => {
             print::number(n as u64);
             print::text(b"\n");
@@ -22,80 +22,69 @@ fn told(r: TestAnswer) {
     }
 }
 
-fn contains(start: u32, end: u32, hash: u32) {
-    print::text(b"contains ");
-    told(key_range::contains(start, end, hash));
+// contains START END HASH
+fn contains(line: &[u8]) {
+    let start = lines::number32_at(line, 1);
+    let end = lines::number32_at(line, 2);
+    told(key_range::contains(start, end, lines::number32_at(line, 3)));
 }
 
-fn contains_range(start: u32, end: u32, other_start: u32, other_end: u32) {
-    print::text(b"contains_range ");
+// contains_range START END START END
+fn contains_range(line: &[u8]) {
+    let start = lines::number32_at(line, 1);
+    let end = lines::number32_at(line, 2);
+    let other_start = lines::number32_at(line, 3);
+    let other_end = lines::number32_at(line, 4);
     told(key_range::contains_range(start, end, other_start, other_end));
 }
 
-fn touches(start: u32, end: u32, other_start: u32, other_end: u32) {
-    print::text(b"touches ");
+// touches START END START END
+fn touches(line: &[u8]) {
+    let start = lines::number32_at(line, 1);
+    let end = lines::number32_at(line, 2);
+    let other_start = lines::number32_at(line, 3);
+    let other_end = lines::number32_at(line, 4);
     told(key_range::is_adjacent_to(start, end, other_start, other_end));
 }
 
-pub fn calls() {
-    length(0, 65535);
-    length(KeyRange::FULL.start, KeyRange::FULL.end);
-    length(7, 7);
-    length(65535, 65535);
-    contains(5, 9, 4);
-    contains(5, 9, 5);
-    contains(5, 9, 9);
-    contains(5, 9, 10);
-    contains(0, 65535, 65536);
-    contains(0, 65535, 4294967295);
-    contains_range(5, 9, 5, 9);
-    contains_range(5, 9, 6, 8);
-    contains_range(5, 9, 4, 9);
-    contains_range(5, 9, 5, 10);
-    touches(0, 5, 6, 9);
-    touches(6, 9, 0, 5);
-    touches(0, 5, 5, 9);
-    touches(0, 5, 7, 9);
-    touches(0, 65535, 0, 65535);
-}
-
-pub fn refused() {
-    length(65536, 0);
-    length(4294967295, 4294967295);
-    length(0, 65536);
-    length(1, 0);
-    contains(65536, 65535, 0);
-    contains(9, 5, 7);
-    contains_range(9, 5, 65536, 0);
-    contains_range(5, 9, 65536, 0);
-    contains_range(5, 9, 0, 65536);
-    touches(5, 9, 9, 5);
-    touches(65536, 9, 9, 5);
-}
-
-// A row of four ranges, and the first n of it.
-fn row(n: usize, a: u32, b: u32, c: u32, d: u32, e: u32, f: u32, g: u32, h: u32) {
-    let mut items = [KeyRange { start: 0, end: 0 }; 506];
-    items[0] = KeyRange { start: a, end: b };
-    items[1] = KeyRange { start: c, end: d };
-    items[2] = KeyRange { start: e, end: f };
-    items[3] = KeyRange { start: g, end: h };
-    print::text(b"row ");
-    if n <= 506 {
-        print::yes(ranges::first_overlap(items, n));
+// overlap COUNT and COUNT pairs START END, 506 at most
+fn overlap(line: &[u8]) {
+    let mut row = [KeyRange { start: 0, end: 0 }; 506];
+    let count = lines::number_at(line, 1) as usize;
+    let mut n: usize = 0;
+    while n < 506 {
+        if count <= n {
+            print::yes(ranges::first_overlap(row, n));
+            return;
+        }
+        let start = lines::number32_at(line, 2 * n + 2);
+        let end = lines::number32_at(line, 2 * n + 3);
+        row[n] = KeyRange { start, end };
+        n = n + 1;
     }
+    print::yes(ranges::first_overlap(row, 506));
 }
 
-pub fn rows() {
-    row(4, 0, 5, 6, 9, 10, 10, 11, 65535);
-    row(4, 0, 5, 5, 9, 10, 10, 11, 65535);
-    row(4, 11, 65535, 10, 10, 6, 9, 0, 5);
-    row(4, 11, 65535, 10, 10, 6, 9, 0, 6);
-    row(4, 0, 5, 20, 25, 10, 15, 30, 35);
-    row(4, 0, 5, 20, 25, 10, 20, 30, 35);
-    row(4, 0, 5, 10, 15, 20, 25, 0, 0);
-    row(3, 0, 5, 10, 15, 20, 25, 0, 0);
-    row(2, 7, 7, 7, 7, 0, 0, 0, 0);
-    row(1, 7, 7, 7, 7, 0, 0, 0, 0);
-    row(0, 7, 7, 7, 7, 0, 0, 0, 0);
+pub fn run(name: &[u8], line: &[u8]) -> bool {
+    if parts::same(name, b"length") {
+        length(line);
+        return true;
+    }
+    if parts::same(name, b"contains") {
+        contains(line);
+        return true;
+    }
+    if parts::same(name, b"contains_range") {
+        contains_range(line);
+        return true;
+    }
+    if parts::same(name, b"touches") {
+        touches(line);
+        return true;
+    }
+    if parts::same(name, b"overlap") {
+        overlap(line);
+        return true;
+    }
+    false
 }

@@ -1,0 +1,133 @@
+// Words, numbers and bytes in lines of text: what the programs read from their input.
+//
+// A word is what stands between two spaces. It is a decimal number, or bytes: as they stand, or in hexadecimal behind 0x. The contracts say only what keeps
+// the programs in bounds; what a program reads is not proved.
+ghost use Prim.Native.Nat.{_≤_, _<_};
+ghost use Rattle.io.specs.Counts.{Counts};
+ghost use lib.ListN.{length};
+
+// The place of the first byte b from a place on, or the end.
+fn find(s: &[u8], from: usize, b: u8) -> usize
+    requires { ⌜ from ≤ length (now s) ⌝ }
+    ensures { λ r. ⌜ (from ≤ r) × (r ≤ length (now (s .entry))) ⌝ }
+{
+    let mut i = from;
+    while i < s.len() {
+        if s[i] == b {
+            return i;
+        }
+        i = i + 1;
+    }
+    i
+}
+
+// Where the line that starts at a place ends.
+pub fn line_end(s: &[u8], from: usize) -> usize
+    requires { ⌜ from ≤ length (now s) ⌝ }
+    ensures { λ r. ⌜ (from ≤ r) × (r ≤ length (now (s .entry))) ⌝ }
+{
+    find(s, from, b'\n')
+}
+
+// Word k of a line, counted from 0; empty where there are not as many.
+pub fn word(line: &[u8], k: usize) -> &[u8] {
+    let mut at: usize = 0;
+    let mut left = k;
+    while 0 < left {
+        at = find(line, at, b' ');
+        if line.len() <= at {
+            return &line[at..];
+        }
+        at = at + 1;
+        left = left - 1;
+    }
+    let end = find(line, at, b' ');
+    &line[at..end]
+}
+
+// A decimal number; anything else is the part of it before the first other byte, and what does not fit 64 bits is cut.
+pub fn number(s: &[u8]) -> u64 {
+    let mut v: u64 = 0;
+    let mut i: usize = 0;
+    while i < s.len() {
+        let b = s[i];
+        if b < b'0' {
+            return v;
+        }
+        if b'9' < b {
+            return v;
+        }
+        let d = (b - b'0') as u64;
+        if (18446744073709551615 - d) / 10 < v {
+            return v;
+        }
+        v = v * 10 + d;
+        i = i + 1;
+    }
+    v
+}
+
+// Number k of a line.
+pub fn number_at(line: &[u8], k: usize) -> u64 {
+    number(word(line, k))
+}
+
+// The same, cut to 32 bits.
+pub fn number32_at(line: &[u8], k: usize) -> u32 {
+    (number_at(line, k) % 4294967296) as u32
+}
+
+// The value of a hexadecimal digit in lower case; 0 for any other byte.
+fn digit(b: u8) -> u8
+    ensures { λ r. ⌜ r < 16 ⌝ }
+{
+    match b {
+        0x30..=0x39 => b - 0x30,
+        0x61..=0x66 => b - 0x57,
+        _ => 0,
+    }
+}
+
+// Writes the bytes of a word in hexadecimal to the output, as many as fit, and answers how many.
+fn unhex(s: &[u8], out: &mut [u8]) -> usize
+    ensures { λ r. ⌜ Counts r (now (out .exit)) ⌝ }
+{
+    let mut i: usize = 0;
+    let mut n: usize = 0;
+    while i + 1 < s.len() {
+        if out.len() <= n {
+            return n;
+        }
+        out[n] = digit(s[i]) * 16 + digit(s[i + 1]);
+        n = n + 1;
+        i = i + 2;
+    }
+    n
+}
+
+// Writes the bytes of a word as they stand, as many as fit, and answers how many.
+fn copy(s: &[u8], out: &mut [u8]) -> usize
+    ensures { λ r. ⌜ Counts r (now (out .exit)) ⌝ }
+{
+    let mut n: usize = 0;
+    while n < s.len() {
+        if out.len() <= n {
+            return n;
+        }
+        out[n] = s[n];
+        n = n + 1;
+    }
+    n
+}
+
+// Writes the bytes that word k of a line stands for to the output, as many as fit, and answers how many.
+pub fn bytes_at(line: &[u8], k: usize, out: &mut [u8]) -> usize
+    ensures { λ r. ⌜ Counts r (now (out .exit)) ⌝ }
+{
+    let s = word(line, k);
+    if parts::starts_with(s, b"0x") {
+        unhex(&s[2..], out)
+    } else {
+        copy(s, out)
+    }
+}

@@ -1,0 +1,4 @@
+pub mod SchemaLaws
+pub mod FaultLaws
+pub mod ScanLaws
+pub mod Levels

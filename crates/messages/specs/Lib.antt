@@ -1,0 +1,4 @@
+pub mod Schema
+pub mod FirstFault
+pub mod Steps
+pub mod Rows

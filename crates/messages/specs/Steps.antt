@@ -1,0 +1,43 @@
+-- What the reader's functions answer at one field.
+-- Assumes nothing.
+use Prim.Native.Nat.{ℕ, _+_}
+use mathlib.Core.Bool.{Bool, false, cond}
+use mathlib.Core.List.{List}
+use lib.ListN.{take, drop, getD}
+use Rattle.utf8.specs.Table.{isUtf8}
+use Rattle.refusal.specs.declared.Refusal.the-variants.{InvalidWireFormat, WrongWireType, InvalidUtf8}
+use Rattle.wire.specs.declared.Key.{Key}
+use Rattle.wire.specs.declared.Key.the-variants as key
+use Rattle.wire.specs.declared.Body.{Body}
+use Rattle.wire.specs.declared.Body.the-variants as body
+use Rattle.messages.specs.declared.MessageKind.{MessageKind}
+use Rattle.messages.specs.declared.ValueKind.{ValueKind}
+use Rattle.messages.specs.declared.ValueKind.the-variants as value
+use Rattle.messages.specs.declared.Head.{Head}
+use Rattle.messages.specs.declared.Head.the-variants as head
+use Rattle.messages.specs.declared.Step.{Step}
+use Rattle.messages.specs.declared.Step.the-variants as step
+use Rattle.messages.specs.Schema.{ruleFor, fitsWire}
+
+-- the mark of a field that counts under i
+abbrev pub marked : List Bool → ℕ → Bool
+marked seen i = getD seen i false
+
+-- a field's key and its rule: 3, then 4
+abbrev pub headOf : MessageKind → Key → Head
+headOf k (key.Found f w n) = cond (fitsWire (ruleFor k f .value) w) (head.Field n w (ruleFor k f)) (head.Refused WrongWireType)
+headOf k key.Broken = head.Refused InvalidWireFormat
+
+-- a part of len bytes behind a length of n bytes: 7, or a message to be checked
+abbrev pub partStep : ValueKind → ℕ → ℕ → List ℕ → Step
+partStep value.Any n len p = step.Next (n + len)
+partStep value.Number n len p = step.Next (n + len)
+partStep value.Text n len p = cond (isUtf8 p) (step.Next (n + len)) (step.Refused InvalidUtf8)
+partStep (value.Message k) n len p = step.Inner k n len
+
+-- what stands behind a key: 3, then 7
+abbrev pub stepOf : ValueKind → Body → List ℕ → Step
+stepOf v (body.Number x n) l = step.Next n
+stepOf v (body.Fixed n) l = step.Next n
+stepOf v (body.Part n len) l = partStep v n len (take len (drop n l))
+stepOf v body.Broken l = step.Refused InvalidWireFormat

@@ -1,0 +1,4 @@
+pub mod ValueLaws
+pub mod FrontLaws
+pub mod PlaceLaws
+pub mod IntegerLaws

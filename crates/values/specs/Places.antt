@@ -1,0 +1,63 @@
+-- What the functions of src/ answer: a field at the front of a part, and places in a message.
+-- Assumes nothing.
+use Prim.Native.Nat.{ℕ, _+_, _≤_, _<_}
+use mathlib.Core.Path.{_≡_}
+use mathlib.Core.List.{List, [], _∷_, _++_}
+use lib.ListN.{length, take, drop}
+use Rattle.wire.specs.declared.Key.{Key}
+use Rattle.wire.specs.declared.Key.the-variants as key
+use Rattle.wire.specs.declared.Body.{Body}
+use Rattle.wire.specs.declared.Body.the-variants as body
+use Rattle.wire.specs.Field.{keyOf, bodyOf}
+use Rattle.wire.specs.Fields.{fieldsOf}
+use Rattle.values.specs.declared.Front.{Front}
+use Rattle.values.specs.declared.Front.the-variants as front
+use Rattle.values.specs.declared.PartStep.{PartStep}
+use Rattle.values.specs.declared.PartStep.the-variants as step
+use Rattle.values.specs.declared.Cursor.{Cursor}
+use Rattle.values.specs.declared.InnerStep.{InnerStep}
+use Rattle.values.specs.declared.InnerStep.the-variants as inner
+use Rattle.values.specs.Values.{partsOf, joinFields}
+
+-- ---- the field at the front of a part
+
+abbrev pub frontFrom : ℕ → ℕ → Body → Front
+frontFrom f n (body.Number v m) = front.Number f v (n + m)
+frontFrom f n (body.Fixed m) = front.Fixed (n + m)
+frontFrom f n (body.Part m len) = front.Part f (n + m) len
+frontFrom f n body.Broken = front.Broken
+
+abbrev pub frontBy : Key → List ℕ → Front
+frontBy (key.Found f w n) l = frontFrom f n (bodyOf w (drop n l))
+frontBy key.Broken l = front.Broken
+
+unfoldable pub frontOf : List ℕ → Front
+frontOf l = frontBy (keyOf l) l
+
+-- ---- the parts of a field, one after the other
+
+-- from the place `from` on: the first part, inside the message and behind `from`, and those from the place `next` on; or none
+abbrev pub NextPart : ℕ → List ℕ → ℕ → PartStep → Type 0
+NextPart n s from (step.Found start len next) =
+    (from < start) × (next ≡ start + len) × (next ≤ length s)
+    × (partsOf n (fieldsOf (drop from s)) ≡ take len (drop start s) ∷ partsOf n (fieldsOf (drop next s)))
+NextPart n s from step.Absent = partsOf n (fieldsOf (drop from s)) ≡ []
+
+-- ---- the parts of field k in the singular message of field n, one after the other
+
+-- those that a cursor has before it: in this part of field n from its place on, then in the later parts
+abbrev pub innerFrom : ℕ → ℕ → List ℕ → Cursor → List (List ℕ)
+innerFrom n k m c = partsOf k (fieldsOf (drop (c .at) (take (c .end) m))) ++ partsOf k (joinFields (partsOf n (fieldsOf (drop (c .outer) m))))
+
+-- a cursor whose place and end lie before the next part of field n
+pub record Inside (m : List ℕ) (c : Cursor) : Type 0 where
+  pub at-outer : c .at ≤ c .outer
+  pub end-outer : c .end ≤ c .outer
+  pub end-length : c .end ≤ length m
+
+-- the first part, inside the message, and the cursor behind it, which is further on; or none
+abbrev pub NextInner : ℕ → ℕ → List ℕ → Cursor → InnerStep → Type 0
+NextInner n k m c (inner.Found start len d) =
+    (start + len ≤ length m) × (c .at < d .at) × (d .at ≤ length m) × Inside m d
+    × (innerFrom n k m c ≡ take len (drop start m) ∷ innerFrom n k m d)
+NextInner n k m c inner.Absent = innerFrom n k m c ≡ []

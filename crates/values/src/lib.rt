@@ -1,0 +1,207 @@
+// What a message's fields hold: the last number of a field, its parts one after the other, a text as a part of the message.
+//
+// Everything is said of the message's row of fields and asks nothing of an earlier pass: on a message that no reader would take, the answers are those of
+// the fields before its first broken one.
+ghost use mathlib.Core.Path.{_≡_};
+ghost use mathlib.Core.List.{[]};
+ghost use Rattle.wire.specs.Fields.{fieldsOf};
+ghost use Rattle.values.specs.Integers.{uint32Of, int32Of};
+ghost use Rattle.values.specs.Places.{frontOf, NextPart, Inside, NextInner};
+ghost use Rattle.values.specs.Values.{numbersOf, partsOf, lastOf, lastPart};
+use wire::Body;
+use wire::Key;
+
+// The field at the front of a part.
+pub enum Front {
+    // Its number, its value, and the field's length.
+    Number(u64, u64, usize),
+    // Its number, where its part starts, and how long that is.
+    Part(u64, usize, usize),
+    // The field's length.
+    Fixed(usize),
+    // Its key, its length or its value is broken.
+    Broken,
+}
+
+pub fn read_front(s: &[u8]) -> Front
+    ensures { λ r. ⌜ r ≡ frontOf (now (s .entry)) ⌝ }
+{
+    let Key::Found(f, w, n) = wire::read_key(s) else {
+        return Front::Broken;
+    };
+    match wire::read_body(w, &s[n..]) {
+        Body::Number(v, m) => Front::Number(f, v, n + m),
+        Body::Part(m, len) => Front::Part(f, n + m, len),
+        Body::Fixed(m) => Front::Fixed(n + m),
+        Body::Broken => Front::Broken,
+    }
+}
+
+// A number that may be absent.
+pub enum Last {
+    Found(u64),
+    Absent,
+}
+
+// The last number of field n.
+pub fn last_number(s: &[u8], n: u64) -> Last
+    ensures { λ r. ⌜ r ≡ lastOf (numbersOf n (fieldsOf (now (s .entry)))) ⌝ }
+{
+    let mut last = Last::Absent;
+    let mut at: usize = 0;
+    while at < s.len() {
+        match read_front(&s[at..]) {
+            Front::Broken => {
+                return last;
+            }
+            Front::Number(f, v, size) => {
+                if f == n {
+                    last = Last::Found(v);
+                }
+                at = at + size;
+            }
+            Front::Part(_, start, len) => {
+                at = at + start + len;
+            }
+            Front::Fixed(size) => {
+                at = at + size;
+            }
+        }
+    }
+    last
+}
+
+// The next part of a field: where it starts, its length, and the place behind it.
+pub enum PartStep {
+    Found(usize, usize, usize),
+    Absent,
+}
+
+// The next part of field n from a place on.
+pub fn next_part(s: &[u8], from: usize, n: u64) -> PartStep
+    ensures { λ r. ⌜ NextPart n (now (s .entry)) from r ⌝ }
+{
+    let mut at = from;
+    while at < s.len() {
+        match read_front(&s[at..]) {
+            Front::Broken => {
+                return PartStep::Absent;
+            }
+            Front::Number(_, _, size) => {
+                at = at + size;
+            }
+            Front::Part(f, start, len) => {
+                let begin = at + start;
+                let end = begin + len;
+                if f == n {
+                    return PartStep::Found(begin, len, end);
+                }
+                at = end;
+            }
+            Front::Fixed(size) => {
+                at = at + size;
+            }
+        }
+    }
+    PartStep::Absent
+}
+
+// The last part of field n, empty where there is none: a part of the message, never of the store.
+pub fn text<'m, 's>(message: &'m [u8], store: &'s [u8], n: u64) -> &'m [u8]
+    ensures { λ r. ⌜ now r ≡ lastPart (partsOf n (fieldsOf (now (message .entry)))) ⌝ }
+{
+    let mut at: usize = 0;
+    let mut start: usize = 0;
+    let mut end: usize = 0;
+    loop {
+        match next_part(message, at, n) {
+            PartStep::Absent => {
+                return &message[start..end];
+            }
+            PartStep::Found(from, len, next) => {
+                start = from;
+                end = from + len;
+                at = next;
+            }
+        }
+    }
+}
+
+// A place among the parts of a field in a singular message: the message's next part is looked for from `outer` on; in this one, the field's next part is looked
+// for from `at` to `end`.
+pub struct Cursor {
+    pub outer: usize,
+    pub at: usize,
+    pub end: usize,
+}
+
+// The next part: where it starts, its length, and the cursor behind it.
+pub enum InnerStep {
+    Found(usize, usize, Cursor),
+    Absent,
+}
+
+// The cursor before the first part.
+pub fn first_inner() -> Cursor
+    ensures { λ r. ⌜ r ≡ record { outer = 0; at = 0; end = 0 } ⌝ }
+{
+    Cursor {
+        outer: 0,
+        at: 0,
+        end: 0,
+    }
+}
+
+// The next part of field k in the singular message of field n.
+pub fn next_inner(m: &[u8], n: u64, k: u64, c: Cursor) -> InnerStep
+    requires { ⌜ Inside (now m) c ⌝ }
+    ensures { λ r. ⌜ NextInner n k (now (m .entry)) c r ⌝ }
+{
+    let mut outer = c.outer;
+    let mut at = c.at;
+    let mut end = c.end;
+    loop {
+        match next_part(&m[..end], at, k) {
+            PartStep::Found(start, len, next) => {
+                return InnerStep::Found(
+                    start,
+                    len,
+                    Cursor {
+                        outer,
+                        at: next,
+                        end,
+                    },
+                );
+            }
+            PartStep::Absent => match next_part(m, outer, n) {
+                PartStep::Absent => {
+                    return InnerStep::Absent;
+                }
+                PartStep::Found(start, len, next) => {
+                    at = start;
+                    end = start + len;
+                    outer = next;
+                }
+            },
+        }
+    }
+}
+
+// The low 32 bits of a varint's value.
+pub fn uint32(v: u64) -> u32
+    ensures { λ r. ⌜ r ≡ uint32Of v ⌝ }
+{
+    (v % 4294967296) as u32
+}
+
+// The low 32 bits of a varint's value, as two's complement.
+pub fn int32(v: u64) -> i32
+    ensures { λ r. ⌜ r ≡ int32Of v ⌝ }
+{
+    let low = v % 4294967296;
+    if low < 2147483648 {
+        low as i32
+    } else {
+        -((4294967295 - low) as i32) - 1
+    }
+}
