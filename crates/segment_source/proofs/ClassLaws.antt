@@ -1,14 +1,15 @@
--- Laws of the bytes that are hexadecimal digits.
+-- Laws of the classes of bytes.
 --
--- In order: the bytes of a class (`letter-bounds`, `digit-bounds`); the value of a hexadecimal digit by its class (`hex-digit`,
--- `hex-letter`, `hex-other`), that it is below 16 (`hex-value-bound`), and that 16 stands for no digit (`hex-16`, `hex-not-16`).
+-- In order: the bytes of a class (`letter-bounds`, `digit-bounds`, `slash-byte`, `dash-byte`); the class of a byte (`class-digit`,
+-- `class-letter`); the value of a hexadecimal digit by its class (`hex-digit`, `hex-letter`, `hex-other`), that it is below 16
+-- (`hex-value-bound`), and that 16 stands for no digit (`hex-16`, `hex-not-16`).
 -- Assumes nothing.
 use Prim.Native.Nat.{ℕ, _-_, _≤_, _<_}
 use native.Mathlib.Omega.{arith}
 use mathlib.Core.Path.{_≡_, refl}
-use mathlib.Core.Bool.{Bool, true, false, cond, true≢false}
+use mathlib.Core.Bool.{Bool, true, false, cond, and-false, true≢false}
 use lib.Dec.{leb, eqb}
-use borrow.Author.Tests.{leb-true, eqb-true, ne-eqb}
+use borrow.Author.Tests.{leb-true, le-leb, lt-leb, eqb-true, ne-eqb}
 use Rattle.topic.specs.Classes.{between, classOf, isHexDigit}
 use Rattle.segment_source.specs.Digits.{hexDigitValue, hexDigitOf}
 use Rattle.segment_source.proofs.TestLaws.{and-both, cond-first, cond-second}
@@ -21,23 +22,24 @@ between-bounds low high b e =
     (leb-true low b (p .0), leb-true b high (p .1))
 
 -- the classes that are tested behind digits and letters
-others : (t u v w : Bool) (n : ℕ) → 1 ≤ n → n ≤ 2 → cond t 3 (cond u 4 (cond v 5 (cond w 6 0))) ≡ n → ⊥
-others true u v w n h k e = omega arith
-others false true v w n h k e = omega arith
-others false false true w n h k e = omega arith
-others false false false true n h k e = omega arith
-others false false false false n h k e = omega arith
+marks : (t u v w : Bool) (n : ℕ) → cond t 3 (cond u 4 (cond v 5 (cond w 6 0))) ≡ n
+    → (1 ≤ n → n ≤ 2 → ⊥) × (n ≡ 3 → t ≡ true) × (n ≡ 4 → u ≡ true)
+marks true u v w n e = (λ h k. omega arith, λ q. refl, λ q. absurd (omega arith))
+marks false true v w n e = (λ h k. omega arith, λ q. absurd (omega arith), λ q. refl)
+marks false false true w n e = (λ h k. omega arith, λ q. absurd (omega arith), λ q. absurd (omega arith))
+marks false false false true n e = (λ h k. omega arith, λ q. absurd (omega arith), λ q. absurd (omega arith))
+marks false false false false n e = (λ h k. omega arith, λ q. absurd (omega arith), λ q. absurd (omega arith))
 
 module _ (b : ℕ) where
-  not-others : (n : ℕ) → 1 ≤ n → n ≤ 2
-      → cond (eqb b 0x2F) 3 (cond (eqb b 0x2D) 4 (cond (eqb b 0x3F) 5 (cond (eqb b 0x23) 6 0))) ≡ n → ⊥
-  not-others n = others (eqb b 0x2F) (eqb b 0x2D) (eqb b 0x3F) (eqb b 0x23) n
+  mark : (n : ℕ) → cond (eqb b 0x2F) 3 (cond (eqb b 0x2D) 4 (cond (eqb b 0x3F) 5 (cond (eqb b 0x23) 6 0))) ≡ n
+      → (1 ≤ n → n ≤ 2 → ⊥) × (n ≡ 3 → eqb b 0x2F ≡ true) × (n ≡ 4 → eqb b 0x2D ≡ true)
+  mark n = marks (eqb b 0x2F) (eqb b 0x2D) (eqb b 0x3F) (eqb b 0x23) n
 
   pub letter-bounds : classOf b ≡ 2 → (0x61 ≤ b) × (b ≤ 0x66)
   unfolding classOf
   letter-bounds e =
-      let f = cond-second (between 0x30 0x39 b) 1 _ 2 (λ q. omega arith) e in
-      let g = cond-first (between 0x61 0x66 b) 2 _ 2 (not-others 2 (omega arith) (omega arith)) (f .1) in
+      let f = cond-second (between 0x30 0x39 b) 1 _ 2 (λ q. omega arith) e .1 in
+      let g = cond-first (between 0x61 0x66 b) 2 _ 2 (λ q. mark 2 q .0 (omega arith) (omega arith)) f in
       between-bounds 0x61 0x66 b (g .0)
 
   pub digit-bounds : classOf b ≡ 1 → (0x30 ≤ b) × (b ≤ 0x39)
@@ -45,8 +47,32 @@ module _ (b : ℕ) where
   digit-bounds e =
       let p =
       cond-first (between 0x30 0x39 b) 1 _ 1
-      (λ f. not-others 1 (omega arith) (omega arith) (cond-second (between 0x61 0x66 b) 2 _ 1 (λ q. omega arith) f .1)) e in
+      (λ f. mark 1 (cond-second (between 0x61 0x66 b) 2 _ 1 (λ q. omega arith) f .1) .0 (omega arith) (omega arith)) e in
       between-bounds 0x30 0x39 b (p .0)
+
+  -- a class behind digits and letters
+  mark-told : (n : ℕ) → 3 ≤ n → classOf b ≡ n → (n ≡ 3 → eqb b 0x2F ≡ true) × (n ≡ 4 → eqb b 0x2D ≡ true)
+  unfolding classOf
+  mark-told n h e =
+      let f = cond-second (between 0x30 0x39 b) 1 _ n (λ q. omega arith) e .1 in
+      let p = mark n (cond-second (between 0x61 0x66 b) 2 _ n (λ q. omega arith) f .1) in
+      (p .1, p .2)
+
+  pub slash-byte : classOf b ≡ 3 → b ≡ 0x2F
+  slash-byte e = eqb-true b 0x2F (mark-told 3 (omega arith) e .0 refl)
+
+  pub dash-byte : classOf b ≡ 4 → b ≡ 0x2D
+  dash-byte e = eqb-true b 0x2D (mark-told 4 (omega arith) e .1 refl)
+
+  -- ---- the class of a byte
+
+  pub class-digit : 0x30 ≤ b → b ≤ 0x39 → classOf b ≡ 1
+  unfolding classOf
+  class-digit h k = rw (le-leb 0x30 b h, le-leb b 0x39 k)
+
+  pub class-letter : 0x61 ≤ b → b ≤ 0x66 → classOf b ≡ 2
+  unfolding classOf
+  class-letter h k = rw (lt-leb b 0x39 (omega arith), and-false, le-leb 0x61 b h, le-leb b 0x66 k)
 
   -- ---- the value of a hexadecimal digit
 

@@ -118,17 +118,16 @@ pub fn segment_source(id: SegmentId, topic: &[u8]) -> SourceAnswer
     match parse_text(topic) {
         Parsed::Refused(refusal) => SourceAnswer::Refused(refusal),
         Parsed::Name(_, key_range, topic_id) => {
-            if topic_id.0 == id.0 {
-                SourceAnswer::Source(SegmentSource {
-                    segment_id: id,
-                    key_range,
-                })
-            } else {
-                SourceAnswer::Refused(Refusal::SegmentIdMismatch {
+            if topic_id.0 != id.0 {
+                return SourceAnswer::Refused(Refusal::SegmentIdMismatch {
                     segment_id: id,
                     topic_id,
-                })
+                });
             }
+            SourceAnswer::Source(SegmentSource {
+                segment_id: id,
+                key_range,
+            })
         }
     }
 }
