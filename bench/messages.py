@@ -1,0 +1,48 @@
+#!/usr/bin/env python3
+"""Writes the benchmark messages: updates for consumer 7 under the parent topic://a/b/c at epoch 20,000.
+
+a: 4 segments without buckets. b: 145 segments without buckets. c: one segment with 506 buckets that rise. s: c with its buckets in falling order.
+"""
+import pathlib
+import sys
+
+
+def varint(value):
+    out = bytearray()
+    while value >= 0x80:
+        out.append(value & 0x7F | 0x80)
+        value >>= 7
+    return bytes(out) + bytes([value])
+
+
+def number(field, value):
+    return varint(field << 3) + varint(value)
+
+
+def part(field, content):
+    return varint(field << 3 | 2) + varint(len(content)) + content
+
+
+def segment(identity, start, end, buckets=()):
+    name = b"segment://a/b/c/%04x-%04x-%d" % (start, end, identity)
+    ranges = b"".join(part(5, number(1, low) + number(2, high)) for low, high in buckets)
+    return number(1, identity) + number(2, start) + number(3, end) + part(4, name) + ranges
+
+
+def update(segments):
+    return number(1, 7) + part(2, number(1, 20000) + b"".join(part(2, one) for one in segments))
+
+
+RISING = [(128 * i, 128 * i + 100) for i in range(506)]
+MESSAGES = {
+    "a": update(segment(i, 16384 * i, 16384 * i + 16383) for i in range(4)),
+    "b": update(segment(2 * i, 400 * i, 400 * i + 399) for i in range(145)),
+    "c": update([segment(0, 0, 65535, RISING)]),
+    "s": update([segment(0, 0, 65535, RISING[::-1])]),
+}
+
+if __name__ == "__main__":
+    folder = pathlib.Path(sys.argv[1])
+    folder.mkdir(parents=True, exist_ok=True)
+    for name, message in MESSAGES.items():
+        (folder / f"{name}.bin").write_bytes(message)
