@@ -1,4 +1,5 @@
 pub mod ValueLaws
 pub mod FrontLaws
+pub mod WalkLaws
 pub mod PlaceLaws
 pub mod IntegerLaws

@@ -1,7 +1,7 @@
 -- Laws of the values of a row of fields: `numbersOf`, `partsOf`, `lastAfter`, over plain lists.
 --
 -- In order: two rows, one behind the other (`numbers-append`, `parts-append`); the rows of several parts (`numbers-join`, `parts-join`);
--- the last of two lists, one behind the other (`last-append`); the last behind something known (`last-or`), and behind 0 (`or-zero-found`).
+-- the last of two lists, one behind the other (`last-append`).
 -- Assumes nothing.
 use Prim.Native.Nat.{ℕ}
 use mathlib.Core.Path.{_≡_, refl}
@@ -11,7 +11,7 @@ use lib.Dec.{eqb}
 use Rattle.wire.specs.Fields.{number, bytes, fixed, cut, Field, badKey, field, fieldsOf}
 use Rattle.values.specs.declared.Last.{Last}
 use Rattle.values.specs.declared.Last.the-variants as last
-use Rattle.values.specs.Values.{numbersOf, partsOf, lastAfter, lastOf, joinFields, orZero}
+use Rattle.values.specs.Values.{numbersOf, partsOf, lastAfter, joinFields}
 
 -- ---- two rows
 
@@ -51,22 +51,3 @@ module _ (k : ℕ) (p : List ℕ) (ps : List (List ℕ)) where
 pub last-append : (x : Last) (l m : List ℕ) → lastAfter x (l ++ m) ≡ lastAfter (lastAfter x l) m
 last-append x [] m = refl
 last-append x (v ∷ l) m = last-append (last.Found v) l m
-
--- the second, or the first where the second is absent
-abbrev pub lastOr : Last → Last → Last
-lastOr x (last.Found v) = last.Found v
-lastOr x last.Absent = x
-
-found-stays : (x : Last) (l : List ℕ) (v : ℕ) → lastAfter (last.Found v) l ≡ lastOr x (lastAfter (last.Found v) l)
-found-stays x [] v = refl
-found-stays x (w ∷ l) v = found-stays x l w
-
--- the last behind something known
-pub last-or : (x : Last) (l : List ℕ) → lastAfter x l ≡ lastOr x (lastOf l)
-last-or x [] = refl
-last-or x (v ∷ l) = found-stays x l v
-
--- a number that is absent counts as 0
-pub or-zero-found : (l : List ℕ) → orZero (lastOf l) ≡ orZero (lastAfter (last.Found 0) l)
-or-zero-found [] = refl
-or-zero-found (v ∷ l) = refl

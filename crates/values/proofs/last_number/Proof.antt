@@ -1,16 +1,16 @@
 -- `last_number` meets its contract. The invariant: the last of the numbers from `at` on, or `last` where there is none, is the last of all.
 -- The measure is what is left of the message; each front stands inside it. Assumes nothing.
-use Prim.Native.Nat.{ℕ, _-_, _≤_}
+use Prim.Native.Nat.{_-_}
 use native.Mathlib.Omega.{arith}
 use mathlib.Core.Logic.{⊎-elim}
-use mathlib.Core.Path.{_≡_, refl, sym, ap, _∙_}
-use mathlib.Core.List.{List}
+use mathlib.Core.Path.{_≡_, refl, sym, _∙_}
 use lib.ListN.{length}
 use borrow.Author.Needs.{needs}
 use Rattle.wire.specs.Fields.{fieldsOf}
 use Rattle.values.specs.declared.Front.{Front}
-use Rattle.values.specs.Values.{numbersOf, lastAfter, lastOf}
+use Rattle.values.specs.Values.{numbersOf, lastOf}
 use Rattle.values.proofs.FrontLaws.{numbersFrom, FrontAt, front-at, numbers-end, number-same, number-other}
+use Rattle.values.proofs.WalkLaws.{Kept, kept-done, kept-next, kept-stays, found, last-start}
 use Rattle.values.proofs.last_number.Statement.{statement}
 use Rattle.values.proofs.last_number.Tie as tie
 use Rattle.values.proofs.last_number.Reads as reads
@@ -18,32 +18,21 @@ use Rattle.values.proofs.last_number.Lts as lts
 use Rattle.values.proofs.read_front.Reads as read-front-reads
 
 abbrev Inv-loop : tie.InvT-loop
-Inv-loop s n last₀ at₀ last at = (at ≤ length s) × (lastOf (numbersOf n (fieldsOf s)) ≡ lastAfter last (numbersFrom n s at))
+Inv-loop s n last₀ at₀ last at = Kept found (lastOf (numbersOf n (fieldsOf s))) last (numbersFrom n s at)
 
 abbrev μ-loop : tie.MeasureT-loop
 μ-loop s n last₀ at₀ last at = length s - at
 
--- a turn's start, and the place where the front is read
-abbrev Turn : Type 0
-Turn = lts.At-loop (read-front-reads.Asked, read-front-reads.Learnt) reads.Pre reads.Post Inv-loop μ-loop
-
+-- the place where the front is read
 abbrev Read : Type 0
 Read = lts.After-read-front (read-front-reads.Asked, read-front-reads.Learnt) reads.Pre reads.Post Inv-loop μ-loop
 
-abbrev messageAt : Turn → List ℕ
-messageAt c = c .before .before .args .s .now
-
 front : (c : Read) (q : Front) → c .read-front .result ≡ q
-    → FrontAt (messageAt (c .before .before .before)) (c .before .before .before .loop .at) q
+    → FrontAt (c .before .before .before .before .before .args .s .now) (c .before .before .before .loop .at) q
 front c q e = front-at _ _ (c .before .before .loop-test .taken) q (sym (c .read-front .ensures) ∙ e)
 
--- the last of all, where the numbers from `at` on are ns
-kept : (c : Turn) (ns : List ℕ) → numbersFrom (c .before .before .args .n) (messageAt c) (c .loop .at) ≡ ns
-    → lastOf (numbersOf (c .before .before .args .n) (fieldsOf (messageAt c))) ≡ lastAfter (c .loop .last) ns
-kept c ns e = c .loop .inv .1 ∙ ap (lastAfter (c .loop .last)) e
-
 loop-holds : tie.Need-loop-holds Inv-loop μ-loop
-loop-holds c = (omega arith, refl)
+loop-holds c = last-start _
 
 sub-read-front : tie.Need-sub-read-front Inv-loop μ-loop
 sub-read-front c = search needs
@@ -63,7 +52,7 @@ enum-told c = search needs
 returns : tie.Need-returns Inv-loop μ-loop
 returns c =
     let q = front (c .before .before) _ (c .enum-told .given .1) in
-    sym (kept (c .before .before .before .before .before) _ (q .numbers _))
+    kept-done (q .numbers _) (c .before .before .before .before .before .loop .inv)
 
 enum-known-f : tie.Need-enum-known-f Inv-loop μ-loop
 enum-known-f c = search needs
@@ -76,12 +65,10 @@ loop-less c = let q = front (c .before .before .before .before) _ (c .before .be
 
 loop-again : tie.Need-loop-again Inv-loop μ-loop
 loop-again c =
-    let t = c .before .before .before .before .before .before .before in
-    let q = front (c .before .before .before .before) _ (c .before .before .f .given .1) in (
-      q .inside,
-      ⊎-elim (λ w. rw (w .1) (kept t _ (number-same q _ (w .0 .taken))))
-          (λ w. rw (w .1) (kept t _ (number-other q _ (w .0 .left)))) (c .if1 .came),
-    )
+    let q = front (c .before .before .before .before) _ (c .before .before .f .given .1) in
+    let k = c .before .before .before .before .before .before .before .loop .inv in
+    ⊎-elim (λ w. kept-next (number-same q _ (w .0 .taken)) (w .1) k) (λ w. kept-stays (number-other q _ (w .0 .left)) (w .1) k)
+    (c .if1 .came)
 
 enum-known-start : tie.Need-enum-known-start Inv-loop μ-loop
 enum-known-start c = search needs
@@ -98,7 +85,7 @@ loop-less-2 c = let q = front (c .before .before .before) _ (c .before .start .g
 loop-again-2 : tie.Need-loop-again-2 Inv-loop μ-loop
 loop-again-2 c =
     let q = front (c .before .before .before) _ (c .before .start .given .1) in
-    (q .inside, kept (c .before .before .before .before .before .before) _ (q .numbers _))
+    kept-stays (q .numbers _) refl (c .before .before .before .before .before .before .loop .inv)
 
 enum-known-size : tie.Need-enum-known-size Inv-loop μ-loop
 enum-known-size c = search needs
@@ -112,10 +99,10 @@ loop-less-3 c = let q = front (c .before .before .before) _ (c .before .size .gi
 loop-again-3 : tie.Need-loop-again-3 Inv-loop μ-loop
 loop-again-3 c =
     let q = front (c .before .before .before) _ (c .before .size .given .1) in
-    (q .inside, kept (c .before .before .before .before .before .before) _ (q .numbers _))
+    kept-stays (q .numbers _) refl (c .before .before .before .before .before .before .loop .inv)
 
 returns-2 : tie.Need-returns-2 Inv-loop μ-loop
-returns-2 c = sym (kept (c .before) _ (numbers-end _ _ (c .before .loop .at) (omega arith)))
+returns-2 c = kept-done (numbers-end _ _ (c .before .loop .at) (omega arith)) (c .before .loop .inv)
 
 pub last-number-spec : {M : Type 1} → statement M
 last-number-spec =

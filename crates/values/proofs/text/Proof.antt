@@ -3,14 +3,15 @@
 use Prim.Native.Nat.{_-_, _≤_}
 use native.Mathlib.Nat.{add-sub-cancel-left}
 use native.Mathlib.Omega.{arith}
-use mathlib.Core.Path.{_≡_, refl, sym, ap, subst, _∙_}
+use mathlib.Core.Path.{_≡_, subst}
 use lib.ListN.{length, take, drop}
 use borrow.Author.Needs.{needs}
 use Rattle.wire.specs.Fields.{fieldsOf}
 use Rattle.values.specs.declared.PartStep.{PartStep}
-use Rattle.values.specs.Values.{partsOf, lastPartAfter, lastPart}
+use Rattle.values.specs.Values.{partsOf, lastPart}
 use Rattle.values.specs.Places.{NextPart}
 use Rattle.values.proofs.FrontLaws.{partsFrom}
+use Rattle.values.proofs.WalkLaws.{Kept, kept-done, kept-next, later, part-start}
 use Rattle.values.proofs.text.Statement.{statement}
 use Rattle.values.proofs.text.Tie as tie
 use Rattle.values.proofs.text.Reads as reads
@@ -20,7 +21,7 @@ use Rattle.values.proofs.next_part.Reads as next-part-reads
 abbrev Inv-loop : tie.InvT-loop
 Inv-loop message store n at₀ start₀ end₀ at start end =
     (start ≤ end) × (end ≤ length message)
-    × (lastPart (partsOf n (fieldsOf message)) ≡ lastPartAfter (take (end - start) (drop start message)) (partsFrom n message at))
+    × Kept later (lastPart (partsOf n (fieldsOf message))) (take (end - start) (drop start message)) (partsFrom n message at)
 
 abbrev μ-loop : tie.MeasureT-loop
 μ-loop message store n at₀ start₀ end₀ at start end = length message - at
@@ -34,7 +35,7 @@ step : (c : Read) (q : PartStep) → c .next-part .result ≡ q
 step c q e = subst (NextPart _ _ _) e (c .next-part .ensures)
 
 loop-holds : tie.Need-loop-holds Inv-loop μ-loop
-loop-holds c = (omega arith, omega arith, refl)
+loop-holds c = (omega arith, omega arith, part-start _)
 
 next-part-requires : tie.Need-next-part-requires Inv-loop μ-loop
 next-part-requires c κs = search needs
@@ -54,7 +55,7 @@ part-result-end c = search needs
 returns : tie.Need-returns Inv-loop μ-loop
 returns c =
     let q = step (c .before .before .before) _ (c .before .enum-told .given .1) in
-    sym (c .before .before .before .before .loop .inv .2 ∙ ap (lastPartAfter _) q)
+    kept-done q (c .before .before .before .before .loop .inv .2)
 
 enum-known-from : tie.Need-enum-known-from Inv-loop μ-loop
 enum-known-from c = search needs
@@ -67,11 +68,8 @@ loop-less c = let q = step (c .before .before .before) _ (c .before .from .given
 
 loop-again : tie.Need-loop-again Inv-loop μ-loop
 loop-again c =
-    let q = step (c .before .before .before) _ (c .before .from .given .1) in (
-      omega arith,
-      omega (arith, q .1, q .2),
-      c .before .before .before .before .loop .inv .2 ∙ ap (lastPartAfter _) (q .3) ∙ rw add-sub-cancel-left,
-    )
+    let q = step (c .before .before .before) _ (c .before .from .given .1) in
+    (omega arith, omega (arith, q .1, q .2), kept-next (q .3) (rw add-sub-cancel-left) (c .before .before .before .before .loop .inv .2))
 
 pub text-spec : {M : Type 1} → statement M
 text-spec =

@@ -1,0 +1,125 @@
+-- What the messages say: each message's values, read from its row of fields under the names of PulsarApi.proto.
+--
+-- The readers are total: a number that is missing is 0, a text that is missing is empty. Which messages are taken at all is `firstFault` of the crate
+-- messages. A singular message's fields are those of all its parts (`mergedFields`).
+-- Assumes nothing.
+use Prim.Native.Nat.{ℕ}
+use mathlib.Core.Bool.{Bool, true, false, cond}
+use mathlib.Core.List.{List, [], _∷_, map}
+use lib.Dec.{eqb}
+use Rattle.wire.specs.Fields.{number, bytes, fixed, cut, Field, badKey, field, fieldsOf}
+use Rattle.values.specs.declared.Last.{Last}
+use Rattle.values.specs.declared.Last.the-variants as last
+use Rattle.values.specs.Values.{numbersOf, partsOf, lastOf, lastPart, mergedFields, numberIn}
+use Rattle.values.specs.Integers.{uint32Of, int32Of}
+use Rattle.readers.specs.declared.IntRange.{IntRange}
+use Rattle.readers.specs.declared.ErrorCode.{ErrorCode}
+use Rattle.readers.specs.declared.ErrorCode.the-variants as code
+
+-- ---- assignments
+
+-- IntRange
+unfoldable pub intRangeOf : List ℕ → IntRange
+intRangeOf p = record { start = int32Of (numberIn 1 (fieldsOf p)); end = int32Of (numberIn 2 (fieldsOf p)) }
+
+-- ScalableAssignedSegment
+pub record WireSegment : Type 0 where
+  pub segmentId : ℕ
+  pub hashStart : ℕ
+  pub hashEnd : ℕ
+  pub segmentTopic : List ℕ
+  pub bucketRanges : List IntRange
+
+unfoldable pub segmentOf : List ℕ → WireSegment
+segmentOf p =
+    record {
+      segmentId = numberIn 1 (fieldsOf p);
+      hashStart = uint32Of (numberIn 2 (fieldsOf p));
+      hashEnd = uint32Of (numberIn 3 (fieldsOf p));
+      segmentTopic = lastPart (partsOf 4 (fieldsOf p));
+      bucketRanges = map intRangeOf (partsOf 5 (fieldsOf p));
+    }
+
+-- ScalableConsumerAssignment, by its fields
+pub record WireAssignment : Type 0 where
+  pub layoutEpoch : ℕ
+  pub segments : List WireSegment
+
+unfoldable pub assignmentOf : List Field → WireAssignment
+assignmentOf fs = record { layoutEpoch = numberIn 1 fs; segments = map segmentOf (partsOf 2 fs) }
+
+-- ---- CommandScalableTopicAssignmentUpdate
+
+pub record WireUpdate : Type 0 where
+  pub consumerId : ℕ
+  pub assignment : WireAssignment
+
+unfoldable pub updateOf : List ℕ → WireUpdate
+updateOf m = record { consumerId = numberIn 1 (fieldsOf m); assignment = assignmentOf (mergedFields 2 (fieldsOf m)) }
+
+-- ---- CommandScalableTopicSubscribeResponse
+
+-- an error code, which keeps unknown values
+abbrev pub codeOf : Last → ErrorCode
+codeOf (last.Found v) = code.Given (int32Of v)
+codeOf last.Absent = code.Absent
+
+-- there is a part
+abbrev pub present : List (List ℕ) → Bool
+present [] = false
+present (p ∷ ps) = true
+
+pub record WireResponse : Type 0 where
+  pub requestId : ℕ
+  pub error : ErrorCode
+  pub message : List ℕ
+  pub hasAssignment : Bool
+  pub assignment : WireAssignment
+
+unfoldable pub responseOf : List ℕ → WireResponse
+responseOf m =
+    record {
+      requestId = numberIn 1 (fieldsOf m);
+      error = codeOf (lastOf (numbersOf 2 (fieldsOf m)));
+      message = lastPart (partsOf 3 (fieldsOf m));
+      hasAssignment = present (partsOf 4 (fieldsOf m));
+      assignment = assignmentOf (mergedFields 4 (fieldsOf m));
+    }
+
+-- ---- CommandWatchScalableTopicsUpdate
+
+-- ScalableTopicsSnapshot or ScalableTopicsDiff, by its part; none where neither is there
+pub data WireEvent : Type 0 where
+  none : WireEvent
+  snapshot : List ℕ → WireEvent
+  diff : List ℕ → WireEvent
+
+-- the last of fields 2 and 3, or what was there before
+abbrev pub eventBy : WireEvent → ℕ → List ℕ → WireEvent
+eventBy e f p = cond (eqb f 2) (snapshot p) (cond (eqb f 3) (diff p) e)
+
+abbrev pub eventAfter : WireEvent → List Field → WireEvent
+eventAfter e [] = e
+eventAfter e (badKey ∷ fs) = eventAfter e fs
+eventAfter e (field f w (number v) ∷ fs) = eventAfter e fs
+eventAfter e (field f w (bytes p) ∷ fs) = eventAfter (eventBy e f p) fs
+eventAfter e (field f w fixed ∷ fs) = eventAfter e fs
+eventAfter e (field f w cut ∷ fs) = eventAfter e fs
+
+unfoldable pub eventOf : List Field → WireEvent
+eventOf fs = eventAfter none fs
+
+pub record WireWatchUpdate : Type 0 where
+  pub watchId : ℕ
+  pub event : WireEvent
+  pub error : ErrorCode
+  pub message : List ℕ
+
+unfoldable pub watchUpdateOf : List ℕ → WireWatchUpdate
+watchUpdateOf m =
+    record {
+      watchId = numberIn 1 (fieldsOf m);
+      event = eventOf (fieldsOf m);
+      error = codeOf (lastOf (numbersOf 4 (fieldsOf m)));
+      message = lastPart (partsOf 5 (fieldsOf m));
+    }
