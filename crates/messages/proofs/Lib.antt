@@ -1,4 +1,5 @@
 pub mod SchemaLaws
 pub mod FaultLaws
 pub mod ScanLaws
+pub mod PlainLaws
 pub mod Levels

@@ -1,4 +1,5 @@
 pub mod Schema
 pub mod FirstFault
 pub mod Steps
+pub mod Plain
 pub mod Rows

@@ -2,6 +2,7 @@
 //
 // `first_fault` reads a message by the table of its fields and gives the refusal of its first fault in byte order. It takes a part of any length and content.
 // What a message's fields hold is read by other crates, which ask nothing of this pass.
+mod plain;
 mod rule;
 
 ghost use mathlib.Core.Path.{_≡_};
@@ -10,6 +11,7 @@ ghost use Rattle.wire.specs.Field.{keyOf, bodyOf};
 ghost use Rattle.messages.specs.FirstFault.{faultWithin, firstFault};
 ghost use Rattle.messages.specs.Schema.{levels};
 ghost use Rattle.messages.specs.Steps.{headOf, stepOf, partStep};
+use plain::is_plain;
 use refusal::Refusal;
 use rule::complete;
 use rule::field_rule;
@@ -118,6 +120,9 @@ fn value_step(v: ValueKind, w: WireType, s: &[u8]) -> Step
 fn scan(depth: usize, kind: MessageKind, s: &[u8]) -> Checked
     ensures { λ r. ⌜ r ≡ faultWithin depth kind (now (s .entry)) ⌝ }
 {
+    if is_plain(kind, s) {
+        return Checked::Valid;
+    }
     if depth == 0 {
         return Checked::Valid;
     }

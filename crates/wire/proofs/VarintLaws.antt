@@ -2,8 +2,9 @@
 --
 -- In order: the cases of `varintWithin` (`within-nil`, `within-more`, `within-ends`, `within-last`, `within-over`); the varint behind i
 -- bytes that are read already (`shifted`, and its cases at byte i of a part, from `shifted-start` on); no byte and one byte (`varint-nil`,
--- `varint-one`); the weight of byte i and the bounds that keep the sum in 64 bits (`weight-next`, `weight-le`, `sum-below`, `sum-fits-63`,
--- `sum-fits-64`); a varint's length (`varint-size`) and its value (`varint-fits`).
+-- `varint-one`), and one or two that another follows (`varint-behind-one`, `varint-behind-two`); the weight of byte i and the bounds that
+-- keep the sum in 64 bits (`weight-next`, `weight-le`, `sum-below`, `sum-fits-63`, `sum-fits-64`); a varint's length (`varint-size`) and
+-- its value (`varint-fits`).
 --
 -- A caller that goes on behind a varint needs `varint-size` and `varint-fits` alone; the rest serves the readers.
 -- Assumes nothing.
@@ -105,7 +106,7 @@ module _ (s : List ℕ) (i a w : ℕ) where
   pub shifted-over : i ≡ 9 → 9 < length s → 1 < getD s 9 0 → shifted s i a w ≡ Broken
   shifted-over e k g = rw (e, drop-next s 9 k, within-over (getD s 9 0) (drop 10 s) g)
 
--- ---- no byte, and one byte
+-- ---- no byte, one byte, and the first bytes
 
 module _ (s : List ℕ) where
   pub varint-nil : length s ≤ 0 → varintOf s ≡ Broken
@@ -114,6 +115,17 @@ module _ (s : List ℕ) where
   pub varint-one : 0 < length s → getD s 0 0 < 128 → varintOf s ≡ Value (getD s 0 0) 1
   unfolding varintOf
   varint-one h g = rw (drop-next s 0 h) (within-ends (getD s 0 0) (drop 1 s) 8 g)
+
+  -- one byte, or two, that another follows
+  module _ (h : 0 < length s) (g : 128 ≤ getD s 0 0) where
+    pub varint-behind-one : varintOf s ≡ shifted s 1 (getD s 0 0 - 128) 128
+    varint-behind-one =
+        let e : 0 + 1 * (getD s 0 0 - 128) ≡ getD s 0 0 - 128 = omega arith in
+        shifted-start s ∙ shifted-turn s 0 0 1 (omega arith) h g ∙ rw e
+
+    pub varint-behind-two : 1 < length s → 128 ≤ getD s 1 0
+        → varintOf s ≡ shifted s 2 (getD s 0 0 - 128 + 128 * (getD s 1 0 - 128)) 16384
+    varint-behind-two k f = varint-behind-one ∙ shifted-turn s 1 (getD s 0 0 - 128) 128 (omega arith) k f
 
 -- ---- weights and sums
 

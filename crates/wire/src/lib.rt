@@ -8,6 +8,7 @@ ghost use mathlib.Core.Path.{_≡_};
 ghost use Rattle.wire.specs.Field.{keyOf, fixedOf, partOf, bodyOf};
 pub use varint::Varint;
 use varint::read_long_varint;
+pub use varint::read_short_varint;
 pub use varint::read_varint;
 
 // The largest key, 2^32 - 1.

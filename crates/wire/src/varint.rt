@@ -1,6 +1,7 @@
 // Varints read from the front of a part.
 //
-// The two readers give the same answer: `read_varint` is quick where one byte is usual, `read_long_varint` where more are.
+// The three readers give the same answer: `read_varint` is quick where one byte is usual, `read_short_varint` where one to three are,
+// `read_long_varint` where more are.
 ghost use mathlib.Core.Path.{_≡_};
 ghost use Rattle.wire.specs.Varints.{varintOf};
 use parts::wide;
@@ -52,6 +53,34 @@ pub fn read_varint(s: &[u8]) -> Varint
     let b = wide(s[0]);
     if b < 128 {
         return Varint::Value(b, 1);
+    }
+    read_long_varint(s)
+}
+
+// The same, for a varint that mostly has one, two or three bytes, as the numbers of a message do: a test for each byte tells it.
+pub fn read_short_varint(s: &[u8]) -> Varint
+    ensures { λ r. ⌜ r ≡ varintOf (now (s .entry)) ⌝ }
+{
+    if s.len() == 0 {
+        return Varint::Broken;
+    }
+    let a = wide(s[0]);
+    if a < 128 {
+        return Varint::Value(a, 1);
+    }
+    if s.len() == 1 {
+        return Varint::Broken;
+    }
+    let b = wide(s[1]);
+    if b < 128 {
+        return Varint::Value(a - 128 + 128 * b, 2);
+    }
+    if s.len() == 2 {
+        return Varint::Broken;
+    }
+    let c = wide(s[2]);
+    if c < 128 {
+        return Varint::Value(a - 128 + 128 * (b - 128) + 16384 * c, 3);
     }
     read_long_varint(s)
 }

@@ -18,6 +18,7 @@ use Rattle.messages.proofs.ScanLaws.{Scanned, scanned-start, HeadAt, he
 use Rattle.messages.proofs.scan.Reads as scan
 use Rattle.messages.proofs.scan.Kinds as scan-kinds
 use Rattle.messages.proofs.+scan.Lts-scan as scan-lts
+use Rattle.messages.proofs.plain.is_plain.Reads as is-plain-reads
 use Rattle.messages.proofs.read_head.Reads as read-head-reads
 use Rattle.messages.proofs.rule.complete.Reads as complete-reads
 use Rattle.messages.proofs.value_step.Reads as value-step-reads
@@ -42,6 +43,8 @@ abbrev μ-loop : scan-lts.MeasureT-loop
 module _ (t : ℕ) where
   abbrev callees : scan-lts.Claims
   callees = (
+    is-plain-reads.Asked,
+    is-plain-reads.Learnt,
     read-head-reads.Asked,
     read-head-reads.Learnt,
     value-step-reads.Asked,
@@ -68,7 +71,7 @@ module _ (t : ℕ) where
       → StepAt (c .before .before .before .before .before .before .before .before .before .loop .inv) (headed (c .before .before .before)) q
   stepped c q e =
       step-at (c .before .before .before .before .before .before .before .before .before .loop .inv) (headed (c .before .before .before))
-      (c .before .before .if2 .left) q (sym (c .value-step .ensures) ∙ e)
+      (c .before .before .if3 .left) q (sym (c .value-step .ensures) ∙ e)
 
   -- it is passed over
   passed : (c : scan-lts.After-known-told4 callees (scan-at t) scan.Post Inv-loop μ-loop)
@@ -87,24 +90,27 @@ module _ (t : ℕ) where
 pub +scan-spec : {M : Type 1} → statement M
 +scan-spec =
     close μ-scan λ t. scan-lts.spec (callees t) (scan-at t) scan.Post Inv-loop μ-loop
-    -- returns: no depth is left
-    (λ c. rw (c .if1 .taken))
+    -- is-plain-requires, returns: the message is plain
+    (λ c κs. search needs)
+    (λ c. sym (c .before .is-plain .ensures (c .if1 .taken) (c .before .before .before .args .depth)))
+    -- returns-2: no depth is left
+    (λ c. rw (c .if2 .taken))
     -- loop-holds
-    (λ c. scanned-start _ _ _ (c .if1 .left))
+    (λ c. scanned-start _ _ _ (c .if2 .left))
     -- sub-read-head, part-read-head-start, part-read-head-end, read-head-requires, enum-known-x
     (λ c. search needs)
     (λ c. search needs)
     (λ c. search needs)
     (λ c κs. search needs)
     (λ c. search needs)
-    -- returns-2: the key is refused
+    -- returns-3: the key is refused
     (λ c. read-at t (c .before .before .before) (head.Refused _) (c .before .x .given .1))
     -- enum-known-n
     (λ c. search needs)
     -- array-read-if2
     (λ c. headed t c .low)
-    -- returns-3: a repeat
-    (λ c. repeat-at (c .before .before .before .before .before .before .before .loop .inv) (headed t (c .before)) (c .if2 .taken))
+    -- returns-4: a repeat
+    (λ c. repeat-at (c .before .before .before .before .before .before .before .loop .inv) (headed t (c .before)) (c .if3 .taken))
     -- array-write-seen
     (λ c. headed t (c .before) .low)
     -- add-at, sub-value-step, part-value-step-start, part-value-step-end
@@ -115,7 +121,7 @@ pub +scan-spec : {M : Type 1} → statement M
     -- value-step-requires, enum-known-x-2
     (λ c κs. search needs)
     (λ c. search needs)
-    -- returns-4: the length or the value is refused
+    -- returns-5: the length or the value is refused
     (λ c. stepped t (c .before .before .before) (step.Refused _) (c .before .x2 .given .1))
     -- enum-known-m
     (λ c. search needs)
@@ -135,10 +141,10 @@ pub +scan-spec : {M : Type 1} → statement M
     -- scan-requires
     (λ c κs.
     let p = c .before .before .before .before .before .before .before .before .before .before .before .before .before .before in
-    (omega (arith, p .before .before .pre .0, p .if1 .left), tt))
+    (omega (arith, p .before .before .before .before .pre .0, p .if2 .left), tt))
     -- enum-known-x-3
     (λ c. search needs)
-    -- returns-5: the message is refused
+    -- returns-6: the message is refused
     (λ c. nested t (c .before .before .before .before .before) .1 (Refused _)
     (sym (c .before .before .before .scan .ensures) ∙ c .before .x3 .given .1))
     -- enum-told
@@ -151,8 +157,8 @@ pub +scan-spec : {M : Type 1} → statement M
     (λ c. nested t (c .before .before .before .before) .1 Valid (sym (c .before .before .scan .ensures) ∙ c .enum-told .given .1))
     -- complete-requires
     (λ c κs. search needs)
-    -- returns-6, returns-7: the end
+    -- returns-7, returns-8: the end
     (λ c. end-at (c .before .before .before .loop .inv) (c .before .before .loop-test .left) true
-    (sym (c .before .complete .ensures) ∙ c .if3 .taken))
+    (sym (c .before .complete .ensures) ∙ c .if4 .taken))
     (λ c. end-at (c .before .before .before .loop .inv) (c .before .before .loop-test .left) false
-    (sym (c .before .complete .ensures) ∙ c .if3 .left))
+    (sym (c .before .complete .ensures) ∙ c .if4 .left))
