@@ -1,19 +1,20 @@
 -- Laws of a text that is read sequence by sequence.
 --
--- In order: a text is its first sequence and the rest (`text-step`); the end of a slice (`text-end`); a turn of a loop at the place
--- `at` of a slice, where n is the length of the sequence there (`turn-fits`, `turn-stops`, `turn-goes-on`).
+-- In order: a text is its first sequence and the rest (`text-step`); the end of a slice (`text-end`); the steps of a loop at the place `at` of
+-- a slice: a sequence (`passes-sequence`), eight bytes (`passes-eight`), a byte of the first row (`plain-next`).
 -- Assumes nothing.
 use Prim.Native.Nat.{ℕ, zero, suc, _+_, _-_, _≤_, _<_}
 use native.Mathlib.Omega.{arith}
-use mathlib.Core.Path.{_≡_, refl, _∙_}
+use mathlib.Core.Path.{_≡_, refl, sym, _∙_}
 use mathlib.Core.Bool.{true, false, cond}
 use mathlib.Core.List.{List, [], _∷_}
-use lib.ListN.{length, drop, length-drop, drop-of-length-le}
+use lib.ListN.{length, getD, drop, length-drop, drop-of-length-le}
 use lib.Seq.{drop-drop}
 use lib.Dec.{eqb}
 use borrow.Author.Tests.{eq-eqb, ne-eqb}
 use Rattle.utf8.specs.Table.{sequenceOf, textAfter, isUtf8}
-use Rattle.utf8.proofs.RowLaws.{sequence-le}
+use Rattle.utf8.specs.Passes.{Passes}
+use Rattle.utf8.proofs.RowLaws.{first-row, sequence-le}
 
 text-skip : (n : ℕ) (l : List ℕ) → textAfter n l ≡ textAfter 0 (drop n l)
 unfolding textAfter
@@ -38,12 +39,25 @@ text-end s at h = rw (drop-of-length-le s h)
 
 -- ---- a turn of a loop
 
-module _ (s : List ℕ) (at n : ℕ) (h : at < length s) (e : n ≡ sequenceOf (drop at s)) where
-  pub turn-fits : at + n ≤ length s
-  turn-fits = omega (arith, length-drop at s, e, sequence-le (drop at s))
+-- the sequence there, of n bytes
+pub passes-sequence : (s : List ℕ) (at n : ℕ) → at < length s → n ≡ sequenceOf (drop at s) → Passes s at n
+passes-sequence s at n h e =
+    let step : isUtf8 (drop at s) ≡ cond (eqb n 0) false (isUtf8 (drop n (drop at s))) =
+    text-step (drop at s) (omega (arith, length-drop at s)) ∙ rw (← e) in
+    record {
+      inside = omega (arith, length-drop at s, e, sequence-le (drop at s));
+      stops = λ z. step ∙ rw (eq-eqb n 0 z);
+      goes-on = λ z. step ∙ rw (ne-eqb n 0 z, drop-drop n at s);
+    }
 
-  pub turn-stops : n ≡ 0 → isUtf8 (drop at s) ≡ false
-  turn-stops z = text-step (drop at s) (omega (arith, length-drop at s)) ∙ rw (← e, eq-eqb n 0 z)
+-- eight bytes that may be passed over
+pub passes-eight : (s : List ℕ) (at : ℕ) → at + 8 ≤ length s → isUtf8 (drop at s) ≡ isUtf8 (drop (at + 8) s) → Passes s at 8
+passes-eight s at h e = record { inside = h; stops = λ z. absurd (omega arith); goes-on = λ _. e }
 
-  pub turn-goes-on : (n ≡ 0 → ⊥) → isUtf8 (drop at s) ≡ isUtf8 (drop (at + n) s)
-  turn-goes-on z = text-step (drop at s) (omega (arith, length-drop at s)) ∙ rw (← e, ne-eqb n 0 z, drop-drop n at s)
+-- ---- a byte of the first row, i places behind at
+
+pub plain-next : (s : List ℕ) (at i : ℕ) → at + i < length s → getD s (at + i) 0 ≤ 127
+    → isUtf8 (drop (at + i) s) ≡ isUtf8 (drop (at + (i + 1)) s)
+plain-next s at i h b =
+    let e : at + i + 1 ≡ at + (i + 1) = omega arith in
+    passes-sequence s (at + i) 1 h (sym (first-row s (at + i) h b)) .goes-on (λ z. absurd (omega arith)) ∙ rw e

@@ -1,12 +1,13 @@
 // Whether a part is UTF-8, by Unicode's Table 3-7, "Well-Formed UTF-8 Byte Sequences".
 //
-// `sequence` goes through the table's rows in their order; `is_utf8` goes through the part once, sequence by sequence.
+// `sequence` goes through the table's rows in their order; `is_utf8` goes through the part once, sequence by sequence, and eight bytes of the first row at a time.
 ghost use mathlib.Core.Path.{_≡_};
-ghost use mathlib.Core.Bool.{cond};
+ghost use mathlib.Core.Bool.{true, cond};
 ghost use mathlib.Core.List.{[], _∷_};
-ghost use Prim.Native.Nat.{_<_};
+ghost use Prim.Native.Nat.{_+_, _≤_, _<_};
 ghost use lib.ListN.{length, drop};
 ghost use Rattle.utf8.specs.Table.{span, trail, fits, sequenceOf, isUtf8};
+ghost use Rattle.utf8.specs.Passes.{Passes};
 
 // The byte at the place i is there and lies in the span from low to high.
 fn in_span(s: &[u8], i: usize, low: u8, high: u8) -> bool
@@ -87,13 +88,42 @@ fn sequence_at(s: &[u8], at: usize) -> usize
     sequence(&s[at..])
 }
 
+// The eight bytes from a place on are all of the table's first row. They are counted without a branch out of the loop, so that a machine may test them at once.
+fn eight_plain(s: &[u8], at: usize) -> bool
+    requires { ⌜ at + 8 ≤ length (now s) ⌝ }
+    ensures { λ r. ⌜ (r ≡ true → isUtf8 (drop at (now (s .entry))) ≡ isUtf8 (drop (at + 8) (now (s .entry)))) ⌝ }
+{
+    let mut others: usize = 0;
+    let mut i: usize = 0;
+    while i < 8 {
+        if 0x7F < s[at + i] {
+            others = others + 1;
+        }
+        i = i + 1;
+    }
+    others == 0
+}
+
+// How many bytes from a place on are passed over: eight of the first row, or one sequence; 0 where no sequence stands there.
+fn passed(s: &[u8], at: usize) -> usize
+    requires { ⌜ at < length (now s) ⌝ }
+    ensures { λ r. ⌜ Passes (now (s .entry)) at r ⌝ }
+{
+    if 8 <= s.len() - at {
+        if eight_plain(s, at) {
+            return 8;
+        }
+    }
+    sequence_at(s, at)
+}
+
 // The part is UTF-8.
 pub fn is_utf8(s: &[u8]) -> bool
     ensures { λ r. ⌜ r ≡ isUtf8 (now (s .entry)) ⌝ }
 {
     let mut at: usize = 0;
     while at < s.len() {
-        let n = sequence_at(s, at);
+        let n = passed(s, at);
         if n == 0 {
             return false;
         }

@@ -6,7 +6,7 @@ use mathlib.Core.Path.{_≡_, refl, sym, _∙_}
 use borrow.Author.Needs.{needs}
 use lib.ListN.{length, drop}
 use Rattle.utf8.specs.Table.{isUtf8}
-use Rattle.utf8.proofs.TextLaws.{text-end, turn-fits, turn-stops, turn-goes-on}
+use Rattle.utf8.proofs.TextLaws.{text-end}
 use Rattle.utf8.proofs.is_utf8.Statement.{statement}
 use Rattle.utf8.proofs.is_utf8.Tie as tie
 
@@ -19,38 +19,22 @@ abbrev μ-loop : tie.MeasureT-loop
 loop-holds : tie.Need-loop-holds Inv-loop μ-loop
 loop-holds c = (omega arith, refl)
 
-sequence-at-requires : tie.Need-sequence-at-requires Inv-loop μ-loop
-sequence-at-requires c κs = search needs
+passed-requires : tie.Need-passed-requires Inv-loop μ-loop
+passed-requires c κs = search needs
 
 returns : tie.Need-returns Inv-loop μ-loop
-returns c =
-    let l = c .before .before .before .loop in
-    let s = c .before .before .before .before .before .args .s .now in
-    let q = c .before .sequence-at in
-    sym (l .inv .1 ∙ turn-stops s (l .at) (q .result) (omega arith) (q .ensures) (c .if1 .taken))
+returns c = sym (c .before .before .before .loop .inv .1 ∙ c .before .passed .ensures .stops (c .if1 .taken))
 
 add-at : tie.Need-add-at Inv-loop μ-loop
-add-at c =
-    let l = c .before .before .before .loop in
-    let s = c .before .before .before .before .before .args .s .now in
-    let q = c .before .sequence-at in
-    omega (arith, turn-fits s (l .at) (q .result) (omega arith) (q .ensures))
+add-at c = omega (arith, c .before .passed .ensures .inside)
 
 loop-less : tie.Need-loop-less Inv-loop μ-loop
-loop-less c =
-    let l = c .before .before .before .loop in
-    let s = c .before .before .before .before .before .args .s .now in
-    let q = c .before .sequence-at in
-    omega (arith, turn-fits s (l .at) (q .result) (omega arith) (q .ensures))
+loop-less c = omega (arith, c .before .passed .ensures .inside)
 
 loop-again : tie.Need-loop-again Inv-loop μ-loop
 loop-again c =
-    let l = c .before .before .before .loop in
-    let s = c .before .before .before .before .before .args .s .now in
-    let q = c .before .sequence-at in (
-      turn-fits s (l .at) (q .result) (omega arith) (q .ensures),
-      l .inv .1 ∙ turn-goes-on s (l .at) (q .result) (omega arith) (q .ensures) (c .if1 .left),
-    )
+    let p = c .before .passed .ensures in
+    (p .inside, c .before .before .before .loop .inv .1 ∙ p .goes-on (c .if1 .left))
 
 returns-2 : tie.Need-returns-2 Inv-loop μ-loop
 returns-2 c =
@@ -63,7 +47,7 @@ is-utf8-spec =
     Inv-loop
     μ-loop
     loop-holds
-    sequence-at-requires
+    passed-requires
     returns
     add-at
     loop-less
