@@ -116,7 +116,7 @@ fn value_step(v: ValueKind, w: WireType, s: &[u8]) -> Step
     }
 }
 
-// The first fault of a message in byte order, where messages are nested at most depth deep.
+// The first fault of a message in byte order, where messages are nested at most depth deep. One in its usual form is told first: it has none.
 fn scan(depth: usize, kind: MessageKind, s: &[u8]) -> Checked
     ensures { λ r. ⌜ r ≡ faultWithin depth kind (now (s .entry)) ⌝ }
 {
