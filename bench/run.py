@@ -73,7 +73,7 @@ def main():
     print(made)
     if "--write" in sys.argv:
         text = DOCUMENT.read_text(encoding="utf-8")
-        text = re.sub(r"(<!-- scan -->\n).*?(\n<!-- end -->)", lambda match: match[1] + made + match[2], text, flags=re.S)
+        text = re.sub(r"(<!-- scan -->\n).*?(<!-- end -->)", lambda match: match[1] + made + "\n" + match[2], text, flags=re.S)
         DOCUMENT.write_text(text, encoding="utf-8")
 
 
