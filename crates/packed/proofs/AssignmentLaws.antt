@@ -1,0 +1,326 @@
+-- Laws of ranges, segments and packed assignments read where they lie, over plain lists and numbers.
+--
+-- In order: the range and the ranges at a place (`range-at`, `ranges-at`), the record and the records there (`segment-at`, `segments-at`),
+-- and how many there are; a row by its first range (`overlaps-found` to `ok-pass`), and a row that rises (`rising-ok`); segments by their
+-- first (`ok-good`, `ok-head`, `ok-tail`, `ok-weaken`); what `record_at` reads (`Seen`) and answers (`record-short` to `record-good`), and
+-- what its answer says (`Got`, `got`); one turn of reading segments (`size-turn`, `cut`, `stale`, `onward`); a walk over a packed
+-- assignment: from the place p on, m records stand in order and within the bytes (`Rest`: `rest-start`, `rest-head`, `rest-next`).
+--
+-- A caller that walks over a packed assignment needs `segments-at` and `Rest`; the rest serves the readers of src/.
+-- Assumes nothing.
+use Prim.Native.Nat.{ℕ, zero, suc, _+_, _-_, _*_, _≤_, _<_, min}
+use native.Mathlib.Nat.{not-suc-le-zero}
+use native.Mathlib.Numerals.{add-one}
+use native.Mathlib.Omega.{arith}
+use mathlib.Core.Path.{_≡_, refl, sym, ap, _∙_, subst}
+use mathlib.Core.Bool.{Bool, true, false, not, _&&_, _||_, and-false, and-true}
+use mathlib.Core.List.{List, [], _∷_}
+use lib.ListN.{length, drop}
+use lib.Seq.{drop-drop}
+use lib.Dec.{leb}
+use borrow.Author.Tests.{le-leb, lt-leb, leb-true, leb-false}
+use Rattle.types.specs.declared.KeyRange.{KeyRange}
+use Rattle.types.specs.KeyRanges.{keyRange}
+use Rattle.ranges.specs.Meaning.{both-true}
+use Rattle.ranges.specs.Overlap.{overlap, overlapsAny, anyOverlap, startsFrom, risingFrom}
+use Rattle.ranges.proofs.OverlapLaws.{rising-apart}
+use Rattle.packed_int.specs.Be.{beAt}
+use Rattle.packed.specs.Assignment.{AssignedSegment, slotSize, num, rangeOf, rangesOf, segmentOf, segmentsOf, assignmentOf}
+use Rattle.packed.specs.Assignment.{sizeSegment, sizeSegments, sizeAssignment, inOrder, allInOrder, okBuckets, okSegment, okFrom}
+use Rattle.packed.specs.Assignment.{okAssignment, startsAssignment}
+use Rattle.packed.specs.Answers.{recordGood, recordRead}
+use Rattle.packed.specs.declared.RecordRead.the-variants.{Record, Malformed}
+
+-- ---- ranges at a place
+
+-- the range whose two numbers were read there
+pub range-at : (s : List ℕ) (at a b : ℕ) → a ≡ beAt 2 s at → b ≡ beAt 2 s (at + 2) → keyRange a b ≡ rangeOf (drop at s)
+unfolding rangeOf num beAt
+range-at s at a b ea eb = cc (drop-drop 2 at s)
+
+-- n is not 0: the first, and the others
+ranges-step : (n : ℕ) (l : List ℕ) → 0 < n → rangesOf n l ≡ rangeOf l ∷ rangesOf (n - 1) (drop 4 l)
+unfolding rangesOf
+ranges-step zero l h = absurd (not-suc-le-zero h)
+ranges-step (suc n) l h = let e : n ≡ suc n - 1 = omega arith in ap (λ (k : ℕ). rangeOf l ∷ rangesOf k (drop 4 l)) e
+
+pub ranges-at : (s : List ℕ) (p n : ℕ) (r : KeyRange) → 0 < n → r ≡ rangeOf (drop p s)
+    → rangesOf n (drop p s) ≡ r ∷ rangesOf (n - 1) (drop (p + 4) s)
+ranges-at s p n r h e =
+    ranges-step n (drop p s) h
+    ∙ ap (λ (l : List ℕ). rangeOf (drop p s) ∷ rangesOf (n - 1) l) (drop-drop 4 p s)
+    ∙ ap (λ (x : KeyRange). x ∷ rangesOf (n - 1) (drop (p + 4) s)) (sym e)
+
+pub ranges-none : (n : ℕ) (l : List ℕ) → n ≤ 0 → rangesOf n l ≡ []
+unfolding rangesOf
+ranges-none n l h = let e : n ≡ 0 = omega arith in ap (λ (k : ℕ). rangesOf k l) e
+
+pub length-rangesOf : (n : ℕ) (l : List ℕ) → length (rangesOf n l) ≡ n
+unfolding rangesOf
+length-rangesOf zero l = refl
+length-rangesOf (suc n) l = ap suc (length-rangesOf n (drop 4 l))
+
+-- ---- records at a place
+
+-- the record whose id, range and count were read there
+pub segment-at : (s : List ℕ) (at i : ℕ) (r : KeyRange) (n : ℕ) → i ≡ beAt 8 s at → r ≡ rangeOf (drop (at + 8) s) → n ≡ beAt 2 s (at + 12)
+    → segmentOf (drop at s) ≡ record { segmentId = i; range = r; buckets = rangesOf n (drop (at + 14) s) }
+unfolding segmentOf num beAt
+segment-at s at i r n ei er en = cc (drop-drop 8 at s, drop-drop 12 at s, drop-drop 14 at s)
+
+pub size-least : (g : AssignedSegment) → 14 ≤ sizeSegment g
+unfolding sizeSegment
+size-least g = omega arith
+
+segments-step : (n : ℕ) (l : List ℕ) → 0 < n
+    → segmentsOf n l ≡ segmentOf l ∷ segmentsOf (n - 1) (drop (sizeSegment (segmentOf l)) l)
+unfolding segmentsOf
+segments-step zero l h = absurd (not-suc-le-zero h)
+segments-step (suc n) l h =
+    let e : n ≡ suc n - 1 = omega arith in ap (λ (k : ℕ). segmentOf l ∷ segmentsOf k (drop (sizeSegment (segmentOf l)) l)) e
+
+pub segments-at : (s : List ℕ) (p n z : ℕ) → 0 < n → z ≡ sizeSegment (segmentOf (drop p s))
+    → segmentsOf n (drop p s) ≡ segmentOf (drop p s) ∷ segmentsOf (n - 1) (drop (p + z) s)
+segments-at s p n z h e =
+    segments-step n (drop p s) h
+    ∙ ap (λ (k : ℕ). segmentOf (drop p s) ∷ segmentsOf (n - 1) (drop k (drop p s))) (sym e)
+    ∙ ap (λ (l : List ℕ). segmentOf (drop p s) ∷ segmentsOf (n - 1) l) (drop-drop z p s)
+
+pub length-segmentsOf : (n : ℕ) (l : List ℕ) → length (segmentsOf n l) ≡ n
+unfolding segmentsOf
+length-segmentsOf zero l = refl
+length-segmentsOf (suc n) l = ap suc (length-segmentsOf n (drop (sizeSegment (segmentOf l)) l))
+
+-- the segments of a packed assignment, by the count that was read
+pub first-segments : (s : List ℕ) (n : ℕ) → n ≡ beAt 2 s 8 → assignmentOf s .segments ≡ segmentsOf n (drop 10 s)
+unfolding assignmentOf num beAt
+first-segments s n e = ap (λ (k : ℕ). segmentsOf k (drop 10 s)) (sym e)
+
+-- ---- buckets
+
+-- the tests of the first range of a row decide, or leave it to the others
+module _ (r : KeyRange) (rs : List KeyRange) where
+  pub overlaps-found : (x : KeyRange) → overlap r x ≡ true → overlapsAny x (r ∷ rs) ≡ true
+  unfolding overlapsAny
+  overlaps-found x e = ap (λ (t : Bool). t || overlapsAny x rs) e
+
+  pub overlaps-further : (x : KeyRange) → overlap r x ≡ false → overlapsAny x (r ∷ rs) ≡ overlapsAny x rs
+  unfolding overlapsAny
+  overlaps-further x e = ap (λ (t : Bool). t || overlapsAny x rs) e
+
+  pub rising-stops : (low : ℕ) → startsFrom low r ≡ false → risingFrom low (r ∷ rs) ≡ false
+  unfolding risingFrom
+  rising-stops low e = ap (λ (t : Bool). t && risingFrom (suc (r .end)) rs) e
+
+  pub rising-further : (low high : ℕ) → startsFrom low r ≡ true → high ≡ r .end + 1 → risingFrom low (r ∷ rs) ≡ risingFrom high rs
+  unfolding risingFrom
+  rising-further low high e f =
+      ap (λ (t : Bool). t && risingFrom (suc (r .end)) rs) e
+      ∙ ap (λ (k : ℕ). risingFrom k rs) (sym (add-one (r .end)) ∙ sym f)
+
+  pub ok-reversed : r .end < r .start → okBuckets (r ∷ rs) ≡ false
+  unfolding okBuckets allInOrder
+  ok-reversed h = simp (lt-leb (r .start) (r .end) h)
+
+  pub ok-clash : overlapsAny r rs ≡ true → okBuckets (r ∷ rs) ≡ false
+  unfolding okBuckets anyOverlap
+  ok-clash e = simp (e, and-false)
+
+  pub ok-pass : r .start ≤ r .end → overlapsAny r rs ≡ false → okBuckets (r ∷ rs) ≡ okBuckets rs
+  unfolding okBuckets allInOrder anyOverlap
+  ok-pass h e = simp (le-leb (r .start) (r .end) h, e)
+
+rising-in-order : (low : ℕ) (rs : List KeyRange) → risingFrom low rs ≡ true → allInOrder rs ≡ true
+unfolding risingFrom allInOrder
+rising-in-order low [] e = refl
+rising-in-order low (r ∷ rs) e =
+    let p : (startsFrom low r ≡ true) × (risingFrom (suc (r .end)) rs ≡ true) = both-true _ _ e in
+    let q : (leb low (r .start) ≡ true) × (inOrder r ≡ true) = both-true _ _ (p .0) in
+    simp (q .1) (rising-in-order (suc (r .end)) rs (p .1))
+
+pub rising-ok : (low : ℕ) (rs : List KeyRange) → risingFrom low rs ≡ true → okBuckets rs ≡ true
+unfolding okBuckets
+rising-ok low rs e = simp (rising-in-order low rs e, rising-apart low rs e)
+
+-- ---- segments
+
+module _ (low : ℕ) (g : AssignedSegment) (gs : List AssignedSegment) (e : okFrom low (g ∷ gs) ≡ true) where
+  pub ok-good : okSegment g ≡ true
+  unfolding okFrom
+  ok-good = both-true (okSegment g) _ e .0
+
+  pub ok-head : low ≤ g .segmentId
+  unfolding okFrom
+  ok-head = leb-true low (g .segmentId) (both-true (leb low (g .segmentId)) _ (both-true (okSegment g) _ e .1) .0)
+
+  pub ok-tail : okFrom (suc (g .segmentId)) gs ≡ true
+  unfolding okFrom
+  ok-tail = both-true (leb low (g .segmentId)) _ (both-true (okSegment g) _ e .1) .1
+
+pub ok-weaken : (low : ℕ) (gs : List AssignedSegment) → okFrom low gs ≡ true → okFrom 0 gs ≡ true
+unfolding okFrom
+ok-weaken low [] e = refl
+ok-weaken low (g ∷ gs) e = simp (ok-good low g gs e, le-leb 0 (g .segmentId) (omega arith), ok-tail low g gs e)
+
+-- two upper bounds are one
+leb-min : (a m n : ℕ) (x : Bool) → (leb a m && (leb a n && x)) ≡ (leb a (min m n) && x)
+leb-min a m n x = go (leb a m) (leb a n) refl refl
+  where
+    go : (t u : Bool) → leb a m ≡ t → leb a n ≡ u → (leb a m && (leb a n && x)) ≡ (leb a (min m n) && x)
+    go true true e f = let p = leb-true a m e in let q = leb-true a n f in simp (e, f, le-leb a (min m n) (omega arith))
+    go false u e f = let p = leb-false a m e in simp (e, lt-leb a (min m n) (omega arith))
+    go true false e f = let q = leb-false a n f in simp (e, f, lt-leb a (min m n) (omega arith))
+
+-- a packed assignment ends by the end of the bytes and of the slot
+pub starts : (s : List ℕ)
+    → startsAssignment s ≡ (leb (sizeAssignment (assignmentOf s)) (min (length s) slotSize) && okFrom 0 (assignmentOf s .segments))
+unfolding startsAssignment okAssignment
+starts s = leb-min (sizeAssignment (assignmentOf s)) (length s) slotSize (okFrom 0 (assignmentOf s .segments))
+
+-- ---- what `record_at` reads at a place, and answers
+
+pub record Seen (s : List ℕ) (at i : ℕ) (r : KeyRange) (n : ℕ) : Type 0 where
+  pub id-is : i ≡ beAt 8 s at
+  pub range-is : r ≡ rangeOf (drop (at + 8) s)
+  pub count-is : n ≡ beAt 2 s (at + 12)
+
+pub record-short : (s : List ℕ) (at end : ℕ) → end < at + sizeSegment (segmentOf (drop at s)) → Malformed ≡ recordRead s at end
+unfolding recordRead recordGood
+record-short s at end h = simp (lt-leb _ _ h)
+
+module _ (s : List ℕ) (at i : ℕ) (r : KeyRange) (n : ℕ) (x : Seen s at i r n) where
+  seen-segment : segmentOf (drop at s) ≡ record { segmentId = i; range = r; buckets = rangesOf n (drop (at + 14) s) }
+  seen-segment = segment-at s at i r n (x .id-is) (x .range-is) (x .count-is)
+
+  pub seen-size : sizeSegment (segmentOf (drop at s)) ≡ 14 + 4 * n
+  unfolding sizeSegment
+  seen-size = ap sizeSegment seen-segment ∙ ap (λ (k : ℕ). 14 + 4 * k) (length-rangesOf n (drop (at + 14) s))
+
+  seen-ok : okSegment (segmentOf (drop at s)) ≡ (inOrder r && okBuckets (rangesOf n (drop (at + 14) s)))
+  unfolding okSegment
+  seen-ok = ap okSegment seen-segment
+
+  module _ (end : ℕ) where
+    record-bad : okSegment (segmentOf (drop at s)) ≡ false → Malformed ≡ recordRead s at end
+    unfolding recordRead recordGood
+    record-bad e = simp (e, and-false)
+
+    pub record-reversed : r .end < r .start → Malformed ≡ recordRead s at end
+    record-reversed h = record-bad (seen-ok ∙ simp (lt-leb (r .start) (r .end) h))
+
+    module _ (h : r .start ≤ r .end) (t : Bool) (e : t ≡ okBuckets (rangesOf n (drop (at + 14) s))) where
+      pub record-clash : t ≡ false → Malformed ≡ recordRead s at end
+      record-clash f = record-bad (seen-ok ∙ simp (le-leb (r .start) (r .end) h, ← e, f))
+
+      pub record-good : t ≡ true → at + 14 + 4 * n ≤ end → Record i (14 + 4 * n) ≡ recordRead s at end
+      unfolding recordRead recordGood
+      record-good f k =
+          let o : okSegment (segmentOf (drop at s)) ≡ true = seen-ok ∙ simp (le-leb (r .start) (r .end) h, ← e, f) in
+          let q : leb (at + (14 + 4 * n)) end ≡ true = le-leb (at + (14 + 4 * n)) end (omega arith) in
+          let d : segmentOf (drop at s) .segmentId ≡ i = ap (λ (g : AssignedSegment). g .segmentId) seen-segment in
+          simp (q, o, seen-size, d)
+
+-- ---- what the answer of `record_at` says
+
+pub record Got (s : List ℕ) (p end i z : ℕ) : Type 0 where
+  pub id-is : i ≡ segmentOf (drop p s) .segmentId
+  pub size-is : z ≡ sizeSegment (segmentOf (drop p s))
+  pub fits : p + sizeSegment (segmentOf (drop p s)) ≤ end
+  pub ok : okSegment (segmentOf (drop p s)) ≡ true
+
+pub got : (s : List ℕ) (p end i z : ℕ) → Record i z ≡ recordRead s p end → Got s p end i z
+unfolding recordRead recordGood
+got s p end i z e = go (recordGood s p end) refl
+  where
+    go : (t : Bool) → recordGood s p end ≡ t → Got s p end i z
+    go true h =
+        let f : Record i z ≡ Record (segmentOf (drop p s) .segmentId) (sizeSegment (segmentOf (drop p s))) = e ∙ rw h in
+        let b = both-true _ _ h in
+        record { id-is = cc; size-is = cc; fits = leb-true _ _ (b .0); ok = b .1 }
+    go false h =
+        let f : Record i z ≡ Malformed = e ∙ rw h in
+        let z : _≡_ {A = ℕ} 0 1 = cc in
+        absurd (omega arith)
+
+not-good : (s : List ℕ) (p end : ℕ) → Malformed ≡ recordRead s p end → recordGood s p end ≡ false
+unfolding recordRead
+not-good s p end e = go (recordGood s p end) refl
+  where
+    go : (t : Bool) → recordGood s p end ≡ t → recordGood s p end ≡ false
+    go true h =
+        let f : Malformed ≡ Record (segmentOf (drop p s) .segmentId) (sizeSegment (segmentOf (drop p s))) = e ∙ rw h in
+        let z : _≡_ {A = ℕ} 0 1 = cc in
+        absurd (omega arith)
+    go false h = h
+
+-- ---- one turn of reading segments: what is left decides the whole
+
+-- n segments from the place p on end by the place end, are good, and their ids rise from low on
+abbrev pub rest : List ℕ → ℕ → ℕ → ℕ → ℕ → Bool
+rest s end p n low = leb (p + sizeSegments (segmentsOf n (drop p s))) end && okFrom low (segmentsOf n (drop p s))
+
+pub size-turn : (s : List ℕ) (p n z : ℕ) → 0 < n → z ≡ sizeSegment (segmentOf (drop p s))
+    → p + sizeSegments (segmentsOf n (drop p s)) ≡ p + z + sizeSegments (segmentsOf (n - 1) (drop (p + z) s))
+unfolding sizeSegments
+size-turn s p n z h e = ap (λ (l : List AssignedSegment). p + sizeSegments l) (segments-at s p n z h e) ∙ omega arith
+
+module _ (s : List ℕ) (p n low end : ℕ) (h : 0 < n) where
+  ok-turn : (z : ℕ) → z ≡ sizeSegment (segmentOf (drop p s))
+      → okFrom low (segmentsOf n (drop p s))
+      ≡ (okSegment (segmentOf (drop p s)) && (leb low (segmentOf (drop p s) .segmentId)
+      && okFrom (suc (segmentOf (drop p s) .segmentId)) (segmentsOf (n - 1) (drop (p + z) s))))
+  unfolding okFrom
+  ok-turn z e = ap (okFrom low) (segments-at s p n z h e)
+
+  -- no good record stands there
+  pub cut : Malformed ≡ recordRead s p end → rest s end p n low ≡ false
+  unfolding recordGood
+  cut e = go (okSegment (segmentOf (drop p s))) refl
+    where
+      go : (t : Bool) → okSegment (segmentOf (drop p s)) ≡ t → rest s end p n low ≡ false
+      go false f = simp (ok-turn (sizeSegment (segmentOf (drop p s))) refl, f, and-false)
+      go true f =
+          let k : (leb (p + sizeSegment (segmentOf (drop p s))) end && okSegment (segmentOf (drop p s))) ≡ false = not-good s p end e in
+          let m : leb (p + sizeSegment (segmentOf (drop p s))) end ≡ false = sym (and-true _) ∙ simp f at k in
+          let q : end < p + sizeSegment (segmentOf (drop p s)) = leb-false (p + sizeSegment (segmentOf (drop p s))) end m in
+          simp (lt-leb (p + sizeSegments (segmentsOf n (drop p s))) end
+          (rw (size-turn s p n (sizeSegment (segmentOf (drop p s))) h refl) (omega arith)))
+
+  module _ (i z : ℕ) (g : Got s p end i z) where
+    -- its id does not rise
+    pub stale : i < low → rest s end p n low ≡ false
+    stale k = simp (ok-turn z (g .size-is), g .ok, ← (g .id-is), lt-leb low i k, and-false)
+
+    pub onward : low ≤ i → rest s end p n low ≡ rest s end (p + z) (n - 1) (suc i)
+    onward k = simp (size-turn s p n z h (g .size-is), ok-turn z (g .size-is), g .ok, ← (g .id-is), le-leb low i k)
+
+-- ---- a walk over a packed assignment
+
+pub record Rest (s : List ℕ) (p m : ℕ) : Type 0 where
+  pub fits : p + sizeSegments (segmentsOf m (drop p s)) ≤ length s
+  pub ok : okFrom 0 (segmentsOf m (drop p s)) ≡ true
+
+pub rest-start : (s : List ℕ) (m : ℕ) → startsAssignment s ≡ true → m ≡ beAt 2 s 8 → Rest s 10 m
+unfolding startsAssignment okAssignment sizeAssignment
+rest-start s m h e =
+    let a = both-true (leb (sizeAssignment (assignmentOf s)) (length s)) _ h in
+    let b = both-true (leb (sizeAssignment (assignmentOf s)) slotSize) _ (a .1) in
+    let f : assignmentOf s .segments ≡ segmentsOf m (drop 10 s) = first-segments s m e in
+    record {
+      fits = subst (λ (l : List AssignedSegment). 10 + sizeSegments l ≤ length s) f (leb-true _ _ (a .0));
+      ok = subst (λ (l : List AssignedSegment). okFrom 0 l ≡ true) f (b .1);
+    }
+
+module _ (s : List ℕ) (p m z : ℕ) (h : 0 < m) (e : z ≡ sizeSegment (segmentOf (drop p s))) (r : Rest s p m) where
+  pub rest-head : p + z ≤ length s
+  rest-head = omega (arith, size-turn s p m z h e, r .fits)
+
+  pub rest-next : Rest s (p + z) (m - 1)
+  rest-next =
+      let gs : List AssignedSegment = segmentsOf (m - 1) (drop (p + z) s) in
+      let o : okFrom 0 (segmentOf (drop p s) ∷ gs) ≡ true =
+      subst (λ (l : List AssignedSegment). okFrom 0 l ≡ true) (segments-at s p m z h e) (r .ok) in
+      record {
+        fits = omega (arith, size-turn s p m z h e, r .fits);
+        ok = ok-weaken (suc (segmentOf (drop p s) .segmentId)) gs (ok-tail 0 (segmentOf (drop p s)) gs o);
+      }

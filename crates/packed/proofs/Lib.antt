@@ -1,0 +1,3 @@
+pub mod AssignmentLaws
+mod FrontLaws
+pub mod RoundLaws

@@ -1,0 +1,31 @@
+-- What the readers of src/ answer.
+-- Assumes nothing.
+use Prim.Native.Nat.{ℕ, _+_}
+use mathlib.Core.Bool.{Bool, cond, _&&_}
+use mathlib.Core.List.{List}
+use lib.ListN.{length, drop}
+use lib.Dec.{leb}
+use Rattle.packed.specs.declared.RecordRead.{RecordRead}
+use Rattle.packed.specs.declared.RecordRead.the-variants as read
+use Rattle.packed.specs.declared.Packed.{Packed}
+use Rattle.packed.specs.declared.Packed.the-variants as packed
+use Rattle.packed.specs.Assignment.{segmentOf, sizeSegment, okSegment, assignmentOf, sizeAssignment, startsAssignment, isAssignment}
+
+-- a good record stands at the place at and ends by the place end
+unfoldable pub recordGood : List ℕ → ℕ → ℕ → Bool
+recordGood s at end = leb (at + sizeSegment (segmentOf (drop at s))) end && okSegment (segmentOf (drop at s))
+
+-- its id and its size
+unfoldable pub recordRead : List ℕ → ℕ → ℕ → RecordRead
+recordRead s at end =
+    cond (recordGood s at end) (read.Record (segmentOf (drop at s) .segmentId) (sizeSegment (segmentOf (drop at s)))) read.Malformed
+
+-- the packed assignment at the front of a slot: its size and how many segments it has
+unfoldable pub frontRead : List ℕ → Packed
+frontRead l =
+    cond (startsAssignment l) (packed.Assignment (sizeAssignment (assignmentOf l)) (length (assignmentOf l .segments))) packed.Malformed
+
+-- a packed assignment that is lent alone
+unfoldable pub wholeRead : List ℕ → Packed
+wholeRead l =
+    cond (isAssignment l) (packed.Assignment (sizeAssignment (assignmentOf l)) (length (assignmentOf l .segments))) packed.Malformed

@@ -1,0 +1,122 @@
+-- The packed assignment (01's sheet): its value, the bytes that stand for it, and the value that bytes stand for.
+--
+-- "epoch 64 bits, segment count 16; each segment: id 64, start 16, end 16, bucket count 16, then start 16 and end 16 per bucket", most significant bit first.
+-- Reading is total: `assignmentOf` gives what the bytes say, whatever they are, and `startsAssignment` tests afterwards whether they may say it. What stands behind a
+-- packed assignment in a slot is not looked at; lent alone, nothing may stand there.
+-- Assumes nothing.
+use Prim.Native.Nat.{ℕ, zero, suc, _+_, _*_}
+use mathlib.Core.Bool.{Bool, true, not, _&&_}
+use mathlib.Core.List.{List, [], _∷_, _++_}
+use lib.ListN.{length, take, drop}
+use lib.Dec.{leb, eqb}
+use Rattle.types.specs.declared.KeyRange.{KeyRange}
+use Rattle.types.specs.KeyRanges.{keyRange}
+use Rattle.ranges.specs.Overlap.{anyOverlap}
+use Rattle.packed_int.specs.Be.{be, bytesOf}
+
+-- the most bytes of a packed assignment: a slot
+abbrev pub slotSize : ℕ
+slotSize = 2048
+
+-- ---- values
+
+pub record AssignedSegment : Type 0 where
+  pub segmentId : ℕ
+  pub range : KeyRange
+  pub buckets : List KeyRange
+
+pub record ConsumerAssignment : Type 0 where
+  pub layoutEpoch : ℕ
+  pub segments : List AssignedSegment
+
+-- ---- from a value to bytes
+
+unfoldable pub encodeRange : KeyRange → List ℕ
+encodeRange r = bytesOf 2 (r .start) ++ bytesOf 2 (r .end)
+
+unfoldable pub encodeRanges : List KeyRange → List ℕ
+encodeRanges [] = []
+encodeRanges (r ∷ rs) = encodeRange r ++ encodeRanges rs
+
+unfoldable pub encodeSegment : AssignedSegment → List ℕ
+encodeSegment g =
+    bytesOf 8 (g .segmentId) ++ (encodeRange (g .range) ++ (bytesOf 2 (length (g .buckets)) ++ encodeRanges (g .buckets)))
+
+unfoldable pub encodeSegments : List AssignedSegment → List ℕ
+encodeSegments [] = []
+encodeSegments (g ∷ gs) = encodeSegment g ++ encodeSegments gs
+
+unfoldable pub encodeAssignment : ConsumerAssignment → List ℕ
+encodeAssignment a = bytesOf 8 (a .layoutEpoch) ++ (bytesOf 2 (length (a .segments)) ++ encodeSegments (a .segments))
+
+-- ---- how many bytes those are
+
+unfoldable pub sizeSegment : AssignedSegment → ℕ
+sizeSegment g = 14 + 4 * length (g .buckets)
+
+unfoldable pub sizeSegments : List AssignedSegment → ℕ
+sizeSegments [] = 0
+sizeSegments (g ∷ gs) = sizeSegment g + sizeSegments gs
+
+unfoldable pub sizeAssignment : ConsumerAssignment → ℕ
+sizeAssignment a = 10 + sizeSegments (a .segments)
+
+-- ---- from bytes to a value, whatever the bytes are
+
+-- the number of the first w bytes
+unfoldable pub num : ℕ → List ℕ → ℕ
+num w l = be (take w l)
+
+unfoldable pub rangeOf : List ℕ → KeyRange
+rangeOf l = keyRange (num 2 l) (num 2 (drop 2 l))
+
+unfoldable pub rangesOf : ℕ → List ℕ → List KeyRange
+rangesOf zero l = []
+rangesOf (suc n) l = rangeOf l ∷ rangesOf n (drop 4 l)
+
+unfoldable pub segmentOf : List ℕ → AssignedSegment
+segmentOf l =
+    record { segmentId = num 8 l; range = rangeOf (drop 8 l); buckets = rangesOf (num 2 (drop 12 l)) (drop 14 l) }
+
+unfoldable pub segmentsOf : ℕ → List ℕ → List AssignedSegment
+segmentsOf zero l = []
+segmentsOf (suc n) l = segmentOf l ∷ segmentsOf n (drop (sizeSegment (segmentOf l)) l)
+
+unfoldable pub assignmentOf : List ℕ → ConsumerAssignment
+assignmentOf l = record { layoutEpoch = num 8 l; segments = segmentsOf (num 2 (drop 8 l)) (drop 10 l) }
+
+-- ---- which values are packed assignments
+
+-- the range is not reversed
+abbrev pub inOrder : KeyRange → Bool
+inOrder r = leb (r .start) (r .end)
+
+unfoldable pub allInOrder : List KeyRange → Bool
+allInOrder [] = true
+allInOrder (r ∷ rs) = inOrder r && allInOrder rs
+
+-- no range is "reversed", no two are "sharing a value"
+unfoldable pub okBuckets : List KeyRange → Bool
+okBuckets rs = allInOrder rs && not (anyOverlap rs)
+
+unfoldable pub okSegment : AssignedSegment → Bool
+okSegment g = inOrder (g .range) && okBuckets (g .buckets)
+
+-- the segments are good, and "ids rise strictly", from low on
+unfoldable pub okFrom : ℕ → List AssignedSegment → Bool
+okFrom low [] = true
+okFrom low (g ∷ gs) = okSegment g && (leb low (g .segmentId) && okFrom (suc (g .segmentId)) gs)
+
+-- "At most 2,048 bytes."
+unfoldable pub okAssignment : ConsumerAssignment → Bool
+okAssignment a = leb (sizeAssignment a) slotSize && okFrom 0 (a .segments)
+
+-- ---- bytes that are, or start with, a packed assignment
+
+-- in a slot: it does not end early, and what follows is not looked at
+unfoldable pub startsAssignment : List ℕ → Bool
+startsAssignment l = leb (sizeAssignment (assignmentOf l)) (length l) && okAssignment (assignmentOf l)
+
+-- lent alone: nothing is left over
+unfoldable pub isAssignment : List ℕ → Bool
+isAssignment l = startsAssignment l && eqb (sizeAssignment (assignmentOf l)) (length l)

@@ -1,0 +1,3 @@
+pub mod Assignment
+pub mod Answers
+pub mod Rows

@@ -1,0 +1,185 @@
+// Packed assignments read where they lie: 01's sheets.
+//
+// `read_front` tests the one at the front of a slot, `read_whole` one that is lent alone. Both are linear where the buckets of each segment rise; only others are
+// compared pairwise.
+ghost use mathlib.Core.Path.{_≡_};
+ghost use Prim.Native.Nat.{_+_, _*_, _≤_, min};
+ghost use mathlib.Core.Bool.{not, _&&_};
+ghost use lib.ListN.{length, drop};
+ghost use Rattle.types.specs.KeyRanges.{keyRange};
+ghost use Rattle.ranges.specs.Overlap.{overlapsAny, risingFrom};
+ghost use Rattle.packed.specs.Assignment.{rangeOf, rangesOf, okBuckets};
+ghost use Rattle.packed.specs.Answers.{recordRead, frontRead, wholeRead};
+use types::KeyRange;
+
+// The most bytes of a packed assignment: a slot.
+pub const SLOT: usize = 2048;
+
+// What stands at a record's place.
+pub enum RecordRead {
+    // Its id, and its size in bytes.
+    Record(u64, usize),
+    Malformed,
+}
+
+// What bytes are.
+pub enum Packed {
+    // A packed assignment: its size in bytes, and how many segments it has.
+    Assignment(usize, usize),
+    Malformed,
+}
+
+// The range in the 4 bytes from a place on.
+pub fn range_at(s: &[u8], at: usize) -> KeyRange
+    requires { ⌜ at + 4 ≤ length (now s) ⌝ }
+    ensures { λ r. ⌜ r ≡ rangeOf (drop at (now (s .entry))) ⌝ }
+{
+    let start = packed_int::read_u16(s, at) as u32;
+    let end = packed_int::read_u16(s, at + 2) as u32;
+    KeyRange { start, end }
+}
+
+// The n ranges from a place on rise.
+fn buckets_rise(s: &[u8], at: usize, n: usize) -> bool
+    requires { ⌜ at + 4 * n ≤ length (now s) ⌝ }
+    ensures { λ r. ⌜ r ≡ risingFrom 0 (rangesOf n (drop at (now (s .entry)))) ⌝ }
+{
+    let mut low: u64 = 0;
+    let mut p = at;
+    let mut left = n;
+    while 0 < left {
+        let range = range_at(s, p);
+        if !ranges::starts_from(low, range) {
+            return false;
+        }
+        low = ranges::above(range);
+        p = p + 4;
+        left = left - 1;
+    }
+    true
+}
+
+// One of the n ranges from a place on shares a value with the range.
+fn bucket_overlaps(s: &[u8], at: usize, n: usize, range: KeyRange) -> bool
+    requires { ⌜ at + 4 * n ≤ length (now s) ⌝ }
+    ensures { λ r. ⌜ r ≡ overlapsAny range (rangesOf n (drop at (now (s .entry)))) ⌝ }
+{
+    let mut p = at;
+    let mut left = n;
+    while 0 < left {
+        if ranges::overlaps(range_at(s, p), range) {
+            return true;
+        }
+        p = p + 4;
+        left = left - 1;
+    }
+    false
+}
+
+// No range of the n from a place on is reversed, and no two share a value: every pair is compared.
+fn buckets_apart(s: &[u8], at: usize, n: usize) -> bool
+    requires { ⌜ at + 4 * n ≤ length (now s) ⌝ }
+    ensures { λ r. ⌜ r ≡ okBuckets (rangesOf n (drop at (now (s .entry)))) ⌝ }
+{
+    let mut p = at;
+    let mut left = n;
+    while 0 < left {
+        let range = range_at(s, p);
+        if range.end < range.start {
+            return false;
+        }
+        p = p + 4;
+        left = left - 1;
+        if bucket_overlaps(s, p, left, range) {
+            return false;
+        }
+    }
+    true
+}
+
+// The n ranges from a place on may be a segment's buckets.
+pub fn buckets_ok(s: &[u8], at: usize, n: usize) -> bool
+    requires { ⌜ at + 4 * n ≤ length (now s) ⌝ }
+    ensures { λ r. ⌜ r ≡ okBuckets (rangesOf n (drop at (now (s .entry)))) ⌝ }
+{
+    if buckets_rise(s, at, n) {
+        return true;
+    }
+    buckets_apart(s, at, n)
+}
+
+// The record at the place at, which has to end by the place end.
+pub fn record_at(s: &[u8], at: usize, end: usize) -> RecordRead
+    requires { ⌜ (at ≤ end) × (end ≤ length (now s)) ⌝ }
+    ensures { λ r. ⌜ r ≡ recordRead (now (s .entry)) at end ⌝ }
+{
+    if end - at < 14 {
+        return RecordRead::Malformed;
+    }
+    let id = packed_int::read_u64(s, at);
+    let range = range_at(s, at + 8);
+    let count = packed_int::read_u16(s, at + 12) as usize;
+    if (end - at - 14) / 4 < count {
+        return RecordRead::Malformed;
+    }
+    if range.end < range.start {
+        return RecordRead::Malformed;
+    }
+    if buckets_ok(s, at + 14, count) {
+        RecordRead::Record(id, 14 + 4 * count)
+    } else {
+        RecordRead::Malformed
+    }
+}
+
+fn least(a: usize, b: usize) -> usize
+    ensures { λ r. ⌜ r ≡ min a b ⌝ }
+{
+    if a < b { a } else { b }
+}
+
+// The packed assignment at the front of a slot; what follows it is not looked at.
+pub fn read_front(s: &[u8]) -> Packed
+    ensures { λ r. ⌜ r ≡ frontRead (now (s .entry)) ⌝ }
+{
+    let end = least(s.len(), SLOT);
+    if end < 10 {
+        return Packed::Malformed;
+    }
+    let count = packed_int::read_u16(s, 8) as usize;
+    let mut p: usize = 10;
+    let mut left = count;
+    let mut first = true;
+    let mut prev: u64 = 0;
+    while 0 < left {
+        let RecordRead::Record(id, size) = record_at(s, p, end) else {
+            return Packed::Malformed;
+        };
+        if !first {
+            if id <= prev {
+                return Packed::Malformed;
+            }
+        }
+        first = false;
+        prev = id;
+        p = p + size;
+        left = left - 1;
+    }
+    Packed::Assignment(p, count)
+}
+
+// The packed assignment that the bytes are; none may be left over.
+pub fn read_whole(s: &[u8]) -> Packed
+    ensures { λ r. ⌜ r ≡ wholeRead (now (s .entry)) ⌝ }
+{
+    match read_front(s) {
+        Packed::Assignment(size, count) => {
+            if size == s.len() {
+                Packed::Assignment(size, count)
+            } else {
+                Packed::Malformed
+            }
+        }
+        Packed::Malformed => Packed::Malformed,
+    }
+}
