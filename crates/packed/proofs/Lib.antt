@@ -1,3 +1,4 @@
 pub mod AssignmentLaws
 mod FrontLaws
 pub mod RoundLaws
+pub mod RowLaws

@@ -3,7 +3,7 @@
 -- In order: the fields fit their widths (`FitRange` to `FitAssignment`); how long an encoding is (`length-encodeSegment` to
 -- `length-encodeAssignment`); what is encoded is read back, whatever follows it (`read-segment` to `read-assignment`); what is read encodes
 -- to the bytes that were read (`write-segment` to `write-assignment`) and fits (`fit-segment` to `fit-assignment`); both ways at once
--- (`starts-encode`, `encode-whole`); values of equal bytes are equal (`segment-inj`, `assignment-inj`).
+-- (`starts-encode`, `encode-whole`); values of equal bytes are equal (`segment-inj`, `segment-same`, `assignment-inj`).
 -- Assumes nothing.
 use Prim.Native.Nat.{ℕ, zero, suc, _+_, _*_, _^_, _≤_, _<_}
 use native.Mathlib.Omega.{arith}
@@ -20,8 +20,8 @@ use Rattle.parts.proofs.PartLaws.{Bytes, Bytes-take, Bytes-drop}
 use Rattle.packed_int.specs.Be.{be, bytesOf}
 use Rattle.packed_int.proofs.BeLaws.{length-bytesOf, be-below, be-front, drop-front, bytesOf-front}
 use Rattle.packed.specs.Assignment.{AssignedSegment, ConsumerAssignment, num, rangeOf, rangesOf, segmentOf, segmentsOf, assignmentOf}
-use Rattle.packed.specs.Assignment.{encodeRange, encodeRanges, encodeSegment, encodeSegments, encodeAssignment, sizeSegment, sizeSegments}
-use Rattle.packed.specs.Assignment.{sizeAssignment, okAssignment, startsAssignment, isAssignment}
+use Rattle.packed.specs.Assignment.{encodeRange, encodeRanges, encodeSegment, encodeSegments, encodeAssignment}
+use Rattle.packed.specs.Assignment.{sizeSegment, sizeSegments, sizeAssignment, okAssignment, startsAssignment, isAssignment}
 use Rattle.packed.proofs.AssignmentLaws.{length-rangesOf, length-segmentsOf}
 
 -- ---- the fields fit their widths
@@ -86,7 +86,8 @@ unfolding rangeOf num encodeRange
 read-range r l f =
     let a : ℕ = r .start in
     let b : ℕ = r .end in
-    let e : keyRange (be (take 2 (bytesOf 2 a ++ (bytesOf 2 b ++ l)))) (be (take 2 (drop 2 (bytesOf 2 a ++ (bytesOf 2 b ++ l))))) ≡ keyRange a b =
+    let w : List ℕ = bytesOf 2 a ++ (bytesOf 2 b ++ l) in
+    let e : keyRange (be (take 2 w)) (be (take 2 (drop 2 w))) ≡ keyRange a b =
     cc (be-front 2 a (bytesOf 2 b ++ l) (f .start), drop-front 2 a (bytesOf 2 b ++ l), be-front 2 b l (f .end)) in
     ap rangeOf (append-assoc (bytesOf 2 a) (bytesOf 2 b) l) ∙ e
 
@@ -199,7 +200,8 @@ write-segment l h b =
     let n : ℕ = num 2 (drop 12 l) in
     let z : sizeSegment (segmentOf l) ≡ 14 + 4 * n = size-of l in
     let a : bytesOf 8 (be (take 8 l)) ≡ take 8 l = bytesOf-front 8 l (omega arith) b in
-    let c : encodeRange (rangeOf (drop 8 l)) ≡ take 4 (drop 8 l) = write-range (drop 8 l) (rw length-drop (omega arith)) (Bytes-drop 8 l b) in
+    let c : encodeRange (rangeOf (drop 8 l)) ≡ take 4 (drop 8 l) =
+    write-range (drop 8 l) (rw length-drop (omega arith)) (Bytes-drop 8 l b) in
     let e : bytesOf 2 (be (take 2 (drop 12 l))) ≡ take 2 (drop 12 l) = write-num 2 12 l (omega arith) b in
     let f : encodeRanges (rangesOf n (drop 14 l)) ≡ take (4 * n) (drop 14 l) =
     write-ranges n (drop 14 l) (rw length-drop (omega arith)) (Bytes-drop 14 l b) in
@@ -227,7 +229,8 @@ write-assignment l h b =
     write-segments n (drop 10 l) (rw length-drop (omega arith)) (Bytes-drop 10 l b) in
     let f : take 10 l ≡ take 8 l ++ take 2 (drop 8 l) = take-add 8 2 l in
     let g : take (10 + m) l ≡ (take 8 l ++ take 2 (drop 8 l)) ++ take m (drop 10 l) = cc (take-add 10 m l) in
-    let k : encodeAssignment (assignmentOf l) ≡ take 8 l ++ (take 2 (drop 8 l) ++ take m (drop 10 l)) = cc (length-segmentsOf n (drop 10 l)) in
+    let k : encodeAssignment (assignmentOf l) ≡ take 8 l ++ (take 2 (drop 8 l) ++ take m (drop 10 l)) =
+    cc (length-segmentsOf n (drop 10 l)) in
     k ∙ simp (← append-assoc) (sym g)
 
 -- ---- what is read fits
@@ -286,6 +289,12 @@ encode-whole l b e =
 
 pub segment-inj : (g h : AssignedSegment) → FitSegment g → FitSegment h → encodeSegment g ≡ encodeSegment h → g ≡ h
 segment-inj g h f k e = sym (read-segment g [] f) ∙ ap (λ (l : List ℕ). segmentOf (l ++ [])) e ∙ read-segment h [] k
+
+-- two records where they lie, compared as bytes
+pub segment-same : (l m : List ℕ) → Bytes l → Bytes m → sizeSegment (segmentOf l) ≤ length l → sizeSegment (segmentOf m) ≤ length m
+    → take (sizeSegment (segmentOf l)) l ≡ take (sizeSegment (segmentOf m)) m → segmentOf l ≡ segmentOf m
+segment-same l m bl bm hl hm e =
+    segment-inj (segmentOf l) (segmentOf m) (fit-segment l bl) (fit-segment m bm) (write-segment l hl bl ∙ e ∙ sym (write-segment m hm bm))
 
 pub assignment-inj : (a b : ConsumerAssignment) → FitAssignment a → FitAssignment b → encodeAssignment a ≡ encodeAssignment b → a ≡ b
 assignment-inj a b f k e = sym (read-assignment a [] f) ∙ ap (λ (l : List ℕ). assignmentOf (l ++ [])) e ∙ read-assignment b [] k

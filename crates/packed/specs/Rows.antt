@@ -1,16 +1,17 @@
--- Worked values of the packed assignment, by computation.
+-- Rows B and H of the worked values: the bytes of a packed assignment, and how many segments and buckets a slot has room for.
+-- Each by computation; that 506 buckets are good too is proofs/RowLaws, which does not compare them pairwise.
 -- Assumes nothing.
 use Prim.Native.Nat.{ℕ, zero, suc}
 use mathlib.Core.Path.{_≡_, refl}
 use mathlib.Core.Bool.{true, false}
 use mathlib.Core.List.{List, [], _∷_}
-use lib.ListN.{replicate}
 use Rattle.types.specs.declared.KeyRange.{KeyRange}
 use Rattle.types.specs.KeyRanges.{keyRange}
-use Rattle.packed_int.specs.Be.{bytesOf}
-use Rattle.packed.specs.Assignment.{AssignedSegment, ConsumerAssignment, encodeAssignment, encodeSegments, encodeSegment, encodeRanges, encodeRange}
-use Rattle.packed.specs.Assignment.{sizeAssignment, sizeSegments, sizeSegment, okAssignment, okFrom, okSegment, okBuckets, allInOrder}
 use Rattle.ranges.specs.Overlap.{anyOverlap}
+use Rattle.packed_int.specs.Be.{bytesOf}
+use Rattle.packed.specs.Assignment.{AssignedSegment, ConsumerAssignment, encodeRange, encodeRanges, encodeSegment, encodeSegments}
+use Rattle.packed.specs.Assignment.{encodeAssignment, sizeSegment, sizeSegments, sizeAssignment}
+use Rattle.packed.specs.Assignment.{okAssignment, okFrom, okSegment, okBuckets, allInOrder}
 
 -- segment id, from 0 to 7fff
 abbrev pub half : ℕ → List KeyRange → AssignedSegment
@@ -25,9 +26,14 @@ abbrev pub rising : ℕ → ℕ → List AssignedSegment
 rising zero id = []
 rising (suc n) id = half id [] ∷ rising n (suc id)
 
+-- n buckets of one value each, from the value v on
+abbrev pub points : ℕ → ℕ → List KeyRange
+points zero v = []
+points (suc n) v = keyRange v v ∷ points n (suc v)
+
 -- one segment with n buckets
 abbrev pub bucketed : ℕ → ConsumerAssignment
-bucketed n = ofThree (half 0 (replicate n (keyRange 0 0)) ∷ [])
+bucketed n = ofThree (half 0 (points n 0) ∷ [])
 
 pub record Rows : Type 0 where
   -- row B: epoch 3, segment 0 from 0 to 7fff
@@ -40,6 +46,7 @@ pub record Rows : Type 0 where
   pub more-segments-not-ok : okAssignment (ofThree (rising 146 0)) ≡ false
   pub most-buckets : sizeAssignment (bucketed 506) ≡ 2048
   pub more-buckets : sizeAssignment (bucketed 507) ≡ 2052
+  pub more-buckets-not-ok : okAssignment (bucketed 507) ≡ false
 
 pub rows : Rows
 unfolding bytesOf encodeAssignment encodeSegments encodeSegment encodeRanges encodeRange sizeAssignment sizeSegments sizeSegment okAssignment okFrom okSegment okBuckets allInOrder anyOverlap
@@ -51,4 +58,5 @@ rows = record {
   more-segments-not-ok = refl;
   most-buckets = refl;
   more-buckets = refl;
+  more-buckets-not-ok = refl;
 }

@@ -68,7 +68,8 @@ returns-3 : tie.Need-returns-3 Inv-loop μ-loop
 unfolding okBuckets allInOrder anyOverlap
 returns-3 c =
     let l = c .before in
-    sym (l .loop .inv .1 ∙ ap okBuckets (ranges-none (l .loop .left) (drop (l .loop .p) (l .before .before .args .s .now)) (c .loop-test .left)))
+    let s = l .before .before .args .s .now in
+    sym (l .loop .inv .1 ∙ ap okBuckets (ranges-none (l .loop .left) (drop (l .loop .p) s) (c .loop-test .left)))
 
 pub buckets-apart-spec : {M : Type 1} → statement M
 buckets-apart-spec =

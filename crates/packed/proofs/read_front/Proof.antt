@@ -69,7 +69,8 @@ got-here k =
     let l = r .before .before in
     let m = l .before .before .before in
     let v = k .before .id .given .0 in
-    got (m .before .before .args .s .now) (l .loop .p) (m .least .result) (v .0) (v .1 .0) (sym (k .before .id .given .1) ∙ r .record-at .ensures)
+    got (m .before .before .args .s .now) (l .loop .p) (m .least .result) (v .0) (v .1 .0)
+    (sym (k .before .id .given .1) ∙ r .record-at .ensures)
 
 returns-3 : tie.Need-returns-3 Inv-loop μ-loop
 returns-3 c =

@@ -61,7 +61,8 @@ returns-3 c =
     let k = c .before .before .before in
     let u = k .before .before in
     let a = u .before .before .before .args in
-    record-reversed (a .s .now) (a .at) (u .read-u64 .result) (k .before .range-at .result) (k .read-u16 .result) (seen k) (a .end) (c .if3 .taken)
+    record-reversed (a .s .now) (a .at) (u .read-u64 .result) (k .before .range-at .result) (k .read-u16 .result) (seen k)
+    (a .end) (c .if3 .taken)
 
 add-buckets-ok : tie.Need-add-buckets-ok
 add-buckets-ok c = search needs
