@@ -7,7 +7,9 @@ use lib.Dec.{eqb}
 use Rattle.wire.specs.declared.WireType.{WireType}
 use Rattle.wire.specs.declared.WireType.the-variants as wire
 use Rattle.messages.specs.declared.MessageKind.{MessageKind}
-use Rattle.messages.specs.declared.MessageKind.the-variants.{CommandScalableTopicAssignmentUpdate, CommandScalableTopicSubscribeResponse, ScalableConsumerAssignment, ScalableAssignedSegment, IntRange, CommandWatchScalableTopicsUpdate, ScalableTopicsSnapshot, ScalableTopicsDiff}
+use Rattle.messages.specs.declared.MessageKind.the-variants.{CommandScalableTopicAssignmentUpdate, CommandScalableTopicSubscribeResponse}
+use Rattle.messages.specs.declared.MessageKind.the-variants.{ScalableConsumerAssignment, ScalableAssignedSegment, IntRange}
+use Rattle.messages.specs.declared.MessageKind.the-variants.{CommandWatchScalableTopicsUpdate, ScalableTopicsSnapshot, ScalableTopicsDiff}
 use Rattle.messages.specs.declared.ValueKind.{ValueKind}
 use Rattle.messages.specs.declared.ValueKind.the-variants as value
 use Rattle.messages.specs.declared.FieldRule.{FieldRule}

@@ -11,7 +11,13 @@ use Rattle.types.specs.declared.ControllerIncarnation.{ControllerIncarnation}
 use Rattle.types.specs.declared.KeyRangeError.{KeyRangeError}
 use Rattle.types.specs.KeyRanges.{kindOf, numbersOf}
 use Rattle.refusal.specs.declared.Refusal.{Refusal}
-use Rattle.refusal.specs.declared.Refusal.the-variants.{StoreTooShort, OutputTooShort, InvalidWireFormat, WrongWireType, RepeatedField, MissingField, InvalidUtf8, IdentityTooLong, InvalidRange, InvalidKeyRange, InvalidBucketRange, OverlappingBucketRanges, InvalidParent, AttachmentMismatch, DuplicateSegment, AssignmentTooLong, Broker, Empty, EmptyUpdate, InvalidSegment, SegmentIdMismatch, MalformedInput, ResultTooLong, MalformedStore, IncarnationMismatch, ConsumerMismatch, NonAdvancingIncarnation, CrossIncarnationEpochRegression, StaleEpoch, PreBaselineBufferFull, WatchMismatch, MalformedSet, SetTooLong}
+use Rattle.refusal.specs.declared.Refusal.the-variants.{StoreTooShort, OutputTooShort, InvalidWireFormat, WrongWireType, RepeatedField}
+use Rattle.refusal.specs.declared.Refusal.the-variants.{MissingField, InvalidUtf8, IdentityTooLong, InvalidRange, InvalidKeyRange}
+use Rattle.refusal.specs.declared.Refusal.the-variants.{InvalidBucketRange, OverlappingBucketRanges, InvalidParent, AttachmentMismatch}
+use Rattle.refusal.specs.declared.Refusal.the-variants.{DuplicateSegment, AssignmentTooLong, Broker, Empty, EmptyUpdate, InvalidSegment}
+use Rattle.refusal.specs.declared.Refusal.the-variants.{SegmentIdMismatch, MalformedInput, ResultTooLong, MalformedStore, IncarnationMismatch}
+use Rattle.refusal.specs.declared.Refusal.the-variants.{ConsumerMismatch, NonAdvancingIncarnation, CrossIncarnationEpochRegression, StaleEpoch}
+use Rattle.refusal.specs.declared.Refusal.the-variants.{PreBaselineBufferFull, WatchMismatch, MalformedSet, SetTooLong}
 
 abbrev pub numberOf : Refusal → ℕ
 numberOf StoreTooShort = 1

@@ -1,6 +1,7 @@
 // Whether a part is UTF-8, by Unicode's Table 3-7, "Well-Formed UTF-8 Byte Sequences".
 //
-// `sequence` goes through the table's rows in their order; `is_utf8` goes through the part once, sequence by sequence, and eight bytes of the first row at a time.
+// `sequence` goes through the table's rows in their order; `is_utf8` goes through the part once, sequence by sequence, and eight bytes of the
+// first row at a time.
 ghost use mathlib.Core.Path.{_≡_};
 ghost use mathlib.Core.Bool.{true, cond};
 ghost use mathlib.Core.List.{[], _∷_};
