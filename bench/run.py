@@ -46,7 +46,7 @@ def port(folder):
 
 
 def rust(folder):
-    """The program that decodes with prost, or None and why."""
+    """The program that decodes with prost, or None where the Rust's folder is not named."""
     if not os.environ.get("CUDDREWYN_RUST"):
         return None
     try:
