@@ -1,4 +1,5 @@
 pub mod AssignmentLaws
+pub mod EqualLaws
 mod FrontLaws
 pub mod RoundLaws
 pub mod RowLaws

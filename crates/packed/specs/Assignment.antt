@@ -25,6 +25,10 @@ pub record AssignedSegment : Type 0 where
   pub range : KeyRange
   pub buckets : List KeyRange
 
+-- a segment's key
+abbrev pub idOf : AssignedSegment → ℕ
+idOf g = g .segmentId
+
 pub record ConsumerAssignment : Type 0 where
   pub layoutEpoch : ℕ
   pub segments : List AssignedSegment

@@ -1,3 +1,4 @@
 pub mod Assignment
+pub mod Equal
 pub mod Answers
 pub mod Rows

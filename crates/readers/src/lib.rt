@@ -79,7 +79,8 @@ pub fn read_range(p: &[u8]) -> IntRange
     int_range(start, end)
 }
 
-fn segment_head(numbers: [u64; 4], start: usize, len: usize) -> SegmentHead
+// A segment's head, from the numbers of its fields and the place of its topic.
+pub fn segment_head(numbers: [u64; 4], start: usize, len: usize) -> SegmentHead
     ensures { λ r. ⌜ r ≡ headOf numbers start len ⌝ }
 {
     let hash_start = values::uint32(numbers[2]);

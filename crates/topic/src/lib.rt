@@ -45,8 +45,13 @@ pub fn is_segment_topic(text: &[u8], path: &[u8], range: KeyRange, id: SegmentId
     parts::same(&text[n..], &bytes[from..])
 }
 
-// Writes the name of the segment with that range and id below the path, where it fits.
-fn write_name(path: &[u8], range: KeyRange, id: SegmentId, out: &mut [u8]) -> NameAnswer
+// Writes the name of the segment with that range and id below the path, where it fits (21 where not).
+pub fn write_segment_topic(
+    path: &[u8],
+    range: KeyRange,
+    id: SegmentId,
+    out: &mut [u8],
+) -> NameAnswer
     ensures { λ r. ⌜ outcome r (now (out .exit)) ≡ written (segmentTopic (now (path .entry)) range id) (now (out .entry)) ⌝ }
 {
     let tail = descriptor::descriptor_of(range, id);
@@ -85,7 +90,7 @@ pub fn canonical_segment_topic(
         RangeResult::Invalid(source) => NameAnswer::Refused(Refusal::InvalidKeyRange { source }),
         RangeResult::Valid(range) => {
             if parent::is_parent(parent) {
-                write_name(&parent[8..], range, id, out)
+                write_segment_topic(&parent[8..], range, id, out)
             } else {
                 NameAnswer::Refused(Refusal::InvalidParent)
             }

@@ -43,19 +43,19 @@ enum-known-range c = search needs
 is-parent-requires : tie.Need-is-parent-requires
 is-parent-requires c κs = search needs
 
-sub-write-name : tie.Need-sub-write-name
-sub-write-name c =
+sub-write-segment-topic : tie.Need-sub-write-segment-topic
+sub-write-segment-topic c =
     let a = c .before .before .before .before .before .before .before .before .before .before .args in
     parent-long (a .parent .now) (sym (c .before .is-parent .ensures) ∙ c .if2 .taken)
 
-part-write-name-start : tie.Need-part-write-name-start
-part-write-name-start c = omega (arith, sub-write-name c)
+part-write-segment-topic-start : tie.Need-part-write-segment-topic-start
+part-write-segment-topic-start c = omega (arith, sub-write-segment-topic c)
 
-part-write-name-end : tie.Need-part-write-name-end
-part-write-name-end c = search needs
+part-write-segment-topic-end : tie.Need-part-write-segment-topic-end
+part-write-segment-topic-end c = search needs
 
-write-name-requires : tie.Need-write-name-requires
-write-name-requires c κs = search needs
+write-segment-topic-requires : tie.Need-write-segment-topic-requires
+write-segment-topic-requires c κs = search needs
 
 returns-2 : tie.Need-returns-2
 returns-2 c =
@@ -75,7 +75,7 @@ returns-3 c =
     let e = k .before .before .before .before in
     let a = e .before .before .before .before .args in
     let good = sym (t .before .is-parent .ensures) ∙ t .if2 .taken in
-    (rw (rest (a .parent .now) 8) at (place .write-name .ensures))
+    (rw (rest (a .parent .now) 8) at (place .write-segment-topic .ensures))
     ∙ sym (canonical-written (a .parent .now) (a .start) (a .end) (a .id) (a .out .now) (is-text e) _ (is-range k) good)
 
 returns-4 : tie.Need-returns-4
@@ -96,10 +96,10 @@ canonical-segment-topic-spec =
     enum-known-source
     enum-known-range
     is-parent-requires
-    sub-write-name
-    part-write-name-start
-    part-write-name-end
-    write-name-requires
+    sub-write-segment-topic
+    part-write-segment-topic-start
+    part-write-segment-topic-end
+    write-segment-topic-requires
     returns-2
     same-length
     returns-3

@@ -1,4 +1,4 @@
--- `write_name` meets its contract: a name that does not fit is refused; another is put in three pieces, each behind the one before.
+-- `write_segment_topic` meets its contract: a name that does not fit is refused; another is put in three pieces, each behind the one before.
 -- Assumes nothing.
 use Prim.Native.Nat.{_+_, _-_}
 use native.Mathlib.Omega.{arith}
@@ -9,8 +9,8 @@ use Rattle.topic.specs.Names.{descriptor}
 use Rattle.topic.specs.Build.{outcome}
 use Rattle.topic.proofs.TailLaws.{descriptor-part, descriptor-from}
 use Rattle.topic.proofs.BuildLaws.{name-no-room, name-written}
-use Rattle.topic.proofs.write_name.Statement.{statement}
-use Rattle.topic.proofs.write_name.Tie as tie
+use Rattle.topic.proofs.write_segment_topic.Statement.{statement}
+use Rattle.topic.proofs.write_segment_topic.Tie as tie
 
 -- the length of scheme and descriptor
 besides : (c : tie.After-descriptor-of) →
@@ -82,8 +82,8 @@ returns-3 c =
     let wrote = rw (part, second .put-bytes2 .ensures, first .put-bytes .ensures) at (third .put-bytes3 .ensures) in
     ap (outcome _) wrote ∙ sym (name-written (a .path .now) (a .range) (a .id) (a .out .now) _ (besides place) (omega arith))
 
-pub write-name-spec : {M : Type 1} → statement M
-write-name-spec =
+pub write-segment-topic-spec : {M : Type 1} → statement M
+write-segment-topic-spec =
     tie.close
     (tie.spec
     descriptor-of-requires

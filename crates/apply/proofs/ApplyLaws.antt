@@ -1,0 +1,142 @@
+-- The cases of `applyOutcome`, as `apply` meets them.
+--
+-- In order: what the answer of `read_whole` says (`Whole`, `whole-read`, `not-assignment`); bytes that are refused (`no-assignment`,
+-- `no-delta`); how many records fit a slot (`few-fit`); the records of the result where they come from (`overlaid`, `result`); a result
+-- that is beyond a slot (`too-long`), has no room (`no-room`), or is written (`all-written`).
+-- Assumes nothing.
+use Prim.Native.Nat.{ℕ, _+_, _*_, _≤_, _<_}
+use native.Mathlib.Omega.{arith}
+use mathlib.Core.Path.{_≡_, refl, sym, ap, _∙_}
+use mathlib.Core.Bool.{Bool, true, false, and-false}
+use mathlib.Core.List.{List, _++_}
+use lib.ListN.{length, drop, length-append}
+use borrow.Author.Tests.{le-leb, lt-leb}
+use Rattle.ranges.specs.Meaning.{both-true}
+use Rattle.refusal.specs.declared.Refusal.the-variants.{MalformedInput, AssignmentTooLong, ResultTooLong}
+use Rattle.output.specs.Output.{outcome, refuse, written}
+use Rattle.output.specs.declared.WriteAnswer.the-variants.{Written}
+use Rattle.packed_int.specs.Be.{beAt, bytesOf}
+use Rattle.packed_int.specs.Put.{put}
+use Rattle.packed_int.proofs.BeLaws.{length-bytesOf}
+use Rattle.packed_int.proofs.PutLaws.{put-before}
+use Rattle.packed.specs.Assignment.{AssignedSegment, ConsumerAssignment, slotSize, encodeSegments, encodeAssignment, sizeSegments}
+use Rattle.packed.specs.Assignment.{sizeAssignment, num, segmentsOf, assignmentOf, startsAssignment, isAssignment}
+use Rattle.packed.specs.Answers.{wholeRead}
+use Rattle.packed.specs.declared.Packed.the-variants.{Assignment, Malformed}
+use Rattle.packed.proofs.AssignmentLaws.{length-segmentsOf, first-segments, Rest, rest-start}
+use Rattle.packed.proofs.RoundLaws.{length-encodeSegments, length-encodeAssignment}
+use Rattle.delta.specs.Delta.{idsOf, deltaOf, isDelta}
+use Rattle.delta.specs.Join.{apply}
+use Rattle.delta.proofs.RoundLaws.{Walkable}
+use Rattle.delta.proofs.ShortLaws.{size-records}
+use Rattle.overlay.specs.Overlay.{overlay, fitOf}
+use Rattle.overlay.specs.declared.Fit.the-variants.{Beyond}
+use Rattle.apply.specs.ApplyOutcome.{applied, applyOutcome}
+use Rattle.overlay.proofs.FitLaws.{Fits, fit-beyond}
+
+-- ---- the answer of `read_whole`
+
+-- a packed assignment with n segments
+pub record Whole (s : List ℕ) (n : ℕ) : Type 0 where
+  pub is-assignment : isAssignment s ≡ true
+  pub segments-are : assignmentOf s .segments ≡ segmentsOf n (drop 10 s)
+  pub records : Rest s 10 n
+
+pub whole-read : (s : List ℕ) (z n : ℕ) → Assignment z n ≡ wholeRead s → Whole s n
+unfolding wholeRead isAssignment assignmentOf num beAt
+whole-read s z n e = go (isAssignment s) refl
+  where
+    go : (t : Bool) → isAssignment s ≡ t → Whole s n
+    go true h =
+        let f : Assignment z n ≡ Assignment (sizeAssignment (assignmentOf s)) (length (assignmentOf s .segments)) = e ∙ rw h in
+        let a : n ≡ length (assignmentOf s .segments) = cc in
+        let b : n ≡ beAt 2 s 8 = a ∙ length-segmentsOf _ _ in
+        record {
+          is-assignment = h;
+          segments-are = first-segments s n b;
+          records = rest-start s n (both-true (startsAssignment s) _ h .0) b;
+        }
+    go false h =
+        let f : Assignment z n ≡ Malformed = e ∙ rw h in
+        let q : _≡_ {A = ℕ} 0 1 = cc in
+        absurd (omega arith)
+
+pub not-assignment : (s : List ℕ) → Malformed ≡ wholeRead s → isAssignment s ≡ false
+unfolding wholeRead
+not-assignment s e = go (isAssignment s) refl
+  where
+    go : (t : Bool) → isAssignment s ≡ t → isAssignment s ≡ false
+    go true h =
+        let f : Malformed ≡ Assignment (sizeAssignment (assignmentOf s)) (length (assignmentOf s .segments)) = e ∙ rw h in
+        let q : _≡_ {A = ℕ} 0 1 = cc in
+        absurd (omega arith)
+    go false h = h
+
+-- ---- bytes that are refused
+
+module _ (s d o : List ℕ) where
+  pub no-assignment : isAssignment s ≡ false → refuse MalformedInput o ≡ applyOutcome s d o
+  unfolding applyOutcome
+  no-assignment e = simp e
+
+  pub no-delta : isDelta d ≡ false → refuse MalformedInput o ≡ applyOutcome s d o
+  unfolding applyOutcome
+  no-delta e = simp (e, and-false)
+
+-- ---- the result
+
+-- the count of records that fit a slot has a packed form
+pub few-fit : {gs : List AssignedSegment} {n z : ℕ} → Fits 2038 gs n z → n ≤ 145
+few-fit {gs} f = omega (arith, f .count, f .within, size-records gs)
+
+-- count records behind the head of s, overlaid with losses ids and gains records of d
+abbrev pub overlaid : List ℕ → List ℕ → ℕ → ℕ → ℕ → List AssignedSegment
+overlaid s d count losses gains =
+    overlay (idsOf losses (drop 12 d)) (segmentsOf gains (drop (12 + 8 * losses) d)) (segmentsOf count (drop 10 s))
+
+module _ {s d : List ℕ} {count losses gains : ℕ} (w : Whole s count) (v : Walkable d losses gains) (o : List ℕ) where
+  abbrev R : List AssignedSegment
+  R = overlaid s d count losses gains
+
+  abbrev X : ConsumerAssignment
+  X = record { layoutEpoch = num 8 d; segments = R }
+
+  result : applyOutcome s d o ≡ applied X o
+  unfolding applyOutcome apply deltaOf overlay
+  result =
+      let e : apply (deltaOf d) (assignmentOf s) ≡ X = cc (w .segments-are, v .lost-is, v .gained-is) in
+      simp (w .is-assignment, v .is-delta, e)
+
+  pub too-long : Beyond ≡ fitOf 2038 R → refuse AssignmentTooLong o ≡ applyOutcome s d o
+  unfolding applied sizeAssignment
+  too-long e = sym (result ∙ simp (lt-leb (10 + sizeSegments R) slotSize (omega (arith, fit-beyond 2038 R e))))
+
+  module _ {n z : ℕ} (f : Fits 2038 R n z) where
+    written-or-not : applyOutcome s d o ≡ written (encodeAssignment X) o
+    unfolding applied sizeAssignment
+    written-or-not = result ∙ simp (le-leb (10 + sizeSegments R) slotSize (omega (arith, f .within)))
+
+    long : length (encodeAssignment X) ≡ 10 + z
+    unfolding sizeAssignment
+    long = length-encodeAssignment X ∙ ap (λ (k : ℕ). 10 + k) (sym (f .size))
+
+    pub no-room : length o < 10 + z → refuse ResultTooLong o ≡ applyOutcome s d o
+    unfolding written
+    no-room h = sym (written-or-not ∙ simp (lt-leb (length (encodeAssignment X)) (length o) (omega (arith, long))))
+
+    -- the three writes, each in front of the one before
+    pub all-written : 10 + z ≤ length o → (o1 o2 o3 : List ℕ) (epoch : ℕ) → o1 ≡ put o 10 (encodeSegments R) → o2 ≡ put o1 8 (bytesOf 2 n)
+        → epoch ≡ beAt 8 d 0 → o3 ≡ put o2 0 (bytesOf 8 epoch) → outcome (Written (10 + z)) o3 ≡ applyOutcome s d o
+    unfolding written encodeAssignment num beAt
+    all-written h o1 o2 o3 epoch w1 w2 e w3 =
+        let G : List ℕ = encodeSegments R in
+        let C : List ℕ = bytesOf 2 (length R) in
+        let E : List ℕ = bytesOf 8 (num 8 d) in
+        let lg : length G ≡ z = length-encodeSegments R ∙ sym (f .size) in
+        let lc : length C ≡ 2 = length-bytesOf 2 (length R) in
+        let le : length E ≡ 8 = length-bytesOf 8 (num 8 d) in
+        let lcg : length (C ++ G) ≡ length C + length G = length-append C G in
+        let s8 : put (put o 10 G) 8 C ≡ put o 8 (C ++ G) = put-before o 8 10 C G (omega arith) (omega arith) in
+        let s0 : put (put o 8 (C ++ G)) 0 E ≡ put o 0 (E ++ (C ++ G)) = put-before o 0 8 E (C ++ G) (omega arith) (omega arith) in
+        let k : o3 ≡ put o 0 (encodeAssignment X) = cc (f .count) in
+        sym (written-or-not ∙ simp (long, le-leb (10 + z) (length o) h, ← k))

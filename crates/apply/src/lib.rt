@@ -1,0 +1,52 @@
+// A delta applied to a packed assignment.
+ghost use mathlib.Core.Path.{_≡_};
+ghost use Rattle.output.specs.Output.{outcome};
+ghost use Rattle.apply.specs.ApplyOutcome.{applyOutcome};
+use delta::DeltaRead;
+use output::WriteAnswer;
+use overlay::Fit;
+use overlay::Row;
+use packed::Packed;
+use refusal::Refusal;
+
+// Writes the packed assignment `assignment` with the delta applied. Tested in order: both lent forms (20), a slot's room (15), the output's (21). A refusal leaves the
+// output as it was.
+pub fn apply(assignment: &[u8], delta: &[u8], out: &mut [u8]) -> WriteAnswer
+    ensures { λ r. ⌜ outcome r (now (out .exit)) ≡ applyOutcome (now (assignment .entry)) (now (delta .entry)) (now (out .entry)) ⌝ }
+{
+    let Packed::Assignment(_, count) = packed::read_whole(assignment) else {
+        return WriteAnswer::Refused(Refusal::MalformedInput);
+    };
+    let DeltaRead::Delta(losses, gains) = delta::read_delta(delta) else {
+        return WriteAnswer::Refused(Refusal::MalformedInput);
+    };
+    let kept = Row {
+        at: 10,
+        left: count,
+    };
+    let lost = Row {
+        at: delta::HEAD,
+        left: losses,
+    };
+    let gained = Row {
+        at: delta::HEAD + 8 * losses,
+        left: gains,
+    };
+    let Fit::Size(n, size) = overlay::overlay_fit(
+        assignment,
+        kept,
+        delta,
+        lost,
+        gained,
+        packed::SLOT - 10,
+    ) else {
+        return WriteAnswer::Refused(Refusal::AssignmentTooLong);
+    };
+    if out.len() < 10 + size {
+        return WriteAnswer::Refused(Refusal::ResultTooLong);
+    }
+    overlay::write_overlay(assignment, kept, delta, lost, gained, out, 10);
+    packed_int::write_u16(out, 8, n as u16);
+    packed_int::write_u64(out, 0, packed_int::read_u64(delta, 0));
+    WriteAnswer::Written(10 + size)
+}

@@ -1,0 +1,6 @@
+mod TextLaws
+mod RowLaws
+pub mod WireLaws
+mod ValidLaws
+pub mod SizeLaws
+pub mod ReadBack

@@ -1,0 +1,185 @@
+-- What the readers say of the written messages, and that it passes the tests of a content.
+--
+-- In order: the values of a row whose fields each hold a part (`row-numbers`, `row-parts`, `row-others`); a range, a segment and an
+-- assignment as they are read (`wireRange`, `wireSegment`, `wireAssignment`), of which the readers say the first two (`range-says`,
+-- `segment-says`); they stand for what was written (`segment-back`, `segments-back`); a written segment (`Written`, `each-written`)
+-- passes (`written-passes`); what is read of an assignment (`assignment-says`).
+-- Assumes nothing.
+use Prim.Native.Nat.{ℕ, suc, _+_, _%_, _^_, _≤_, _<_}
+use native.Mathlib.Omega.{arith}
+use mathlib.Core.Path.{_≡_, refl, ap, _∙_}
+use mathlib.Core.Bool.{Bool, true, false, not, false≢true}
+use mathlib.Core.List.{List, [], _∷_, map}
+use mathlib.Core.Option.{none}
+use lib.IntN.{pos}
+use lib.ListN.{length}
+use lib.Dec.{eqb}
+use borrow.Author.Tests.{eq-eqb, lt-ltb, leb-true}
+use Rattle.types.specs.declared.SegmentId.{SegmentId}
+use Rattle.types.specs.declared.KeyRange.{KeyRange}
+use Rattle.types.proofs.KeyRangeLaws.{valid-new}
+use Rattle.parts.proofs.SameLaws.{same-refl}
+use Rattle.ranges.specs.Meaning.{both-true}
+use Rattle.ranges.specs.Overlap.{anyOverlap}
+use Rattle.utf8.specs.Table.{isUtf8}
+use Rattle.topic.specs.Parents.{isParent, pathOf}
+use Rattle.topic.specs.Names.{segmentTopic}
+use Rattle.wire.specs.Fields.{Field}
+use Rattle.values.specs.Values.{numbersOf, partsOf}
+use Rattle.values.specs.Integers.{int32Of}
+use Rattle.readers.specs.declared.IntRange.{IntRange}
+use Rattle.readers.specs.Messages.{intRangeOf, WireSegment, segmentOf, WireAssignment, assignmentOf}
+use Rattle.packed.specs.Assignment.{AssignedSegment, ConsumerAssignment, inOrder, allInOrder, okBuckets, okSegment, okFrom}
+use Rattle.packed.proofs.AssignmentLaws.{ok-good, ok-tail}
+use Rattle.packed.proofs.RoundLaws.{FitRange, FitRanges, FitSegment, FitSegments}
+use Rattle.content.specs.Content.{rangeFaultBy, bucketFault, bucketOf, segmentFault, assignedSegment}
+use Rattle.content.proofs.EachLaws.{Each}
+use Rattle.content.proofs.SoundLaws.{passes}
+use Rattle.assignment_message.specs.Message.{rangeMessage, topicOf, segmentMessage, segmentFields}
+use Rattle.assignment_message.proofs.RowLaws.{numbered, partRow, range-row, segment-row, segment-within}
+
+-- ---- a row whose fields each hold a part
+
+pub row-numbers : (n f : ℕ) (ps : List (List ℕ)) → numbersOf n (partRow f ps) ≡ []
+row-numbers n f [] = refl
+row-numbers n f (p ∷ ps) = row-numbers n f ps
+
+pub row-parts : (f : ℕ) (ps : List (List ℕ)) → partsOf f (partRow f ps) ≡ ps
+row-parts f [] = refl
+row-parts f (p ∷ ps) = rw (eq-eqb f f refl, row-parts f ps)
+
+pub row-others : (n f : ℕ) → eqb f n ≡ false → (ps : List (List ℕ)) → partsOf n (partRow f ps) ≡ []
+row-others n f e [] = refl
+row-others n f e (p ∷ ps) = rw e (row-others n f e ps)
+
+-- ---- as they are read
+
+abbrev pub wireRange : KeyRange → IntRange
+wireRange r = record { start = pos (r .start); end = pos (r .end) }
+
+abbrev pub wireSegment : List ℕ → AssignedSegment → WireSegment
+wireSegment path g =
+    record {
+      segmentId = g .segmentId;
+      hashStart = g .range .start;
+      hashEnd = g .range .end;
+      segmentTopic = topicOf path g;
+      bucketRanges = map wireRange (g .buckets);
+    }
+
+abbrev pub wireAssignment : List ℕ → ConsumerAssignment → WireAssignment
+wireAssignment path a = record { layoutEpoch = a .layoutEpoch; segments = map (wireSegment path) (a .segments) }
+
+-- a number of 16 bits stays itself where a sign is possible
+small : (v : ℕ) → v < 256 ^ 2 → int32Of v ≡ pos v
+unfolding int32Of
+small v h = let e : v % 2 ^ 32 ≡ v = omega arith in rw (e, lt-ltb v (2 ^ 31) (omega arith))
+
+range-says : (r : KeyRange) → FitRange r → intRangeOf (rangeMessage r) ≡ wireRange r
+unfolding intRangeOf
+range-says r f = rw (range-row r f, small (r .start) (f .start), small (r .end) (f .end))
+
+ranges-say : (rs : List KeyRange) → FitRanges rs → map intRangeOf (map rangeMessage rs) ≡ map wireRange rs
+ranges-say [] f = refl
+ranges-say (r ∷ rs) f = rw (range-says r (f .0), ranges-say rs (f .1))
+
+module _ (path : List ℕ) (g : AssignedSegment) (f : FitSegment g) (s : length (segmentMessage path g) < 2 ^ 64) where
+  pub segment-says : segmentOf (segmentMessage path g) ≡ wireSegment path g
+  unfolding segmentOf
+  segment-says =
+      let ps : List (List ℕ) = map rangeMessage (g .buckets) in
+      let a : g .range .start % 2 ^ 32 ≡ g .range .start = omega (arith, f .range .start) in
+      let b : g .range .end % 2 ^ 32 ≡ g .range .end = omega (arith, f .range .end) in
+      simp (
+        segment-row path g f s,
+        row-numbers 1 5 ps,
+        row-numbers 2 5 ps,
+        row-numbers 3 5 ps,
+        row-others 4 5 refl ps,
+        row-parts 5 ps,
+        ranges-say (g .buckets) (f .buckets),
+        a,
+        b,
+      )
+
+-- ---- they stand for what was written
+
+buckets-back : (rs : List KeyRange) → map bucketOf (map wireRange rs) ≡ rs
+buckets-back [] = refl
+buckets-back (r ∷ rs) = ap (λ (l : List KeyRange). r ∷ l) (buckets-back rs)
+
+pub segment-back : (path : List ℕ) (g : AssignedSegment) → assignedSegment (wireSegment path g) ≡ g
+unfolding assignedSegment
+segment-back path g =
+    ap (λ (l : List KeyRange). record { segmentId = g .segmentId; range = g .range; buckets = l }) (buckets-back (g .buckets))
+
+pub segments-back : (path : List ℕ) (gs : List AssignedSegment) → map assignedSegment (map (wireSegment path) gs) ≡ gs
+segments-back path [] = refl
+segments-back path (g ∷ gs) = let p = segments-back path gs in cc (segment-back path g)
+
+-- ---- a written segment
+
+-- a good segment that fits its widths, under a parent whose name is a text, in a message of fewer than 2 ^ 64 bytes
+pub record Written (parent : List ℕ) (g : AssignedSegment) : Type 0 where
+  pub fit : FitSegment g
+  pub good : okSegment g ≡ true
+  pub short : length (segmentMessage (pathOf parent) g) < 2 ^ 64
+  pub parent-ok : isParent parent ≡ true
+  pub text : isUtf8 parent ≡ true
+
+module _ (parent : List ℕ) (p : isParent parent ≡ true) (u : isUtf8 parent ≡ true) where
+  pub each-written : (low : ℕ) (gs : List AssignedSegment) → FitSegments gs → okFrom low gs ≡ true
+      → length (segmentFields (pathOf parent) gs) < 2 ^ 64 → Each (Written parent) gs
+  each-written low [] f o s = tt
+  each-written low (g ∷ gs) f o s =
+      let n = segment-within (pathOf parent) g gs in
+      let w : Written parent g = record { fit = f .0; good = ok-good low g gs o; short = omega arith; parent-ok = p; text = u } in
+      (w, each-written (suc (g .segmentId)) gs (f .1) (ok-tail low g gs o) (omega arith))
+
+-- ---- it passes
+
+bucket-none : (id : SegmentId) (index : ℕ) (rs : List KeyRange) → FitRanges rs → allInOrder rs ≡ true
+    → bucketFault id index (map wireRange rs) ≡ none
+unfolding bucketFault allInOrder
+bucket-none id index [] f o = refl
+bucket-none id index (r ∷ rs) f o =
+    let p = both-true (inOrder r) (allInOrder rs) o in
+    let h : r .start ≤ r .end = leb-true (r .start) (r .end) (p .0) in
+    rw (valid-new (r .start) (r .end) h (omega (arith, f .0 .end))) (bucket-none id (index + 1) rs (f .1) (p .1))
+
+no-overlap : (t : Bool) → not t ≡ true → t ≡ false
+no-overlap true e = absurd (false≢true e)
+no-overlap false e = refl
+
+pub written-passes : (parent : List ℕ) (g : AssignedSegment) → Written parent g
+    → segmentFault parent (wireSegment (pathOf parent) g) ≡ none
+unfolding okSegment okBuckets
+written-passes parent g w =
+    let r : KeyRange = g .range in
+    let id : SegmentId = record { 0 = g .segmentId } in
+    let o = both-true (inOrder r) (okBuckets (g .buckets)) (w .good) in
+    let b = both-true (allInOrder (g .buckets)) (not (anyOverlap (g .buckets))) (o .1) in
+    let h : r .start ≤ r .end = leb-true (r .start) (r .end) (o .0) in
+    passes parent (wireSegment (pathOf parent) g) (record {
+      range = ap (rangeFaultBy id) (valid-new (r .start) (r .end) h (omega (arith, w .fit .range .end)));
+      buckets = bucket-none id 0 (g .buckets) (w .fit .buckets) (b .0);
+      apart = ap anyOverlap (buckets-back (g .buckets)) ∙ no-overlap (anyOverlap (g .buckets)) (b .1);
+      parent-ok = w .parent-ok;
+      topic = same-refl (segmentTopic (pathOf parent) r id);
+    })
+
+-- ---- the assignment
+
+segments-say : (parent : List ℕ) (gs : List AssignedSegment) → Each (Written parent) gs
+    → map segmentOf (map (segmentMessage (pathOf parent)) gs) ≡ map (wireSegment (pathOf parent)) gs
+segments-say parent [] w = refl
+segments-say parent (g ∷ gs) w =
+    let p = segments-say parent gs (w .1) in cc (segment-says (pathOf parent) g (w .0 .fit) (w .0 .short))
+
+pub assignment-says : (parent : List ℕ) (a : ConsumerAssignment) → Each (Written parent) (a .segments) → (fs : List Field)
+    → fs ≡ numbered 1 (a .layoutEpoch) ∷ partRow 2 (map (segmentMessage (pathOf parent)) (a .segments))
+    → assignmentOf fs ≡ wireAssignment (pathOf parent) a
+unfolding assignmentOf
+assignment-says parent a w fs e =
+    let ps : List (List ℕ) = map (segmentMessage (pathOf parent)) (a .segments) in
+    simp (e, row-numbers 1 2 ps, row-parts 2 ps, segments-say parent (a .segments) w)

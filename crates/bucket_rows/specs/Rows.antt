@@ -1,0 +1,23 @@
+-- What the functions of src/ answer: a segment's bucket ranges in rows.
+-- Assumes nothing.
+use Prim.Native.Nat.{ℕ, _≤_}
+use mathlib.Core.Path.{_≡_}
+use mathlib.Core.List.{List, [], _++_, map}
+use lib.ListN.{length, take, drop}
+use Rattle.types.specs.declared.KeyRange.{KeyRange}
+use Rattle.wire.specs.Fields.{fieldsOf}
+use Rattle.values.specs.Values.{partsOf}
+use Rattle.readers.specs.Messages.{intRangeOf}
+use Rattle.content.specs.Content.{bucketOf}
+use Rattle.bucket_rows.specs.declared.Loaded.{Loaded}
+
+-- the bucket ranges of the segment p, from a place of its bytes on
+abbrev pub bucketsFrom : List ℕ → ℕ → List KeyRange
+bucketsFrom p at = map bucketOf (map intRangeOf (partsOf 5 (fieldsOf (drop at p))))
+
+-- the next ranges, at most 506, and the place behind them; none only where there are none
+pub record LoadedIs (p : List ℕ) (at : ℕ) (r : Loaded) : Type 0 where
+  pub few : r .count ≤ 506
+  pub long : length (r .row) ≡ 506
+  pub split : bucketsFrom p at ≡ take (r .count) (r .row) ++ bucketsFrom p (r .next)
+  pub some : r .count ≡ 0 → bucketsFrom p at ≡ []

@@ -1,0 +1,83 @@
+// Whether two bucket ranges of a segment share a value: "handed to this test as a row of ranges, more than 506 of them row against row".
+//
+// Only buckets that do not rise come here. The ranges are read from the message row by row, so any number of them takes two rows of memory.
+ghost use mathlib.Core.Path.{_≡_};
+ghost use Prim.Native.Nat.{_≤_};
+ghost use lib.ListN.{take};
+ghost use Rattle.ranges.specs.Overlap.{anyOverlap, crossOverlap};
+ghost use Rattle.bucket_rows.specs.Rows.{bucketsFrom, LoadedIs};
+use types::KeyRange;
+use values::PartStep;
+
+// As many ranges as a segment of a packed assignment can have, the place in the segment's bytes behind them.
+pub struct Loaded {
+    pub row: [KeyRange; 506],
+    pub count: usize,
+    pub next: usize,
+}
+
+// The next ranges of the segment p from a place on.
+fn load_row(p: &[u8], at: usize) -> Loaded
+    ensures { λ r. ⌜ LoadedIs (now (p .entry)) at r ⌝ }
+{
+    let mut row = [KeyRange { start: 0, end: 0 }; 506];
+    let mut count: usize = 0;
+    let mut next = at;
+    while count < 506 {
+        match values::next_part(p, next, 5) {
+            PartStep::Absent => {
+                return Loaded { row, count, next };
+            }
+            PartStep::Found(start, len, after) => {
+                let r = readers::read_range(&p[start..start + len]);
+                row[count] = segment_scan::key_range_of(r);
+                count = count + 1;
+                next = after;
+            }
+        }
+    }
+    Loaded { row, count, next }
+}
+
+// One of the first m ranges of the row shares a value with one of those from a place on.
+fn later_overlap(p: &[u8], at: usize, row: [KeyRange; 506], m: usize) -> bool
+    requires { ⌜ m ≤ 506 ⌝ }
+    ensures { λ r. ⌜ r ≡ crossOverlap (take m row) (bucketsFrom (now (p .entry)) at) ⌝ }
+{
+    let mut from = at;
+    loop {
+        let other = load_row(p, from);
+        let count = other.count;
+        if count == 0 {
+            return false;
+        }
+        let ranges = other.row;
+        if ranges::firsts_overlap(row, m, ranges, count) {
+            return true;
+        }
+        from = other.next;
+    }
+}
+
+// Two bucket ranges of the segment p share a value.
+pub fn buckets_overlap(p: &[u8]) -> bool
+    ensures { λ r. ⌜ r ≡ anyOverlap (bucketsFrom (now (p .entry)) 0) ⌝ }
+{
+    let mut at: usize = 0;
+    loop {
+        let loaded = load_row(p, at);
+        let count = loaded.count;
+        if count == 0 {
+            return false;
+        }
+        let row = loaded.row;
+        if ranges::first_overlap(row, count) {
+            return true;
+        }
+        let next = loaded.next;
+        if later_overlap(p, next, row, count) {
+            return true;
+        }
+        at = next;
+    }
+}

@@ -1,0 +1,28 @@
+-- A fact of each entry of a list (`Each`): of lists joined (`each-append`), an entry inserted (`each-insert`), a list mapped (`each-map`).
+-- Assumes nothing.
+use Prim.Native.Nat.{ℕ}
+use mathlib.Core.List.{List, [], _∷_, _++_, map}
+use lib.Dec.{ltb, eqb}
+use Rattle.keyed.specs.Keyed.{insert}
+use Rattle.keyed.proofs.KeyedLaws.{choose}
+
+module _ {A : Type 0} (P : A → Type 0) where
+  abbrev pub Each : List A → Type 0
+  Each [] = Unit {0}
+  Each (x ∷ xs) = P x × Each xs
+
+  pub each-append : (xs ys : List A) → Each xs → Each ys → Each (xs ++ ys)
+  each-append [] ys f g = g
+  each-append (x ∷ xs) ys f g = (f .0, each-append xs ys (f .1) g)
+
+  pub each-insert : (key : A → ℕ) (x : A) (ys : List A) → P x → Each ys → Each (insert key x ys)
+  each-insert key x [] p f = (p, tt)
+  each-insert key x (y ∷ ys) p f =
+      choose Each (ltb (key x) (key y)) (λ t. (p, f))
+      (λ t. choose Each (eqb (key x) (key y)) (λ u. (p, f .1)) (λ u. (f .0, each-insert key x ys p (f .1))))
+
+-- a fact of each entry gives another of what each is mapped to
+pub each-map : {A B : Type 0} (P : A → Type 0) (Q : B → Type 0) (g : A → B) (f : (x : A) → P x → Q (g x)) (xs : List A)
+    → Each P xs → Each Q (map g xs)
+each-map P Q g f [] h = tt
+each-map P Q g f (x ∷ xs) h = (f x (h .0), each-map P Q g f xs (h .1))

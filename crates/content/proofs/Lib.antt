@@ -1,0 +1,5 @@
+pub mod ContentLaws
+pub mod EachLaws
+pub mod OrderLaws
+pub mod SoundLaws
+pub mod WideLaws

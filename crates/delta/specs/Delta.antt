@@ -1,0 +1,62 @@
+-- The packed delta: its value, the bytes that stand for it, and the value that bytes stand for.
+--
+-- "epoch 64 bits, lost count 16, gained count 16, lost ids, gained records as in a sheet." Reading is total, as for a packed assignment; `isDelta` tests afterwards.
+-- A delta has no size limit.
+-- Assumes nothing.
+use Prim.Native.Nat.{ℕ, zero, suc, _+_, _*_}
+use mathlib.Core.Bool.{Bool, true, _&&_}
+use mathlib.Core.List.{List, [], _∷_, _++_}
+use lib.ListN.{length, drop}
+use lib.Dec.{leb, eqb}
+use Rattle.packed_int.specs.Be.{bytesOf}
+use Rattle.packed.specs.Assignment.{AssignedSegment, encodeSegments, sizeSegments, num, segmentsOf, okFrom}
+
+-- ---- the value
+
+pub record AssignmentDelta : Type 0 where
+  pub layoutEpoch : ℕ
+  pub lost : List ℕ
+  pub gained : List AssignedSegment
+
+-- ---- from a value to bytes
+
+unfoldable pub encodeIds : List ℕ → List ℕ
+encodeIds [] = []
+encodeIds (id ∷ ids) = bytesOf 8 id ++ encodeIds ids
+
+unfoldable pub encodeDelta : AssignmentDelta → List ℕ
+encodeDelta d =
+    bytesOf 8 (d .layoutEpoch)
+    ++ (bytesOf 2 (length (d .lost)) ++ (bytesOf 2 (length (d .gained)) ++ (encodeIds (d .lost) ++ encodeSegments (d .gained))))
+
+-- how many bytes those are
+unfoldable pub sizeDelta : AssignmentDelta → ℕ
+sizeDelta d = 12 + 8 * length (d .lost) + sizeSegments (d .gained)
+
+-- ---- from bytes to a value, whatever the bytes are
+
+unfoldable pub idsOf : ℕ → List ℕ → List ℕ
+idsOf zero l = []
+idsOf (suc n) l = num 8 l ∷ idsOf n (drop 8 l)
+
+-- with so many lost ids and gained records
+abbrev pub deltaWith : ℕ → ℕ → List ℕ → AssignmentDelta
+deltaWith m n l = record { layoutEpoch = num 8 l; lost = idsOf m (drop 12 l); gained = segmentsOf n (drop (12 + 8 * m) l) }
+
+unfoldable pub deltaOf : List ℕ → AssignmentDelta
+deltaOf l = deltaWith (num 2 (drop 8 l)) (num 2 (drop 10 l)) l
+
+-- ---- which values are deltas, and which bytes
+
+-- the ids rise strictly, from low on
+unfoldable pub idsFrom : ℕ → List ℕ → Bool
+idsFrom low [] = true
+idsFrom low (id ∷ ids) = leb low id && idsFrom (suc id) ids
+
+-- "It is malformed if ids do not rise, a record is bad ..."
+unfoldable pub okDelta : AssignmentDelta → Bool
+okDelta d = idsFrom 0 (d .lost) && okFrom 0 (d .gained)
+
+-- "... or it ends early or late."
+unfoldable pub isDelta : List ℕ → Bool
+isDelta l = eqb (sizeDelta (deltaOf l)) (length l) && okDelta (deltaOf l)

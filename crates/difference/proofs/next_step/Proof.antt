@@ -1,0 +1,76 @@
+-- `difference::next_step` meets its contract: StepLaws has the answers.
+-- Assumes nothing.
+use Prim.Native.Nat.{ℕ, _+_, _≤_, _<_}
+use native.Mathlib.Omega.{arith}
+use mathlib.Core.Path.{_≡_, sym, ap, _∙_}
+use mathlib.Core.Bool.{Bool, true, false, cond}
+use lib.ListN.{length, drop}
+use Rattle.packed.specs.Assignment.{segmentOf, segmentsOf}
+use Rattle.packed.proofs.AssignmentLaws.{size-least}
+use Rattle.difference.specs.Merge.{stepOf}
+use Rattle.difference.specs.declared.Step.the-variants.{Keep, Same}
+use Rattle.difference.proofs.StepLaws.{step-below, step-first}
+use Rattle.difference.proofs.next_step.Statement.{statement}
+use Rattle.difference.proofs.next_step.Tie as tie
+
+-- at least one record is left of y
+some : (c : tie.Else1) → 0 < c .before .before .before .args .n
+some c = let ne : c .before .before .before .args .n ≡ 0 → ⊥ = c .if1 .left in omega arith
+
+-- the ids of both records are within their slices
+within : (c : tie.Else1)
+    → let a = c .before .before .before .args in
+    (a .p + 8 ≤ length (a .x .now)) × (a .q + 8 ≤ length (a .y .now))
+within c =
+    let s = c .before .before .before in
+    let a = s .args in (
+      omega (arith, s .pre .0, size-least (segmentOf (drop (a .p) (a .x .now)))),
+      omega (arith, s .pre .1 (some c), size-least (segmentOf (drop (a .q) (a .y .now)))),
+    )
+
+returns : tie.Need-returns
+unfolding stepOf segmentsOf
+returns c =
+    let a = c .before .before .before .args in
+    ap (λ (n : ℕ). stepOf (segmentOf (drop (a .p) (a .x .now))) (segmentsOf n (drop (a .q) (a .y .now)))) (sym (c .if1 .taken))
+
+id-at-requires : tie.Need-id-at-requires
+id-at-requires c κs = within c .1
+
+id-at-requires-2 : tie.Need-id-at-requires-2
+id-at-requires-2 c κs = within (c .before) .0
+
+returns-2 : tie.Need-returns-2
+returns-2 c =
+    let i = c .before in
+    let e = i .before .before in
+    let a = e .before .before .before .args in
+    step-below (segmentOf (drop (a .p) (a .x .now))) (a .y .now) (a .q) (a .n) (some e)
+    (omega (arith, c .if2 .taken, i .id-at2 .ensures, i .before .id-at .ensures))
+
+same-record-requires : tie.Need-same-record-requires
+same-record-requires c κs =
+    let e = c .before .before .before in
+    let s = e .before .before .before in
+    (s .pre .0, s .pre .1 (some e))
+
+-- the first record of y is not below that of x
+not-below : (c : tie.After-same-record) (t : Bool) → c .same-record .result ≡ t
+    → let a = c .before .before .before .before .before .before .before .args in
+    cond t Same Keep ≡ stepOf (segmentOf (drop (a .p) (a .x .now))) (segmentsOf (a .n) (drop (a .q) (a .y .now)))
+not-below c t r =
+    let i = c .before .before in
+    let e = i .before .before in
+    let a = e .before .before .before .args in
+    step-first (segmentOf (drop (a .p) (a .x .now))) (a .y .now) (a .q) (a .n) (some e) t
+    (omega (arith, c .before .if2 .left, i .id-at2 .ensures, i .before .id-at .ensures)) (sym (c .same-record .ensures) ∙ r)
+
+returns-3 : tie.Need-returns-3
+returns-3 c = not-below (c .before) true (c .if3 .taken)
+
+returns-4 : tie.Need-returns-4
+returns-4 c = not-below (c .before) false (c .if3 .left)
+
+pub next-step-spec : {M : Type 1} → statement M
+next-step-spec =
+    tie.close (tie.spec returns id-at-requires id-at-requires-2 returns-2 same-record-requires returns-3 returns-4)

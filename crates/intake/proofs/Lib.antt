@@ -1,0 +1,3 @@
+mod RecordLaws
+mod RefusalLaws
+mod TurnLaws

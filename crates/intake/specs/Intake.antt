@@ -1,0 +1,89 @@
+-- What the functions of src/ answer.
+-- Assumes nothing.
+use Prim.Native.Nat.{ℕ, _+_, _-_, _*_, _≤_, _<_}
+use mathlib.Core.Path.{_≡_}
+use mathlib.Core.Bool.{true, false}
+use mathlib.Core.Logic.{_⊎_}
+use mathlib.Core.List.{List, [], _∷_, _++_}
+use mathlib.Core.Option.{Option, some, none}
+use lib.ListN.{length, take, drop}
+use Rattle.refusal.specs.declared.Refusal.{Refusal}
+use Rattle.refusal.specs.declared.Refusal.the-variants.{DuplicateSegment}
+use Rattle.packed_int.specs.Be.{bytesOf}
+use Rattle.packed_int.specs.Put.{put}
+use Rattle.readers.specs.Messages.{WireSegment, segmentOf}
+use Rattle.keyed.specs.Keyed.{holds, insert}
+use Rattle.packed.specs.Assignment.{idOf, slotSize}
+use Rattle.packed.specs.Assignment.{sizeSegment, sizeSegments, encodeRanges, encodeSegments, segmentsOf, encodeAssignment, sizeAssignment}
+use Rattle.repeats.specs.declared.Repeat.{Repeat}
+use Rattle.repeats.specs.declared.Repeat.the-variants as repeated
+use Rattle.content.specs.Content.{bucketsOf, segmentFault, assignedSegment, Content, refused, taken}
+use Rattle.segment_scan.specs.declared.SegmentScan.{SegmentScan}
+use Rattle.segment_check.specs.Verdicts.{ScanOf}
+use Rattle.intake.specs.declared.Tested.{Tested}
+use Rattle.intake.specs.declared.Tested.the-variants as tested
+use Rattle.intake.specs.declared.Added.{Added}
+use Rattle.intake.specs.declared.Added.the-variants as added
+use Rattle.intake.specs.declared.Intake.{Intake}
+use Rattle.intake.specs.declared.Intake.the-variants as intake
+
+-- ---- segments by themselves
+
+abbrev pub afterTest : Option Refusal → ℕ → Tested → Tested
+afterTest (some x) i t = tested.Bad i x
+afterTest none i t = t
+
+-- the first segment that is refused by itself, counted from i, and why; or how many there are
+unfoldable pub testFrom : List ℕ → ℕ → List WireSegment → Tested
+testFrom parent i [] = tested.Clear i
+testFrom parent i (w ∷ ws) = afterTest (segmentFault parent w) i (testFrom parent (i + 1) ws)
+
+-- an id that comes again is refused before what lies behind it
+abbrev pub repeatOr : Repeat → Refusal → Refusal
+repeatOr (repeated.Of id) x = DuplicateSegment (record { 0 = id })
+repeatOr repeated.Nowhere x = x
+
+-- the refusal, or else another one
+abbrev pub refusalElse : Option Refusal → Refusal → Refusal
+refusalElse (some x) y = x
+refusalElse none y = y
+
+-- ---- one more segment
+
+-- the bytes of a segment's record before its buckets
+abbrev pub headBytes : SegmentScan → List ℕ
+headBytes scan =
+    bytesOf 8 (scan .head .«segment_id») ++ (bytesOf 2 (scan .head .«hash_start») ++ (bytesOf 2 (scan .head .«hash_end») ++ bytesOf 2 (scan .run .count)))
+
+-- the segment p was walked over and is good, its record has room, and its buckets stand where they belong if the record goes behind the used bytes
+pub record PutReady (b : List ℕ) (used at size : ℕ) (p : List ℕ) (scan : SegmentScan) : Type 0 where
+  pub order : at ≤ used
+  pub room : used + size ≤ length b
+  pub scanned : ScanOf p scan
+  pub good : scan .run .good ≡ true
+  pub small : (scan .head .«hash_start» < 65536) × (scan .head .«hash_end» < 65536) × (scan .run .count < 65536)
+  pub size-is : size ≡ sizeSegment (assignedSegment (segmentOf p))
+  pub buckets : take (4 * length (segmentOf p .bucketRanges)) (drop (used + 14) b) ≡ encodeRanges (bucketsOf (segmentOf p))
+
+-- bytes put in at a place, those from there to the used ones' end moved up
+abbrev pub insertedAt : List ℕ → ℕ → ℕ → List ℕ → List ℕ
+insertedAt b used at bytes = put b at (bytes ++ take (used - at) (drop at b))
+
+-- where the buffer b holds m records from the place 10 on: the segment is refused, by itself or for its id; or its record has no room; or it is in its place
+abbrev pub AddedIs : List ℕ → ℕ → List ℕ → WireSegment → List ℕ → Added → Type 0
+AddedIs b m parent w b′ (added.Refused x) =
+    (segmentFault parent w ≡ some x)
+    ⊎ ((segmentFault parent w ≡ none) × (holds idOf (w .segmentId) (segmentsOf m (drop 10 b)) ≡ true) × (x ≡ DuplicateSegment (record { 0 = w .segmentId })))
+AddedIs b m parent w b′ added.Beyond =
+    (segmentFault parent w ≡ none) × (slotSize < 10 + sizeSegments (segmentsOf m (drop 10 b)) + sizeSegment (assignedSegment w))
+AddedIs b m parent w b′ (added.Size id size) =
+    (segmentFault parent w ≡ none) × (holds idOf (w .segmentId) (segmentsOf m (drop 10 b)) ≡ false)
+    × (id ≡ w .segmentId) × (size ≡ sizeSegment (assignedSegment w))
+    × (b′ ≡ put b 10 (encodeSegments (insert idOf (assignedSegment w) (segmentsOf m (drop 10 b)))))
+
+-- ---- the answer
+
+-- the packed assignment at the front of the buffer, and its size; or the refusal
+abbrev pub IntakeIs : List ℕ → Intake → List ℕ → Content → Type 0
+IntakeIs b r b′ (refused x) = r ≡ intake.Refused x
+IntakeIs b r b′ (taken a) = (r ≡ intake.Taken (sizeAssignment a)) × (b′ ≡ put b 0 (encodeAssignment a))

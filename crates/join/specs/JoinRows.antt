@@ -1,0 +1,14 @@
+-- The rows of a delta where they lie.
+-- Assumes nothing.
+use Prim.Native.Nat.{ℕ, _+_, _*_}
+use mathlib.Core.List.{List}
+use lib.ListN.{length}
+use Rattle.delta.specs.Delta.{deltaOf}
+use Rattle.join.specs.declared.Rows.{Rows}
+
+-- behind the head: so many lost ids, then so many gained records
+abbrev pub rowsOf : ℕ → ℕ → Rows
+rowsOf losses gains = record { lost = record { at = 12; left = losses }; gained = record { at = 12 + 8 * losses; left = gains } }
+
+abbrev pub rowsIn : List ℕ → Rows
+rowsIn d = rowsOf (length (deltaOf d .lost)) (length (deltaOf d .gained))

@@ -1,0 +1,2 @@
+pub mod JoinOutcome
+pub mod JoinRows

@@ -1,0 +1,4 @@
+pub mod OverlayLaws
+mod RowLaws
+mod WalkLaws
+pub mod FitLaws

@@ -1,0 +1,79 @@
+-- What the walks over a row of records and a delta's ids and records answer.
+--
+-- `overlay` is what apply does to an assignment's records and, by `join-overlay` of delta's laws, what join does to the first delta's.
+-- Assumes nothing.
+use Prim.Native.Nat.{ℕ, _+_, _*_, _≤_}
+use mathlib.Core.Path.{_≡_}
+use mathlib.Core.Bool.{Bool, true, false, cond}
+use mathlib.Core.List.{List, [], _∷_}
+use lib.ListN.{length, drop}
+use lib.Dec.{ltb, eqb, leb}
+use Rattle.keyed.specs.Keyed.{self, insertAll}
+use Rattle.packed.specs.Assignment.{AssignedSegment, idOf, sizeSegments, segmentsOf, okFrom}
+use Rattle.packed.proofs.AssignmentLaws.{Rest}
+use Rattle.delta.specs.Delta.{idsOf, idsFrom}
+use Rattle.delta.specs.Join.{strike}
+use Rattle.overlay.specs.declared.Row.{Row}
+use Rattle.overlay.specs.declared.Step.{Step}
+use Rattle.overlay.specs.declared.Step.the-variants.{End, Strike, Pass, Keep, Gain}
+use Rattle.overlay.specs.declared.Fit.{Fit}
+use Rattle.overlay.specs.declared.Fit.the-variants.{Size, Beyond}
+use Rattle.overlay.specs.declared.Turn.{Turn}
+use Rattle.overlay.specs.declared.Turn.the-variants as turn
+
+-- ---- records
+
+-- lost ids are struck, then gained records are written over any with their id
+unfoldable pub overlay : List ℕ → List AssignedSegment → List AssignedSegment → List AssignedSegment
+overlay lost gained gs = insertAll idOf gained (strike lost gs)
+
+-- the records, or the ids, of a row in the bytes s
+abbrev pub recordsIn : List ℕ → Row → List AssignedSegment
+recordsIn s row = segmentsOf (row .left) (drop (row .at) s)
+
+abbrev pub idsIn : List ℕ → Row → List ℕ
+idsIn s row = idsOf (row .left) (drop (row .at) s)
+
+-- the row lies in the bytes s, and its ids rise
+abbrev pub RecordRow : List ℕ → Row → Type 0
+RecordRow s row = Rest s (row .at) (row .left)
+
+pub record IdRow (s : List ℕ) (row : Row) : Type 0 where
+  pub fits : row .at + 8 * row .left ≤ length s
+  pub rise : idsFrom 0 (idsIn s row) ≡ true
+
+-- what to do with a record, by the first lost id
+abbrev pub stepByLost : ℕ → List ℕ → Step
+stepByLost id [] = Keep
+stepByLost id (i ∷ lost) = cond (ltb i id) Pass (cond (eqb i id) Strike Keep)
+
+-- and by the first gained record
+abbrev pub stepByGained : ℕ → List AssignedSegment → List ℕ → Step
+stepByGained id [] lost = stepByLost id lost
+stepByGained id (g ∷ gained) lost = cond (ltb (g .segmentId) id) Gain (cond (eqb (g .segmentId) id) Strike (stepByLost id lost))
+
+abbrev pub stepAtEnd : List AssignedSegment → Step
+stepAtEnd [] = End
+stepAtEnd (g ∷ gained) = Gain
+
+-- the next step, by the first of each row
+unfoldable pub stepOf : List ℕ → List AssignedSegment → List AssignedSegment → Step
+stepOf lost gained [] = stepAtEnd gained
+stepOf lost gained (g ∷ gs) = stepByGained (g .segmentId) gained lost
+
+-- how many records these are and how many bytes, if those are within the limit
+unfoldable pub fitOf : ℕ → List AssignedSegment → Fit
+fitOf limit gs = cond (leb (sizeSegments gs) limit) (Size (length gs) (sizeSegments gs)) Beyond
+
+-- ---- ids
+
+-- the ids of both rows
+unfoldable pub union : List ℕ → List ℕ → List ℕ
+union ids more = insertAll self more ids
+
+-- whose first id comes next
+unfoldable pub turnOf : List ℕ → List ℕ → Turn
+turnOf [] [] = turn.End
+turnOf [] (j ∷ js) = turn.Second
+turnOf (i ∷ is) [] = turn.First
+turnOf (i ∷ is) (j ∷ js) = cond (ltb i j) turn.First (cond (ltb j i) turn.Second turn.Skip)

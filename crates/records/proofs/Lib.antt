@@ -1,0 +1,4 @@
+pub mod CompareLaws
+pub mod InsertLaws
+mod MoveLaws
+pub mod PlaceLaws

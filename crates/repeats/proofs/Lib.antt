@@ -1,0 +1,3 @@
+pub mod RepeatLaws
+mod RowLaws
+mod SearchLaws

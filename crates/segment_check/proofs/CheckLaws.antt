@@ -1,0 +1,126 @@
+-- Laws of the verdict on a segment, one for each way through its tests: the name (12, 13), the buckets (10, 11), the range (9).
+--
+-- What a test has said stands as an equation; the segment's numbers and buckets are those of the walk over it (`SegmentIs`, `ScanOf`).
+-- Assumes nothing.
+use Prim.Native.Nat.{ℕ, _+_, _-_}
+use native.Mathlib.Nat.{add-sub-cancel-left}
+use mathlib.Core.Path.{_≡_, refl, sym, ap, _∙_}
+use mathlib.Core.Bool.{Bool, true, false, cond}
+use mathlib.Core.List.{List}
+use mathlib.Core.Option.{Option, some, none}
+use lib.ListN.{length, take, drop}
+use Rattle.parts.specs.Same.{sameBytes}
+use Rattle.parts.proofs.PartLaws.{rest}
+use Rattle.types.specs.declared.KeyRange.{KeyRange}
+use Rattle.types.specs.declared.KeyRangeError.{KeyRangeError}
+use Rattle.types.specs.declared.SegmentId.{SegmentId}
+use Rattle.types.specs.declared.RangeResult.{RangeResult}
+use Rattle.types.specs.declared.RangeResult.the-variants.{Valid, Invalid}
+use Rattle.types.specs.KeyRanges.{keyRange, newKeyRange}
+use Rattle.refusal.specs.declared.Refusal.{Refusal}
+use Rattle.refusal.specs.declared.Refusal.the-variants.{InvalidRange, InvalidBucketRange, OverlappingBucketRanges}
+use Rattle.refusal.specs.declared.Refusal.the-variants.{InvalidParent, AttachmentMismatch}
+use Rattle.ranges.specs.Overlap.{anyOverlap}
+use Rattle.topic.specs.Parents.{isParent}
+use Rattle.topic.specs.Names.{segmentTopic}
+use Rattle.keyed.specs.Keyed.{orElse}
+use Rattle.readers.specs.declared.SegmentHead.{SegmentHead}
+use Rattle.readers.specs.Messages.{segmentOf}
+use Rattle.readers.specs.Places.{SegmentIs}
+use Rattle.content.specs.Content.{wireId, bucketFault, bucketsOf, overlapFault, nameFault, segmentFault}
+use Rattle.segment_scan.specs.declared.SegmentScan.{SegmentScan}
+use Rattle.segment_scan.proofs.RunLaws.{run-bad, run-good, run-rising}
+use Rattle.bucket_rows.specs.Rows.{bucketsFrom}
+use Rattle.segment_check.specs.declared.Verdict.{Verdict}
+use Rattle.segment_check.specs.declared.Verdict.the-variants.{Good, Refused}
+use Rattle.segment_check.specs.Verdicts.{verdictOf, ScanOf}
+
+abbrev idOf : SegmentHead → SegmentId
+idOf head = record { 0 = head .«segment_id» }
+
+-- ---- the name
+
+pub name-no-parent : (parent p : List ℕ) → isParent parent ≡ false → Refused InvalidParent ≡ verdictOf (nameFault parent (segmentOf p))
+unfolding nameFault
+name-no-parent parent p e = rw e
+
+module _ (parent : List ℕ) {p : List ℕ} {head : SegmentHead} (S : SegmentIs p head) where
+  -- `&p[from..to]` against the name below `&parent[8..]`
+  abbrev same : Bool
+  same =
+      let from = head .«topic_start» in
+      sameBytes
+      (take (from + head .«topic_len» - from) (drop from p))
+      (segmentTopic (take (length parent - 8) (drop 8 parent)) (keyRange (head .«hash_start») (head .«hash_end»)) (idOf head))
+
+  module _ (g : isParent parent ≡ true) {t : Bool} (said : t ≡ same) where
+    opened : nameFault parent (segmentOf p) ≡ cond t none (some (AttachmentMismatch (idOf head)))
+    unfolding nameFault
+    opened =
+        rw (g, said, add-sub-cancel-left (head .«topic_start») (head .«topic_len»), rest parent 8, S .topic, S .start, S .end, S .id)
+
+    pub name-good : t ≡ true → Good ≡ verdictOf (nameFault parent (segmentOf p))
+    name-good y = sym (ap verdictOf opened ∙ rw y)
+
+    pub name-other : t ≡ false → Refused (AttachmentMismatch (idOf head)) ≡ verdictOf (nameFault parent (segmentOf p))
+    name-other y = sym (ap verdictOf opened ∙ rw y)
+
+-- ---- the buckets, then the name
+
+buckets-are : (p : List ℕ) → bucketsOf (segmentOf p) ≡ bucketsFrom p 0
+unfolding segmentOf
+buckets-are p = refl
+
+-- what is left of the tests behind the range
+abbrev pub bucketsFault : List ℕ → List ℕ → Option Refusal
+bucketsFault parent p =
+    let w = segmentOf p in
+    orElse (bucketFault (wireId w) 0 (w .bucketRanges)) (orElse (overlapFault w) (nameFault parent w))
+
+module _ (parent : List ℕ) {p : List ℕ} {scan : SegmentScan} (S : ScanOf p scan) where
+  pub bucket-bad : scan .run .good ≡ false
+      → Refused (InvalidBucketRange (idOf (scan .head)) (scan .run .count) (scan .run .last .start) (scan .run .last .end))
+      ≡ verdictOf (bucketsFault parent p)
+  bucket-bad g =
+      let b = run-bad (segmentOf p .bucketRanges) (wireId (segmentOf p)) (rw (S .run) at g) in
+      rw (b, S .run, S .head .id)
+
+  module _ (g : scan .run .good ≡ true) where
+    good : (id : SegmentId) → bucketFault id 0 (segmentOf p .bucketRanges) ≡ none
+    good = run-good (segmentOf p .bucketRanges) (rw (S .run) at g)
+
+    -- no two share a value
+    apart : anyOverlap (bucketsOf (segmentOf p)) ≡ false → {r : Verdict} → r ≡ verdictOf (nameFault parent (segmentOf p))
+        → r ≡ verdictOf (bucketsFault parent p)
+    apart a e = rw (good (wireId (segmentOf p)), a) e
+
+    pub buckets-rise : scan .run .rising ≡ true → {r : Verdict} → r ≡ verdictOf (nameFault parent (segmentOf p))
+        → r ≡ verdictOf (bucketsFault parent p)
+    buckets-rise h e = apart (run-rising (segmentOf p .bucketRanges) (rw (S .run) at g) (rw (S .run) at h)) e
+
+    module _ {t : Bool} (said : t ≡ anyOverlap (bucketsFrom p 0)) where
+      pub buckets-apart : t ≡ false → {r : Verdict} → r ≡ verdictOf (nameFault parent (segmentOf p)) → r ≡ verdictOf (bucketsFault parent p)
+      buckets-apart y e = apart (ap anyOverlap (buckets-are p) ∙ sym said ∙ y) e
+
+      pub buckets-overlap : t ≡ true → Refused (OverlappingBucketRanges (idOf (scan .head))) ≡ verdictOf (bucketsFault parent p)
+      buckets-overlap y =
+          let a : anyOverlap (bucketsOf (segmentOf p)) ≡ true = ap anyOverlap (buckets-are p) ∙ sym said ∙ y in
+          rw (good (wireId (segmentOf p)), a, S .head .id)
+
+-- ---- the range, then the others
+
+module _ (parent : List ℕ) {p : List ℕ} {head : SegmentHead} (S : SegmentIs p head) where
+  -- what `KeyRange::new` said of the numbers of the walk, it says of the segment's
+  range-is : {q : RangeResult} → newKeyRange (head .«hash_start») (head .«hash_end») ≡ q
+      → newKeyRange (segmentOf p .hashStart) (segmentOf p .hashEnd) ≡ q
+  range-is h = rw (← S .start, ← S .end) h
+
+  pub range-bad : {e : KeyRangeError} → newKeyRange (head .«hash_start») (head .«hash_end») ≡ Invalid e
+      → Refused (InvalidRange (idOf head) e) ≡ verdictOf (segmentFault parent (segmentOf p))
+  unfolding segmentFault
+  range-bad h = rw (range-is h, S .id)
+
+  pub range-good : {k : KeyRange} {r : Verdict} → newKeyRange (head .«hash_start») (head .«hash_end») ≡ Valid k
+      → r ≡ verdictOf (bucketsFault parent p) → r ≡ verdictOf (segmentFault parent (segmentOf p))
+  unfolding segmentFault
+  range-good h e = rw (range-is h) e

@@ -1,0 +1,22 @@
+-- What the tests of one segment answer.
+-- Assumes nothing.
+use mathlib.Core.Path.{_≡_}
+use mathlib.Core.List.{List}
+use mathlib.Core.Option.{Option, some, none}
+use Prim.Native.Nat.{ℕ}
+use Rattle.refusal.specs.declared.Refusal.{Refusal}
+use Rattle.readers.specs.Messages.{segmentOf}
+use Rattle.readers.specs.Places.{SegmentIs}
+use Rattle.segment_scan.specs.declared.SegmentScan.{SegmentScan}
+use Rattle.segment_scan.specs.Scan.{runOf}
+use Rattle.segment_check.specs.declared.Verdict.{Verdict}
+use Rattle.segment_check.specs.declared.Verdict.the-variants.{Good, Refused}
+
+abbrev pub verdictOf : Option Refusal → Verdict
+verdictOf none = Good
+verdictOf (some x) = Refused x
+
+-- the scan is the segment p's
+pub record ScanOf (p : List ℕ) (scan : SegmentScan) : Type 0 where
+  pub head : SegmentIs p (scan .head)
+  pub run : scan .run ≡ runOf (segmentOf p .bucketRanges)

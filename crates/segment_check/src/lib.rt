@@ -1,0 +1,88 @@
+// The tests of one segment of a message, 9 to 13: `AssignedSegment::try_from_pb`.
+//
+// The segment comes with the walk over it (segment_scan), which has tested its buckets one by one; `good` says that the parent is one.
+ghost use mathlib.Core.Path.{_≡_};
+ghost use Rattle.topic.specs.Parents.{isParent};
+ghost use Rattle.keyed.specs.Keyed.{orElse};
+ghost use Rattle.readers.specs.Messages.{segmentOf};
+ghost use Rattle.readers.specs.Places.{SegmentIs};
+ghost use Rattle.content.specs.Content.{wireId, bucketFault, overlapFault, nameFault, segmentFault};
+ghost use Rattle.segment_check.specs.Verdicts.{verdictOf, ScanOf};
+use readers::SegmentHead;
+use refusal::Refusal;
+use segment_scan::SegmentScan;
+use types::KeyRange;
+use types::RangeResult;
+use types::SegmentId;
+
+pub enum Verdict {
+    Good,
+    Refused(Refusal),
+}
+
+// The parent (12), then the segment's name (13).
+fn check_name(p: &[u8], parent: &[u8], good: bool, head: SegmentHead) -> Verdict
+    requires { ⌜ good ≡ isParent (now parent) ⌝ }
+    requires { ⌜ SegmentIs (now p) head ⌝ }
+    ensures { λ r. ⌜ r ≡ verdictOf (nameFault (now (parent .entry)) (segmentOf (now (p .entry)))) ⌝ }
+{
+    if !good {
+        return Verdict::Refused(Refusal::InvalidParent);
+    }
+    let segment_id = SegmentId(head.segment_id);
+    let range = KeyRange {
+        start: head.hash_start,
+        end: head.hash_end,
+    };
+    let from = head.topic_start;
+    let to = from + head.topic_len;
+    if topic::is_segment_topic(&p[from..to], &parent[8..], range, segment_id) {
+        Verdict::Good
+    } else {
+        Verdict::Refused(Refusal::AttachmentMismatch { segment_id })
+    }
+}
+
+// Each bucket (10), then all of them (11), unless they rise; then the name.
+fn check_buckets(p: &[u8], parent: &[u8], good: bool, scan: SegmentScan) -> Verdict
+    requires { ⌜ good ≡ isParent (now parent) ⌝ }
+    requires { ⌜ ScanOf (now p) scan ⌝ }
+    ensures { λ r. ⌜ r ≡ verdictOf (orElse (bucketFault (wireId (segmentOf (now (p .entry)))) 0 (segmentOf (now (p .entry)) .bucketRanges))
+        (orElse (overlapFault (segmentOf (now (p .entry)))) (nameFault (now (parent .entry)) (segmentOf (now (p .entry)))))) ⌝ }
+{
+    let head = scan.head;
+    let run = scan.run;
+    let segment_id = SegmentId(head.segment_id);
+    if !run.good {
+        let last = run.last;
+        return Verdict::Refused(Refusal::InvalidBucketRange {
+            segment_id,
+            index: run.count,
+            start: last.start,
+            end: last.end,
+        });
+    }
+    if run.rising {
+        return check_name(p, parent, good, head);
+    }
+    if bucket_rows::buckets_overlap(p) {
+        return Verdict::Refused(Refusal::OverlappingBucketRanges { segment_id });
+    }
+    check_name(p, parent, good, head)
+}
+
+// The segment in the part p: its range (9), then buckets and name.
+pub fn check_segment(p: &[u8], parent: &[u8], good: bool, scan: SegmentScan) -> Verdict
+    requires { ⌜ good ≡ isParent (now parent) ⌝ }
+    requires { ⌜ ScanOf (now p) scan ⌝ }
+    ensures { λ r. ⌜ r ≡ verdictOf (segmentFault (now (parent .entry)) (segmentOf (now (p .entry)))) ⌝ }
+{
+    let head = scan.head;
+    match KeyRange::new(head.hash_start, head.hash_end) {
+        RangeResult::Invalid(source) => {
+            let segment_id = SegmentId(head.segment_id);
+            Verdict::Refused(Refusal::InvalidRange { segment_id, source })
+        }
+        RangeResult::Valid(_) => check_buckets(p, parent, good, scan),
+    }
+}

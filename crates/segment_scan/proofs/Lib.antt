@@ -1,0 +1,5 @@
+mod BucketLaws
+pub mod RunLaws
+mod RangeLaws
+mod HeadLaws
+mod ScanLaws

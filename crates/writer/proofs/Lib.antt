@@ -1,0 +1,4 @@
+mod SizeLaws
+mod WritingLaws
+mod FieldLaws
+mod OutcomeLaws

@@ -1,0 +1,194 @@
+-- What the writers answer.
+--
+-- In order: a name that fits (`name-written`, `name-refused`); a message that does not fit (`message-no-head`, `message-beyond`), and one
+-- that does (`Fits`: `message-room`, `message-written`); what `packed::read_whole` answers (`whole-not`, `Whole`: `whole-is`, `whole-rest`);
+-- the cases of `writeOutcome` (`write-malformed`, `write-empty`, `write-not-utf8`, `write-no-parent`, `write-below`).
+-- Assumes nothing.
+use Prim.Native.Nat.{ℕ, _+_, _-_, _≤_, _<_}
+use native.Mathlib.Nat.{not-suc-le-zero}
+use native.Mathlib.Omega.{arith}
+use mathlib.Core.Path.{_≡_, refl, sym, ap, _∙_}
+use mathlib.Core.Bool.{Bool, true, false, cond}
+use mathlib.Core.List.{List, [], _∷_, _++_}
+use lib.ListN.{length, drop, length-append}
+use lib.Dec.{leb}
+use borrow.Author.Tests.{le-leb, lt-leb, leb-true, leb-false}
+use Rattle.refusal.specs.declared.Refusal.{Refusal}
+use Rattle.refusal.specs.declared.Refusal.the-variants.{MalformedInput, InvalidUtf8, InvalidParent, ResultTooLong}
+use Rattle.utf8.specs.Table.{isUtf8}
+use Rattle.ranges.specs.Meaning.{both-true}
+use Rattle.packed_int.specs.Be.{beAt}
+use Rattle.packed_int.specs.Put.{put}
+use Rattle.topic.specs.Build as build
+use Rattle.topic.specs.Parents.{isParent, pathOf}
+use Rattle.topic.specs.declared.NameAnswer.{NameAnswer}
+use Rattle.topic.specs.declared.NameAnswer.the-variants as name
+use Rattle.output.specs.declared.WriteAnswer.the-variants.{Written}
+use Rattle.output.specs.Output.{Outcome, outcome, refuse, written}
+use Rattle.wire_writer.specs.Encode.{numberField}
+use Rattle.packed.specs.declared.Packed.the-variants as packed
+use Rattle.packed.specs.Answers.{wholeRead}
+use Rattle.packed.specs.Assignment.{AssignedSegment, num, segmentsOf, assignmentOf, sizeAssignment, startsAssignment, isAssignment}
+use Rattle.packed.proofs.AssignmentLaws.{length-segmentsOf, first-segments, Rest, rest-start}
+use Rattle.assignment_message.specs.Message.{segmentFields, assignmentMessage}
+use Rattle.writer.specs.Write.{withParent, writeOutcome, roomOf}
+use Rattle.writer.specs.declared.Room.the-variants.{Size, Beyond}
+
+-- ---- a name that fits into o
+
+module _ (text o last : List ℕ) (h : length text ≤ length o) where
+  name-fits : (a : NameAnswer) → build.outcome a last ≡ build.written text o → (a ≡ name.Written (length text)) × (last ≡ put o 0 text)
+  unfolding build.written
+  name-fits a e =
+      let f : build.outcome a last ≡ build.outcome (name.Written (length text)) (put o 0 text) = e ∙ rw (le-leb (length text) (length o) h) in
+      (ap (λ (x : build.Outcome). x .answer) f, ap (λ (x : build.Outcome). x .out) f)
+
+  pub name-written : (n : ℕ) → build.outcome (name.Written n) last ≡ build.written text o → (n ≡ length text) × (last ≡ put o 0 text)
+  name-written n e =
+      let f : (name.Written n ≡ name.Written (length text)) × (last ≡ put o 0 text) = name-fits (name.Written n) e in
+      let k : n ≡ length text = cc in
+      (k, f .1)
+
+  pub name-refused : (x : Refusal) → build.outcome (name.Refused x) last ≡ build.written text o → ⊥
+  name-refused x e =
+      let f : (name.Refused x ≡ name.Written (length text)) × (last ≡ put o 0 text) = name-fits (name.Refused x) e in
+      let z : _≡_ {A = ℕ} 0 1 = cc in
+      omega arith
+
+-- ---- a message: the epoch's field, and those of the segments
+
+-- the epoch's field has head bytes, the segments' fields n, and o has room for both
+pub record Fits (path : List ℕ) (gs : List AssignedSegment) (epoch o : List ℕ) (head n : ℕ) : Type 0 where
+  pub whole : length (epoch ++ segmentFields path gs) ≡ head + n
+  pub size : head + n ≤ length o
+  pub room : 0 + length (epoch ++ segmentFields path gs) ≤ length o
+
+module _ (path : List ℕ) (gs : List AssignedSegment) (epoch o : List ℕ) where
+  too-long : length o < length epoch + length (segmentFields path gs) → refuse ResultTooLong o ≡ written (epoch ++ segmentFields path gs) o
+  unfolding written
+  too-long h =
+      let k : length o < length (epoch ++ segmentFields path gs) = omega (arith, length-append epoch (segmentFields path gs)) in
+      rw (lt-leb (length (epoch ++ segmentFields path gs)) (length o) k)
+
+  pub message-no-head : length o < length epoch → refuse ResultTooLong o ≡ written (epoch ++ segmentFields path gs) o
+  message-no-head h = too-long (omega arith)
+
+  module _ (head : ℕ) (e : head ≡ length epoch) (h : head ≤ length o) where
+    pub message-beyond : Beyond ≡ roomOf (length o - head) path gs → refuse ResultTooLong o ≡ written (epoch ++ segmentFields path gs) o
+    unfolding roomOf
+    message-beyond r = go (leb (length (segmentFields path gs)) (length o - head)) refl
+      where
+        go : (t : Bool) → leb (length (segmentFields path gs)) (length o - head) ≡ t
+            → refuse ResultTooLong o ≡ written (epoch ++ segmentFields path gs) o
+        go true k =
+            let f : Beyond ≡ Size (length (segmentFields path gs)) = r ∙ rw k in
+            let z : _≡_ {A = ℕ} 0 1 = cc in
+            absurd (omega arith)
+        go false k = too-long (omega (arith, leb-false (length (segmentFields path gs)) (length o - head) k))
+
+    pub message-room : (n : ℕ) → Size n ≡ roomOf (length o - head) path gs → Fits path gs epoch o head n
+    unfolding roomOf
+    message-room n r = go (leb (length (segmentFields path gs)) (length o - head)) refl
+      where
+        go : (t : Bool) → leb (length (segmentFields path gs)) (length o - head) ≡ t → Fits path gs epoch o head n
+        go true k =
+            let f : Size n ≡ Size (length (segmentFields path gs)) = r ∙ rw k in
+            let g : n ≡ length (segmentFields path gs) = cc in
+            let m = leb-true (length (segmentFields path gs)) (length o - head) k in
+            let l = length-append epoch (segmentFields path gs) in
+            record { whole = omega arith; size = omega arith; room = omega arith }
+        go false k =
+            let f : Size n ≡ Beyond = r ∙ rw k in
+            let z : _≡_ {A = ℕ} 0 1 = cc in
+            absurd (omega arith)
+
+  pub message-written : (head n : ℕ) → Fits path gs epoch o head n → (q : List ℕ) → q ≡ put o 0 (epoch ++ segmentFields path gs)
+      → outcome (Written (head + n)) q ≡ written (epoch ++ segmentFields path gs) o
+  unfolding written
+  message-written head n w q f =
+      let m : length (epoch ++ segmentFields path gs) ≤ length o = omega (arith, w .room) in
+      rw (le-leb (length (epoch ++ segmentFields path gs)) (length o) m, w .whole, f)
+
+-- ---- what `packed::read_whole` answers
+
+pub whole-not : (s : List ℕ) → packed.Malformed ≡ wholeRead s → isAssignment s ≡ false
+unfolding wholeRead
+whole-not s e = go (isAssignment s) refl
+  where
+    go : (t : Bool) → isAssignment s ≡ t → isAssignment s ≡ false
+    go true k =
+        let f : packed.Malformed ≡ packed.Assignment (sizeAssignment (assignmentOf s)) (length (assignmentOf s .segments)) = e ∙ rw k in
+        let z : _≡_ {A = ℕ} 0 1 = cc in
+        absurd (omega arith)
+    go false k = k
+
+-- s is a packed assignment of n segments
+pub record Whole (s : List ℕ) (n : ℕ) : Type 0 where
+  pub good : isAssignment s ≡ true
+  pub count : n ≡ length (assignmentOf s .segments)
+
+pub whole-is : (s : List ℕ) (z n : ℕ) → packed.Assignment z n ≡ wholeRead s → Whole s n
+unfolding wholeRead
+whole-is s z n e = go (isAssignment s) refl
+  where
+    go : (t : Bool) → isAssignment s ≡ t → Whole s n
+    go true k =
+        let f : packed.Assignment z n ≡ packed.Assignment (sizeAssignment (assignmentOf s)) (length (assignmentOf s .segments)) = e ∙ rw k in
+        record { good = k; count = cc }
+    go false k =
+        let f : packed.Assignment z n ≡ packed.Malformed = e ∙ rw k in
+        let z : _≡_ {A = ℕ} 0 1 = cc in
+        absurd (omega arith)
+
+module _ (s : List ℕ) (n : ℕ) (w : Whole s n) where
+  whole-count : n ≡ beAt 2 s 8
+  unfolding assignmentOf num beAt
+  whole-count = w .count ∙ length-segmentsOf (num 2 (drop 8 s)) (drop 10 s)
+
+  pub whole-rest : Rest s 10 n
+  unfolding isAssignment
+  whole-rest = rest-start s n (both-true (startsAssignment s) _ (w .good) .0) whole-count
+
+  whole-message : (path : List ℕ)
+      → assignmentMessage path (assignmentOf s) ≡ numberField 1 (num 8 s) ++ segmentFields path (segmentsOf n (drop 10 s))
+  unfolding assignmentMessage assignmentOf
+  whole-message path = ap (λ (gs : List AssignedSegment). numberField 1 (num 8 s) ++ segmentFields path gs) (first-segments s n whole-count)
+
+-- ---- the cases of `writeOutcome`
+
+with-parent : (parent : List ℕ) (gs : List AssignedSegment) (x : Outcome) (o : List ℕ) → 0 < length gs
+    → withParent parent gs x o ≡ cond (isUtf8 parent) (cond (isParent parent) x (refuse InvalidParent o)) (refuse InvalidUtf8 o)
+with-parent parent [] x o h = absurd (not-suc-le-zero h)
+with-parent parent (g ∷ gs) x o h = refl
+
+module _ (s parent o : List ℕ) where
+  pub write-malformed : packed.Malformed ≡ wholeRead s → refuse MalformedInput o ≡ writeOutcome s parent o
+  unfolding writeOutcome
+  write-malformed e = rw (whole-not s e)
+
+  module _ (n : ℕ) (w : Whole s n) where
+    -- without a segment the parent is not looked at
+    pub write-empty : n ≡ 0 → written (numberField 1 (num 8 s) ++ segmentFields parent (segmentsOf 0 (drop 10 s))) o ≡ writeOutcome s parent o
+    unfolding writeOutcome assignmentMessage segmentFields segmentsOf assignmentOf
+    write-empty e =
+        let none : assignmentOf s .segments ≡ [] = first-segments s n (whole-count s n w) ∙ ap (λ (k : ℕ). segmentsOf k (drop 10 s)) e in
+        simp (w .good, none)
+
+    module _ (h : 0 < n) where
+      behind : writeOutcome s parent o
+          ≡ cond (isUtf8 parent)
+          (cond (isParent parent) (written (assignmentMessage (pathOf parent) (assignmentOf s)) o) (refuse InvalidParent o))
+          (refuse InvalidUtf8 o)
+      unfolding writeOutcome
+      behind = rw (w .good) (with-parent parent (assignmentOf s .segments) _ o (omega (arith, w .count)))
+
+      pub write-not-utf8 : isUtf8 parent ≡ false → refuse InvalidUtf8 o ≡ writeOutcome s parent o
+      write-not-utf8 u = sym (behind ∙ rw u)
+
+      module _ (u : isUtf8 parent ≡ true) where
+        pub write-no-parent : isParent parent ≡ false → refuse InvalidParent o ≡ writeOutcome s parent o
+        write-no-parent q = sym (behind ∙ rw (u, q))
+
+        pub write-below : isParent parent ≡ true
+            → written (numberField 1 (num 8 s) ++ segmentFields (pathOf parent) (segmentsOf n (drop 10 s))) o ≡ writeOutcome s parent o
+        write-below q = ap (λ (l : List ℕ). written l o) (sym (whole-message s n w (pathOf parent))) ∙ sym (behind ∙ rw (u, q))

@@ -1,0 +1,220 @@
+// A packed assignment written as a `ScalableConsumerAssignment` message: `ConsumerAssignment::to_pb`.
+//
+// Sizes come first: a part's length stands before it, and nothing is written before everything is known to fit. Each segment's buckets are gone over three times in
+// all.
+ghost use mathlib.Core.Path.{_≡_};
+ghost use Prim.Native.Nat.{_+_, _*_, _≤_, _<_};
+ghost use mathlib.Core.List.{_++_};
+ghost use lib.ListN.{length, drop};
+ghost use Rattle.packed_int.specs.Put.{put};
+ghost use Rattle.topic.specs.Names.{decimal, segmentTopic};
+ghost use Rattle.output.specs.Output.{outcome, written};
+ghost use Rattle.packed.specs.Assignment.{num, rangesOf, segmentOf, segmentsOf, sizeSegment};
+ghost use Rattle.packed.proofs.AssignmentLaws.{Rest};
+ghost use Rattle.wire_writer.specs.Encode.{numberField};
+ghost use Rattle.assignment_message.specs.Message.{rangeMessage, bucketFields, segmentMessage, segmentFields};
+ghost use Rattle.writer.specs.Write.{roomOf, writeOutcome};
+use output::WriteAnswer;
+use packed::Packed;
+use refusal::Refusal;
+use topic::NameAnswer;
+use types::KeyRange;
+use types::SegmentId;
+
+// How many bytes the segments need.
+enum Room {
+    Size(usize),
+    // More than the limit.
+    Beyond,
+}
+
+// How many digits v has in decimal.
+fn decimal_size(v: u64) -> usize
+    ensures { λ r. ⌜ r ≡ length (decimal v) ⌝ }
+{
+    let mut n: usize = 1;
+    let mut rest = v;
+    while 10 <= rest {
+        rest = rest / 10;
+        n = n + 1;
+    }
+    n
+}
+
+// The length of a segment's name below the path: scheme, path, separators, eight hex digits, and the id.
+fn topic_size(path: &[u8], range: KeyRange, id: u64) -> usize
+    ensures { λ r. ⌜ r ≡ length (segmentTopic (now (path .entry)) range (record { 0 = id })) ⌝ }
+{
+    21 + path.len() + decimal_size(id)
+}
+
+// The length of a range's message.
+fn range_size(range: KeyRange) -> usize
+    ensures { λ r. ⌜ r ≡ length (rangeMessage range) ⌝ }
+{
+    wire_writer::number_size(1, range.start as u64) + wire_writer::number_size(2, range.end as u64)
+}
+
+// The length of the fields of the n buckets from a place on.
+fn buckets_size(s: &[u8], at: usize, n: usize) -> usize
+    requires { ⌜ at + 4 * n ≤ length (now s) ⌝ }
+    requires { ⌜ n < 65536 ⌝ }
+    ensures { λ r. ⌜ r ≡ length (bucketFields (rangesOf n (drop at (now (s .entry))))) ⌝ }
+{
+    let mut size: usize = 0;
+    let mut p = at;
+    let mut left = n;
+    while 0 < left {
+        let len = range_size(packed::range_at(s, p));
+        size = size + wire_writer::part_head_size(5, len) + len;
+        p = p + 4;
+        left = left - 1;
+    }
+    size
+}
+
+// The length of the message of the segment whose record stands at the place p.
+fn segment_size(s: &[u8], p: usize, path: &[u8]) -> usize
+    requires { ⌜ p + sizeSegment (segmentOf (drop p (now s))) ≤ length (now s) ⌝ }
+    ensures { λ r. ⌜ r ≡ length (segmentMessage (now (path .entry)) (segmentOf (drop p (now (s .entry))))) ⌝ }
+{
+    let id = packed_int::read_u64(s, p);
+    let range = packed::range_at(s, p + 8);
+    let count = packed_int::read_u16(s, p + 12) as usize;
+    let topic = topic_size(path, range, id);
+    let numbers = wire_writer::number_size(1, id)
+        + wire_writer::number_size(2, range.start as u64)
+        + wire_writer::number_size(3, range.end as u64);
+    let buckets = buckets_size(s, p + 14, count);
+    numbers + wire_writer::part_head_size(4, topic) + topic + buckets
+}
+
+// How many bytes the fields of the m segments from a place on have.
+fn segments_room(s: &[u8], at: usize, m: usize, path: &[u8], limit: usize) -> Room
+    requires { ⌜ Rest (now s) at m ⌝ }
+    ensures { λ r. ⌜ r ≡ roomOf limit (now (path .entry)) (segmentsOf m (drop at (now (s .entry)))) ⌝ }
+{
+    let mut size: usize = 0;
+    let mut p = at;
+    let mut left = m;
+    while 0 < left {
+        let len = segment_size(s, p, path);
+        let more = wire_writer::part_head_size(2, len) + len;
+        if limit - size < more {
+            return Room::Beyond;
+        }
+        size = size + more;
+        p = p + records::size_at(s, p);
+        left = left - 1;
+    }
+    Room::Size(size)
+}
+
+// Writes the fields of the n buckets from a place on to out, and answers the place behind them.
+fn write_buckets(s: &[u8], at: usize, n: usize, out: &mut [u8], to: usize) -> usize
+    requires { ⌜ at + 4 * n ≤ length (now s) ⌝ }
+    requires { ⌜ to + length (bucketFields (rangesOf n (drop at (now s)))) ≤ length (now out) ⌝ }
+    ensures { λ r. ⌜ (r ≡ to + length (bucketFields (rangesOf n (drop at (now (s .entry))))))
+        × (now (out .exit) ≡ put (now (out .entry)) to (bucketFields (rangesOf n (drop at (now (s .entry)))))) ⌝ }
+{
+    let mut next = to;
+    let mut p = at;
+    let mut left = n;
+    while 0 < left {
+        let range = packed::range_at(s, p);
+        next = wire_writer::write_part_head(out, next, 5, range_size(range));
+        next = wire_writer::write_number(out, next, 1, range.start as u64);
+        next = wire_writer::write_number(out, next, 2, range.end as u64);
+        p = p + 4;
+        left = left - 1;
+    }
+    next
+}
+
+// Writes a segment's name to out, and answers the place behind it.
+fn write_topic(path: &[u8], range: KeyRange, id: u64, out: &mut [u8], to: usize) -> usize
+    requires { ⌜ to + length (segmentTopic (now path) range (record { 0 = id })) ≤ length (now out) ⌝ }
+    ensures { λ r. ⌜ (r ≡ to + length (segmentTopic (now (path .entry)) range (record { 0 = id })))
+        × (now (out .exit) ≡ put (now (out .entry)) to (segmentTopic (now (path .entry)) range (record { 0 = id }))) ⌝ }
+{
+    match topic::write_segment_topic(path, range, SegmentId(id), &mut out[to..]) {
+        NameAnswer::Written(len) => to + len,
+        NameAnswer::Refused(_) => to,
+    }
+}
+
+// Writes the message of the segment whose record stands at the place p to out, and answers the place behind it.
+fn write_segment(s: &[u8], p: usize, path: &[u8], out: &mut [u8], to: usize) -> usize
+    requires { ⌜ p + sizeSegment (segmentOf (drop p (now s))) ≤ length (now s) ⌝ }
+    requires { ⌜ to + length (segmentMessage (now path) (segmentOf (drop p (now s)))) ≤ length (now out) ⌝ }
+    ensures { λ r. ⌜ (r ≡ to + length (segmentMessage (now (path .entry)) (segmentOf (drop p (now (s .entry))))))
+        × (now (out .exit) ≡ put (now (out .entry)) to (segmentMessage (now (path .entry)) (segmentOf (drop p (now (s .entry)))))) ⌝ }
+{
+    let id = packed_int::read_u64(s, p);
+    let range = packed::range_at(s, p + 8);
+    let count = packed_int::read_u16(s, p + 12) as usize;
+    let start = wire_writer::write_number(out, to, 1, id);
+    let end = wire_writer::write_number(out, start, 2, range.start as u64);
+    let head = wire_writer::write_number(out, end, 3, range.end as u64);
+    let topic = wire_writer::write_part_head(out, head, 4, topic_size(path, range, id));
+    let buckets = write_topic(path, range, id, out, topic);
+    write_buckets(s, p + 14, count, out, buckets)
+}
+
+// Writes the fields of the m segments from a place on to out, and answers the place behind them.
+fn write_segments(s: &[u8], at: usize, m: usize, path: &[u8], out: &mut [u8], to: usize) -> usize
+    requires { ⌜ Rest (now s) at m ⌝ }
+    requires { ⌜ to + length (segmentFields (now path) (segmentsOf m (drop at (now s)))) ≤ length (now out) ⌝ }
+    ensures { λ r. ⌜ (r ≡ to + length (segmentFields (now (path .entry)) (segmentsOf m (drop at (now (s .entry))))))
+        × (now (out .exit) ≡ put (now (out .entry)) to (segmentFields (now (path .entry)) (segmentsOf m (drop at (now (s .entry)))))) ⌝ }
+{
+    let mut next = to;
+    let mut p = at;
+    let mut left = m;
+    while 0 < left {
+        let len = segment_size(s, p, path);
+        next = wire_writer::write_part_head(out, next, 2, len);
+        next = write_segment(s, p, path, out, next);
+        p = p + records::size_at(s, p);
+        left = left - 1;
+    }
+    next
+}
+
+// Writes the message of the m segments of the packed assignment s, where it fits.
+fn write_message(s: &[u8], m: usize, path: &[u8], out: &mut [u8]) -> WriteAnswer
+    requires { ⌜ Rest (now s) 10 m ⌝ }
+    ensures { λ r. ⌜ outcome r (now (out .exit)) ≡ written (numberField 1 (num 8 (now (s .entry))) ++ segmentFields (now (path .entry)) (segmentsOf m (drop 10 (now (s .entry))))) (now (out .entry)) ⌝ }
+{
+    let epoch = packed_int::read_u64(s, 0);
+    let head = wire_writer::number_size(1, epoch);
+    if out.len() < head {
+        return WriteAnswer::Refused(Refusal::ResultTooLong);
+    }
+    let Room::Size(size) = segments_room(s, 10, m, path, out.len() - head) else {
+        return WriteAnswer::Refused(Refusal::ResultTooLong);
+    };
+    let next = wire_writer::write_number(out, 0, 1, epoch);
+    write_segments(s, 10, m, path, out, next);
+    WriteAnswer::Written(head + size)
+}
+
+// Writes the packed assignment, whose segments lie below the parent, as a message. Tested in order: the lent form (20), where it has a segment the parent's UTF-8 (7) and
+// form (12), the room (21). A refusal leaves the output as it was.
+pub fn to_pb(assignment: &[u8], parent: &[u8], out: &mut [u8]) -> WriteAnswer
+    ensures { λ r. ⌜ outcome r (now (out .exit)) ≡ writeOutcome (now (assignment .entry)) (now (parent .entry)) (now (out .entry)) ⌝ }
+{
+    let Packed::Assignment(_, count) = packed::read_whole(assignment) else {
+        return WriteAnswer::Refused(Refusal::MalformedInput);
+    };
+    if count == 0 {
+        return write_message(assignment, 0, parent, out);
+    }
+    if !utf8::is_utf8(parent) {
+        return WriteAnswer::Refused(Refusal::InvalidUtf8);
+    }
+    if !topic::is_parent(parent) {
+        return WriteAnswer::Refused(Refusal::InvalidParent);
+    }
+    write_message(assignment, count, &parent[8..], out)
+}
