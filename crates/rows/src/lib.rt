@@ -1,1 +1,1 @@
-// The specification's worked rows, proved of the definitions by computation: see specs/Rows.antt. There is nothing to call.
+// The specification's worked rows, proved of the definitions that contracts cite: see specs/Rows.antt. There is nothing to call.

@@ -1,0 +1,2 @@
+mod BucketLaws
+pub mod Table

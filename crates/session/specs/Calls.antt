@@ -1,0 +1,119 @@
+-- The calls on bytes: what each gives over every record, store, message and output. The contracts of the programs are these equations.
+-- Assumes nothing.
+use Prim.Native.Nat.{ℕ, _*_}
+use mathlib.Core.Bool.{Bool, true, false, cond, _&&_}
+use mathlib.Core.List.{List}
+use lib.ListN.{length}
+use lib.Dec.{ltb, leb, eqb}
+use Rattle.types.specs.declared.ControllerIncarnation.{ControllerIncarnation}
+use Rattle.refusal.specs.declared.Refusal.{Refusal}
+use Rattle.refusal.specs.declared.Refusal.the-variants.{StoreTooShort, InvalidUtf8, IdentityTooLong, MalformedStore}
+use Rattle.parts.specs.Same.{sameBytes}
+use Rattle.utf8.specs.Table.{isUtf8}
+use Rattle.packed_int.specs.Put.{put}
+use Rattle.packed.specs.Assignment.{slotSize}
+use Rattle.delta.specs.Delta.{encodeDelta, sizeDelta}
+use Rattle.session.specs.declared.SessionRecord.{SessionRecord}
+use Rattle.session.specs.declared.Floor.the-variants.{Unset}
+use Rattle.session.specs.declared.Answer.{Answer}
+use Rattle.session.specs.declared.Answer.the-variants as answer
+use Rattle.session.specs.declared.Opened.{Opened}
+use Rattle.session.specs.declared.Opened.the-variants as opened
+use Rattle.session.specs.declared.Match.{Match}
+use Rattle.session.specs.declared.Match.the-variants as match′
+use Rattle.session.specs.Store.{minStore, identitySlot, slot, writeAll}
+use Rattle.session.specs.Identity.{Identity, maxTexts, kindByte, textsLength, encodeIdentity, topicOf, subscriptionOf, consumerNameOf, kindOf, isIdentity}
+use Rattle.session.specs.Session.{Session, view, Reply, refused, accepted, nothing, changed, replayed, Result}
+use Rattle.session.specs.Update.{updateCall}
+use Rattle.session.specs.Response.{responseCall}
+use Rattle.session.specs.Drain.{drainCall}
+
+-- what a call leaves: answer, record, store, output
+pub record Outcome : Type 0 where
+  pub answer : Answer
+  pub next : SessionRecord
+  pub store : List ℕ
+  pub out : List ℕ
+
+abbrev pub outcome : Answer → SessionRecord → List ℕ → List ℕ → Outcome
+outcome answer next store out = record { answer = answer; next = next; store = store; out = out }
+
+abbrev pub answerOf : Reply → Answer
+answerOf (refused x) = answer.Refused x
+answerOf accepted = answer.Accepted
+answerOf nothing = answer.Unchanged
+answerOf (changed d) = answer.Delta (sizeDelta d)
+answerOf (replayed place d) = answer.Replay place (sizeDelta d)
+
+-- "An output is written from its first byte, its length is answered, and the bytes behind it stay."
+abbrev pub outputOf : Reply → List ℕ → List ℕ
+outputOf (refused x) out = out
+outputOf accepted out = out
+outputOf nothing out = out
+outputOf (changed d) out = put out 0 (encodeDelta d)
+outputOf (replayed place d) out = put out 0 (encodeDelta d)
+
+-- a result on bytes
+abbrev pub effectOf : Result → List ℕ → List ℕ → Outcome
+effectOf result store out =
+    outcome (answerOf (result .reply)) (result .next) (writeAll (result .writes) store) (outputOf (result .reply) out)
+
+unfoldable pub updateOutcome : SessionRecord → List ℕ → List ℕ → ControllerIncarnation → List ℕ → Outcome
+updateOutcome r store message incarnation out = effectOf (updateCall (view r store) message incarnation (length out)) store out
+
+-- no output is lent: none is written
+unfoldable pub responseOutcome : SessionRecord → List ℕ → List ℕ → ControllerIncarnation → List ℕ → Outcome
+responseOutcome r store message incarnation out = effectOf (responseCall (view r store) message incarnation) store out
+
+unfoldable pub drainOutcome : SessionRecord → List ℕ → List ℕ → Outcome
+drainOutcome r store out = effectOf (drainCall (view r store) (length out)) store out
+
+-- ---- open: 1, 7, 8
+
+pub record OpenOutcome : Type 0 where
+  pub answer : Opened
+  pub store : List ℕ
+
+-- "Fresh record: unregistered, no floor, not invalidated, queue 0, drain position 0."
+abbrev pub freshRecord : ℕ → ControllerIncarnation → SessionRecord
+freshRecord consumer incarnation =
+    record {
+      «consumer_id» = consumer;
+      incarnation = incarnation;
+      registered = false;
+      invalidated = false;
+      «epoch_floor» = Unset;
+      «queue_count» = 0;
+      «drain_position» = 0;
+    }
+
+abbrev pub notOpened : Refusal → List ℕ → OpenOutcome
+notOpened x store = record { answer = opened.Refused x; store = store }
+
+abbrev pub allUtf8 : Identity → Bool
+allUtf8 i = isUtf8 (i .topic) && (isUtf8 (i .subscription) && isUtf8 (i .consumerName))
+
+unfoldable pub openOutcome : ℕ → ControllerIncarnation → Identity → List ℕ → OpenOutcome
+openOutcome consumer incarnation i store =
+    cond (ltb (length store) minStore) (notOpened StoreTooShort store)
+    (cond (allUtf8 i)
+    (cond (leb (textsLength i) maxTexts)
+    (record { answer = opened.Session (freshRecord consumer incarnation); store = put store 0 (encodeIdentity i) })
+    (notOpened IdentityTooLong store))
+    (notOpened InvalidUtf8 store))
+
+-- ---- matches_registration: 1, then 22 for the identity slot alone
+
+-- nothing is asked of the texts that are lent: those that are no identity's just do not match
+abbrev pub sameIdentity : List ℕ → Identity → Bool
+sameIdentity l i =
+    sameBytes (topicOf l) (i .topic)
+    && (sameBytes (subscriptionOf l) (i .subscription)
+    && (sameBytes (consumerNameOf l) (i .consumerName) && eqb (kindOf l) (kindByte (i .consumerType))))
+
+unfoldable pub matchOf : List ℕ → Identity → Match
+matchOf store i =
+    cond (ltb (length store) minStore) (match′.Refused StoreTooShort)
+    (cond (isIdentity (slot store identitySlot))
+    (cond (sameIdentity (slot store identitySlot) i) match′.Same match′.Other)
+    (match′.Refused MalformedStore))

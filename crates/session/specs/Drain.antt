@@ -1,0 +1,56 @@
+-- Drain: `take_replayed_updates`, one per call.
+--
+-- "the next queue entry, from the position on, that differs from its predecessor (for the first, the baseline), as the byte place of its sheet in the store and the
+-- delta; the position moves just behind that entry. Else none, with the position at the queue's end. Unregistered: none, and nothing moves." Refused in order: 1, 2, 22.
+-- Assumes nothing.
+use Prim.Native.Nat.{ℕ, zero, suc, _*_}
+use mathlib.Core.Bool.{cond}
+use mathlib.Core.List.{List, [], _∷_}
+use lib.Dec.{ltb}
+use Rattle.refusal.specs.declared.Refusal.the-variants.{StoreTooShort, OutputTooShort, MalformedStore}
+use Rattle.packed.specs.Assignment.{ConsumerAssignment, slotSize}
+use Rattle.packed.specs.Equal.{sameAssignment}
+use Rattle.delta.specs.Delta.{AssignmentDelta}
+use Rattle.delta.specs.Change.{deltaBetween}
+use Rattle.session.specs.declared.SessionRecord.{SessionRecord}
+use Rattle.session.specs.Store.{minStore, minOutput, queueSlot}
+use Rattle.session.specs.Session as session
+use Rattle.session.specs.Session.{Session, Result, damaged, refuse}
+
+pub data Found : Type 0 where
+  end : Found
+  entry : (index : ℕ) → AssignmentDelta → Found
+
+-- the next entry, from the k-th of the queue on, that differs from its predecessor; the first of the queue is entry i, with that list before it
+unfoldable pub nextChange : ℕ → ConsumerAssignment → List ConsumerAssignment → ℕ → Found
+nextChange i before [] k = end
+nextChange i before (a ∷ queue) (suc k) = nextChange (suc i) a queue k
+nextChange i before (a ∷ queue) zero = cond (sameAssignment before a) (nextChange (suc i) a queue zero) (entry i (deltaBetween before a))
+
+abbrev pub withPosition : SessionRecord → ℕ → SessionRecord
+withPosition r k =
+    record {
+      «consumer_id» = r .«consumer_id»;
+      incarnation = r .incarnation;
+      registered = r .registered;
+      invalidated = r .invalidated;
+      «epoch_floor» = r .«epoch_floor»;
+      «queue_count» = r .«queue_count»;
+      «drain_position» = k;
+    }
+
+-- "the byte place of its sheet in the store"
+abbrev pub placeOf : ℕ → ℕ
+placeOf i = slotSize * queueSlot i
+
+unfoldable pub drained : Session → Found → Result
+drained s end = record { reply = session.nothing; next = withPosition (s .state) (s .state .«queue_count»); writes = [] }
+drained s (entry i d) = record { reply = session.replayed (placeOf i) d; next = withPosition (s .state) (suc i); writes = [] }
+
+unfoldable pub drainCall : Session → ℕ → Result
+drainCall s output =
+    cond (ltb (s .size) minStore) (refuse StoreTooShort s)
+    (cond (ltb output minOutput) (refuse OutputTooShort s)
+    (cond (damaged s) (refuse MalformedStore s)
+    (cond (s .state .registered) (drained s (nextChange 0 (s .baseline) (s .queue) (s .state .«drain_position»)))
+    (record { reply = session.nothing; next = s .state; writes = [] }))))

@@ -1,0 +1,11 @@
+pub mod Store
+pub mod Identity
+pub mod Session
+pub mod Update
+pub mod Response
+pub mod Drain
+pub mod Link
+pub mod Calls
+pub mod Trace
+pub mod Observers
+pub mod DemandThree

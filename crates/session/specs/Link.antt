@@ -1,0 +1,32 @@
+-- Begin and invalidate: `begin_incarnation` and `invalidate_authority`.
+--
+-- "unregistered, queue and position 0, no store byte touched, floor kept. Begin sets the incarnation and clears invalidated; invalidate sets it." Begin: 25;
+-- "invalidate refuses nothing". Neither looks at the store.
+-- Assumes nothing.
+use mathlib.Core.Bool.{Bool, true, false, cond}
+use lib.Dec.{ltb}
+use Rattle.types.specs.declared.ControllerIncarnation.{ControllerIncarnation}
+use Rattle.refusal.specs.declared.Refusal.the-variants.{NonAdvancingIncarnation}
+use Rattle.session.specs.declared.SessionRecord.{SessionRecord}
+use Rattle.session.specs.declared.Answer.the-variants.{Refused, Accepted}
+use Rattle.session.specs.declared.Changed.{Changed}
+
+abbrev pub unregistered : SessionRecord → ControllerIncarnation → Bool → SessionRecord
+unregistered r incarnation invalidated =
+    record {
+      «consumer_id» = r .«consumer_id»;
+      incarnation = incarnation;
+      registered = false;
+      invalidated = invalidated;
+      «epoch_floor» = r .«epoch_floor»;
+      «queue_count» = 0;
+      «drain_position» = 0;
+    }
+
+unfoldable pub beginOf : SessionRecord → ControllerIncarnation → Changed
+beginOf r incarnation =
+    cond (ltb (r .incarnation .0) (incarnation .0)) (record { next = unregistered r incarnation false; answer = Accepted })
+    (record { next = r; answer = Refused (NonAdvancingIncarnation incarnation (r .incarnation)) })
+
+unfoldable pub invalidateOf : SessionRecord → Changed
+invalidateOf r = record { next = unregistered r (r .incarnation) true; answer = Accepted }

@@ -1,0 +1,99 @@
+-- Response: `handle_subscribe_response_for`.
+--
+-- "an assignment outranks an error code. The queue is replayed over the baseline; one stale push refuses the whole response. Then baseline, last list and floor are
+-- set, the queue stays to be drained from position 0. For a registered session the queue counts as empty, and acceptance empties it."
+-- Refused in order: 1, 22, 3 to 7, 23, 16 or 17, 9 to 15, 26, 27.
+-- Assumes nothing.
+use Prim.Native.Nat.{ℕ}
+use mathlib.Core.Bool.{true, cond, not}
+use mathlib.Core.List.{List, [], _∷_}
+use mathlib.Core.Option.{Option, some, none}
+use lib.ListN.{length}
+use lib.Dec.{eqb, ltb}
+use Rattle.types.specs.declared.ControllerIncarnation.{ControllerIncarnation}
+use Rattle.refusal.specs.declared.Refusal.{Refusal}
+use Rattle.refusal.specs.declared.Refusal.the-variants.{StoreTooShort, MalformedStore, IncarnationMismatch, Broker, Empty, StaleEpoch}
+use Rattle.messages.specs.declared.MessageKind.the-variants.{CommandScalableTopicSubscribeResponse}
+use Rattle.messages.specs.declared.Checked.{Checked}
+use Rattle.messages.specs.declared.Checked.the-variants.{Valid, Refused}
+use Rattle.messages.specs.FirstFault.{firstFault}
+use Rattle.readers.specs.declared.ErrorCode.{ErrorCode}
+use Rattle.readers.specs.declared.ErrorCode.the-variants.{Given, Absent}
+use Rattle.readers.specs.Messages.{WireResponse, responseOf}
+use Rattle.packed.specs.Assignment.{ConsumerAssignment}
+use Rattle.content.specs.Content.{Content, refused, taken, contentOf}
+use Rattle.session.specs.declared.SessionRecord.{SessionRecord}
+use Rattle.session.specs.Store.{minStore, baselineSlot, listSlot, Write}
+use Rattle.session.specs.Session as session
+use Rattle.session.specs.Session.{Session, Result, damaged, refuse, unless, floorFault, raise}
+
+-- 27: the first push of the queue whose epoch lies below that of the list before it, which for the first is the baseline
+unfoldable pub staleFault : ConsumerAssignment → List ConsumerAssignment → Option Refusal
+staleFault before [] = none
+staleFault before (a ∷ queue) =
+    cond (ltb (a .layoutEpoch) (before .layoutEpoch)) (some (StaleEpoch (a .layoutEpoch) (before .layoutEpoch))) (staleFault a queue)
+
+-- the last list of the replay
+unfoldable pub lastList : ConsumerAssignment → List ConsumerAssignment → ConsumerAssignment
+lastList before [] = before
+lastList before (a ∷ queue) = lastList a queue
+
+-- the queue that is replayed
+abbrev pub replayable : Session → List ConsumerAssignment
+replayable s = cond (s .state .registered) [] (s .queue)
+
+-- the record behind an accepted response that left so many in the queue
+abbrev pub registeredWith : Session → ConsumerAssignment → ℕ → SessionRecord
+registeredWith s last count =
+    record {
+      «consumer_id» = s .state .«consumer_id»;
+      incarnation = s .state .incarnation;
+      registered = true;
+      invalidated = s .state .invalidated;
+      «epoch_floor» = raise (s .state .«epoch_floor») (last .layoutEpoch);
+      «queue_count» = count;
+      «drain_position» = 0;
+    }
+
+abbrev pub register : Session → ConsumerAssignment → ConsumerAssignment → Result
+register s baseline last =
+    record {
+      reply = session.accepted;
+      next = registeredWith s last (cond (s .state .registered) 0 (s .state .«queue_count»));
+      writes = record { slot = baselineSlot; assignment = baseline } ∷ record { slot = listSlot; assignment = last } ∷ [];
+    }
+
+-- 26, then 27
+unfoldable pub responseAssignment : Session → ConsumerAssignment → Result
+responseAssignment s baseline =
+    unless (floorFault (baseline .layoutEpoch) (s .state .«epoch_floor»)) s
+    (unless (staleFault baseline (replayable s)) s
+    (register s baseline (lastList baseline (replayable s))))
+
+-- 9 to 15
+unfoldable pub responseContent : Session → Content → Result
+responseContent s (refused x) = refuse x s
+responseContent s (taken baseline) = responseAssignment s baseline
+
+-- 16, or 17
+abbrev pub denied : WireResponse → ErrorCode → Refusal
+denied w (Given code) = Broker code
+denied w Absent = Empty (w .requestId)
+
+-- 23
+unfoldable pub responseValid : Session → ControllerIncarnation → WireResponse → Result
+responseValid s incarnation w =
+    cond (not (eqb (incarnation .0) (s .state .incarnation .0))) (refuse (IncarnationMismatch incarnation (s .state .incarnation)) s)
+    (cond (w .hasAssignment) (responseContent s (contentOf (s .topic) (w .assignment))) (refuse (denied w (w .error)) s))
+
+-- 3 to 7
+abbrev pub responseChecked : Session → ControllerIncarnation → List ℕ → Checked → Result
+responseChecked s incarnation message (Refused x) = refuse x s
+responseChecked s incarnation message Valid = responseValid s incarnation (responseOf message)
+
+-- 1, 22
+unfoldable pub responseCall : Session → List ℕ → ControllerIncarnation → Result
+responseCall s message incarnation =
+    cond (ltb (s .size) minStore) (refuse StoreTooShort s)
+    (cond (damaged s) (refuse MalformedStore s)
+    (responseChecked s incarnation message (firstFault CommandScalableTopicSubscribeResponse message)))

@@ -1,0 +1,90 @@
+-- A session (01, Session): the record, and what the slots in use hold. A call gives a reply, the next record, and the slots that it writes.
+-- Assumes nothing.
+use Prim.Native.Nat.{ℕ, _+_}
+use mathlib.Core.Bool.{Bool, true, false, cond, not, _&&_, _||_}
+use mathlib.Core.List.{List, [], _∷_}
+use mathlib.Core.Option.{Option, some, none}
+use lib.ListN.{length}
+use lib.Dec.{ltb}
+use Rattle.refusal.specs.declared.Refusal.{Refusal}
+use Rattle.refusal.specs.declared.Refusal.the-variants.{CrossIncarnationEpochRegression}
+use Rattle.packed.specs.Assignment.{ConsumerAssignment, startsAssignment}
+use Rattle.delta.specs.Delta.{AssignmentDelta}
+use Rattle.session.specs.declared.SessionRecord.{SessionRecord}
+use Rattle.session.specs.declared.Floor.{Floor}
+use Rattle.session.specs.declared.Floor.the-variants.{Unset, At}
+use Rattle.session.specs.Store.{baselineSlot, listSlot, queueSlot, identitySlot, slot, depthOf, listIn, listsIn, allStart, Write}
+use Rattle.session.specs.Identity.{topicOf, isIdentity}
+
+pub record Session : Type 0 where
+  -- the record, as it is
+  pub state : SessionRecord
+  -- the store's length, and whether each slot in use is well formed
+  pub size : ℕ
+  pub sound : Bool
+  -- what the slots hold
+  pub topic : List ℕ
+  pub baseline : ConsumerAssignment
+  pub list : ConsumerAssignment
+  pub queue : List ConsumerAssignment
+
+-- "In use are identity, the first queue-count queue slots and, when registered, baseline and list."
+abbrev pub listsStart : Bool → List ℕ → Bool
+listsStart true store = startsAssignment (slot store baselineSlot) && startsAssignment (slot store listSlot)
+listsStart false store = true
+
+unfoldable pub inUse : SessionRecord → List ℕ → Bool
+inUse r store =
+    isIdentity (slot store identitySlot) && (listsStart (r .registered) store && allStart store (queueSlot 0) (r .«queue_count»))
+
+-- a record and a store, read as a session
+unfoldable pub view : SessionRecord → List ℕ → Session
+view r store =
+    record {
+      state = r;
+      size = length store;
+      sound = inUse r store;
+      topic = topicOf (slot store identitySlot);
+      baseline = listIn store baselineSlot;
+      list = listIn store listSlot;
+      queue = listsIn store (queueSlot 0) (r .«queue_count»);
+    }
+
+-- 22: "a slot in use malformed, or a count beyond the depth or the queue"
+unfoldable pub damaged : Session → Bool
+damaged s =
+    ltb (depthOf (s .size)) (s .state .«queue_count») || (ltb (s .state .«queue_count») (s .state .«drain_position») || not (s .sound))
+
+-- ---- what a call gives
+
+pub data Reply : Type 0 where
+  refused : Refusal → Reply
+  accepted : Reply
+  nothing : Reply
+  changed : AssignmentDelta → Reply
+  replayed : (place : ℕ) → AssignmentDelta → Reply
+
+pub record Result : Type 0 where
+  pub reply : Reply
+  pub next : SessionRecord
+  pub writes : List Write
+
+-- nothing changes
+abbrev pub refuse : Refusal → Session → Result
+refuse x s = record { reply = refused x; next = s .state; writes = [] }
+
+-- a refusal, or else what follows
+abbrev pub unless : Option Refusal → Session → Result → Result
+unless (some x) s result = refuse x s
+unless none s result = result
+
+-- ---- the floor: the highest epoch that was accepted
+
+-- an epoch may not lie below it: 26
+abbrev pub floorFault : ℕ → Floor → Option Refusal
+floorFault epoch Unset = none
+floorFault epoch (At floor) = cond (ltb epoch floor) (some (CrossIncarnationEpochRegression epoch floor)) none
+
+abbrev pub raise : Floor → ℕ → Floor
+raise Unset epoch = At epoch
+raise (At floor) epoch = cond (ltb floor epoch) (At epoch) (At floor)

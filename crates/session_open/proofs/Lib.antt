@@ -1,0 +1,2 @@
+mod OpenLaws
+mod MatchLaws

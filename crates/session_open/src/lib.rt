@@ -1,0 +1,162 @@
+// A session opened on a store (`ScalableConsumerSession::new`), and its registration compared (`matches_registration`).
+ghost use mathlib.Core.Path.{_≡_};
+ghost use mathlib.Core.Bool.{true};
+ghost use Prim.Native.Nat.{_+_, _≤_};
+ghost use lib.ListN.{length};
+ghost use lib.Dec.{leb};
+ghost use Rattle.packed_int.specs.Put.{put};
+ghost use Rattle.session.specs.Identity.{kindByte, encodeIdentity, isIdentity};
+ghost use Rattle.session.specs.Calls.{freshRecord, openOutcome, sameIdentity, matchOf};
+use refusal::Refusal;
+use session::Floor;
+use session::Match;
+use session::Opened;
+use session::SessionRecord;
+use session_store::MIN_STORE;
+use types::ControllerIncarnation;
+use types::ScalableConsumerType;
+
+// The most bytes of an identity's texts together.
+const MAX_TEXTS: usize = 2041;
+
+fn kind_byte(kind: ScalableConsumerType) -> u8
+    ensures { λ r. ⌜ r ≡ kindByte kind ⌝ }
+{
+    match kind {
+        ScalableConsumerType::Stream => 0,
+        ScalableConsumerType::Checkpoint => 1,
+    }
+}
+
+// The three texts fit an identity's slot together.
+fn texts_fit(topic: &[u8], subscription: &[u8], name: &[u8]) -> bool
+    ensures { λ r. ⌜ r ≡ leb (length (now (topic .entry)) + length (now (subscription .entry)) + length (now (name .entry))) 2041 ⌝ }
+{
+    if MAX_TEXTS < topic.len() {
+        return false;
+    }
+    let room = MAX_TEXTS - topic.len();
+    if room < subscription.len() {
+        return false;
+    }
+    name.len() <= room - subscription.len()
+}
+
+// Writes an identity to the front of the store: lengths, kind, then the texts.
+fn write_identity(
+    topic: &[u8],
+    subscription: &[u8],
+    name: &[u8],
+    kind: ScalableConsumerType,
+    store: &mut [u8],
+)
+    requires { ⌜ length (now topic) + length (now subscription) + length (now name) ≤ 2041 ⌝ }
+    requires { ⌜ 6144 ≤ length (now store) ⌝ }
+    ensures { λ _. ⌜ now (store .exit) ≡ put (now (store .entry)) 0 (encodeIdentity (record { topic = now (topic .entry); subscription = now (subscription .entry); consumerName = now (name .entry); consumerType = kind })) ⌝ }
+{
+    let second = 7 + topic.len();
+    let third = second + subscription.len();
+    packed_int::put_bytes(store, third, name);
+    packed_int::put_bytes(store, second, subscription);
+    packed_int::put_bytes(store, 7, topic);
+    store[6] = kind_byte(kind);
+    packed_int::write_u16(store, 4, name.len() as u16);
+    packed_int::write_u16(store, 2, subscription.len() as u16);
+    packed_int::write_u16(store, 0, topic.len() as u16);
+}
+
+fn fresh(consumer_id: u64, incarnation: ControllerIncarnation) -> SessionRecord
+    ensures { λ r. ⌜ r ≡ freshRecord «consumer_id» incarnation ⌝ }
+{
+    SessionRecord {
+        consumer_id,
+        incarnation,
+        registered: false,
+        invalidated: false,
+        epoch_floor: Floor::Unset,
+        queue_count: 0,
+        drain_position: 0,
+    }
+}
+
+// Opens a session on a store: writes its identity and answers a fresh record. Tested in order: the store's length (1), UTF-8 of the texts (7), their lengths
+// together (8). A refusal leaves the store as it was.
+pub fn open(
+    consumer_id: u64,
+    incarnation: ControllerIncarnation,
+    topic: &[u8],
+    subscription: &[u8],
+    name: &[u8],
+    kind: ScalableConsumerType,
+    store: &mut [u8],
+) -> Opened
+    ensures { λ r. ⌜ record { answer = r; store = now (store .exit) } ≡ openOutcome «consumer_id» incarnation (record { topic = now (topic .entry); subscription = now (subscription .entry); consumerName = now (name .entry); consumerType = kind }) (now (store .entry)) ⌝ }
+{
+    if store.len() < MIN_STORE {
+        return Opened::Refused(Refusal::StoreTooShort);
+    }
+    if !utf8::is_utf8(topic) {
+        return Opened::Refused(Refusal::InvalidUtf8);
+    }
+    if !utf8::is_utf8(subscription) {
+        return Opened::Refused(Refusal::InvalidUtf8);
+    }
+    if !utf8::is_utf8(name) {
+        return Opened::Refused(Refusal::InvalidUtf8);
+    }
+    if !texts_fit(topic, subscription, name) {
+        return Opened::Refused(Refusal::IdentityTooLong);
+    }
+    write_identity(topic, subscription, name, kind, store);
+    Opened::Session(fresh(consumer_id, incarnation))
+}
+
+// The identity in the slot s has these texts and this kind.
+fn same_identity(
+    s: &[u8],
+    topic: &[u8],
+    subscription: &[u8],
+    name: &[u8],
+    kind: ScalableConsumerType,
+) -> bool
+    requires { ⌜ length (now s) ≡ 2048 ⌝ }
+    requires { ⌜ isIdentity (now s) ≡ true ⌝ }
+    ensures { λ r. ⌜ r ≡ sameIdentity (now (s .entry)) (record { topic = now (topic .entry); subscription = now (subscription .entry); consumerName = now (name .entry); consumerType = kind }) ⌝ }
+{
+    let second = 7 + packed_int::read_u16(s, 0) as usize;
+    let third = second + packed_int::read_u16(s, 2) as usize;
+    let end = third + packed_int::read_u16(s, 4) as usize;
+    if !parts::same(&s[7..second], topic) {
+        return false;
+    }
+    if !parts::same(&s[second..third], subscription) {
+        return false;
+    }
+    if !parts::same(&s[third..end], name) {
+        return false;
+    }
+    s[6] == kind_byte(kind)
+}
+
+// Whether the registration is the one that the store was opened for. Tested in order: the store's length (1), its identity (22).
+pub fn matches_registration(
+    store: &[u8],
+    topic: &[u8],
+    subscription: &[u8],
+    name: &[u8],
+    kind: ScalableConsumerType,
+) -> Match
+    ensures { λ r. ⌜ r ≡ matchOf (now (store .entry)) (record { topic = now (topic .entry); subscription = now (subscription .entry); consumerName = now (name .entry); consumerType = kind }) ⌝ }
+{
+    if store.len() < MIN_STORE {
+        return Match::Refused(Refusal::StoreTooShort);
+    }
+    if !session_store::is_identity(&store[0..packed::SLOT]) {
+        return Match::Refused(Refusal::MalformedStore);
+    }
+    if same_identity(&store[0..packed::SLOT], topic, subscription, name, kind) {
+        Match::Same
+    } else {
+        Match::Other
+    }
+}

@@ -1,0 +1,177 @@
+-- The response, refusal by refusal: each law gives the result of one way through it.
+--
+-- In order: a result on bytes (`refused-out`, `given-out`, `registered-out`); an assignment, 26 and 27 (`assignment-*`); content
+-- (`content-*`); a message that is valid (`valid-*`); the call (`call-*`).
+-- Assumes nothing.
+use Prim.Native.Nat.{ℕ, _*_, _≤_, _<_}
+use mathlib.Core.Path.{_≡_, refl, sym, ap, ap₂, _∙_}
+use mathlib.Core.Bool.{Bool, true, false, not, cond, true≢false}
+use mathlib.Core.List.{List}
+use mathlib.Core.Option.{Option, some, none}
+use lib.ListN.{length}
+use borrow.Author.Tests.{le-ltb, lt-ltb, eq-eqb, ne-eqb, not-true, not-false}
+use Rattle.types.specs.declared.ControllerIncarnation.{ControllerIncarnation}
+use Rattle.refusal.specs.declared.Refusal.{Refusal}
+use Rattle.refusal.specs.declared.Refusal.the-variants.{StoreTooShort, MalformedStore, IncarnationMismatch, CrossIncarnationEpochRegression, StaleEpoch}
+use Rattle.messages.specs.declared.MessageKind.the-variants.{CommandScalableTopicSubscribeResponse}
+use Rattle.messages.specs.declared.Checked.{Checked}
+use Rattle.messages.specs.declared.Checked.the-variants as checked
+use Rattle.messages.specs.FirstFault.{firstFault}
+use Rattle.readers.specs.declared.ErrorCode.{ErrorCode}
+use Rattle.readers.specs.declared.ErrorCode.the-variants.{Given, Absent}
+use Rattle.readers.specs.declared.ResponseHead.{ResponseHead}
+use Rattle.readers.specs.Messages.{responseOf}
+use Rattle.readers.specs.Places.{ResponseIs}
+use Rattle.packed_int.specs.Put.{put}
+use Rattle.packed.specs.Assignment.{ConsumerAssignment, encodeAssignment, assignmentOf}
+use Rattle.content.specs.Content.{Content, refused, taken, contentOf}
+use Rattle.session.specs.declared.SessionRecord.{SessionRecord}
+use Rattle.session.specs.declared.Changed.{Changed}
+use Rattle.session.specs.declared.Answer.the-variants as answer
+use Rattle.session.specs.Store.{slot, listsIn, writeSlot}
+use Rattle.session.specs.Identity.{topicOf}
+use Rattle.session.specs.Session.{view, damaged, Result, refuse, unless, floorFault}
+use Rattle.session.specs.Response.{staleFault, lastList, replayable, responseAssignment, responseContent, denied, responseValid, responseChecked, responseCall}
+use Rattle.session.specs.Calls.{outcome, effectOf, responseOutcome}
+use Rattle.session_record.specs.Floors.{belowFloor, floorValue}
+use Rattle.session_record.proofs.FloorLaws.{floor-below, floor-met}
+use Rattle.session_response.specs.declared.Stale.{Stale}
+use Rattle.session_response.specs.declared.Stale.the-variants as stale
+use Rattle.session_response.specs.Replay.{staleOf, staleRefusal, LastIs, deniedBy, registeredBy, registered}
+use Rattle.session_response.proofs.ReplayLaws.{buffer-epoch, stale-fault, replayed-is}
+
+module _ (r : SessionRecord) (st : List ℕ) where
+  -- ---- a result on bytes
+
+  pub refused-out : (c : Changed) (x : Refusal) (q : Result) → c ≡ record { next = r; answer = answer.Refused x } → q ≡ refuse x (view r st)
+      → (out : List ℕ) → outcome (c .answer) (c .next) st out ≡ effectOf q st out
+  unfolding view
+  refused-out c x q e f out = ap (λ (d : Changed). outcome (d .answer) (d .next) st out) e ∙ sym (ap (λ (p : Result). effectOf p st out) f)
+
+  pub given-out : (c : Changed) (st′ : List ℕ) (p q : Result) → q ≡ p
+      → ((out : List ℕ) → outcome (c .answer) (c .next) st′ out ≡ effectOf p st out)
+      → (out : List ℕ) → outcome (c .answer) (c .next) st′ out ≡ effectOf q st out
+  given-out c st′ p q e f out = f out ∙ sym (ap (λ (x : Result). effectOf x st out) e)
+
+  -- baseline, then the last list
+  pub registered-out : (next : SessionRecord) (st₁ st₂ b last : List ℕ) (epoch count size : ℕ)
+      → count ≡ cond (r .registered) 0 (r .«queue_count») → LastIs st b count size last → epoch ≡ assignmentOf last .layoutEpoch
+      → st₁ ≡ put st (2048 * 1) (encodeAssignment (assignmentOf b)) → st₂ ≡ put st₁ (2048 * 2) (encodeAssignment (assignmentOf last))
+      → next ≡ registeredBy r epoch count
+      → (out : List ℕ) → outcome answer.Accepted next st₂ out ≡ effectOf (registered (view r st) (assignmentOf b)) st out
+  unfolding view writeSlot
+  registered-out next st₁ st₂ b last epoch count size e l f g h i out =
+      let q : replayable (view r st) ≡ listsIn st 3 count = replayed-is r st count e in
+      let a : assignmentOf last ≡ lastList (assignmentOf b) (replayable (view r st)) =
+      l .is-last ∙ ap (lastList (assignmentOf b)) (sym q) in
+      rw (← a, i, f, ← e, h, g) refl
+
+  -- ---- an assignment: 26, then 27
+
+  module _ (a : ConsumerAssignment) (epoch : ℕ) (e : epoch ≡ a .layoutEpoch) (t : Bool) (f : t ≡ belowFloor epoch (r .«epoch_floor»)) where
+    pub assignment-below : t ≡ true → (v : ℕ) → v ≡ floorValue (r .«epoch_floor»)
+        → responseAssignment (view r st) a ≡ refuse (CrossIncarnationEpochRegression epoch v) (view r st)
+    unfolding responseAssignment view
+    assignment-below g v h = rw (← e, floor-below epoch (r .«epoch_floor») (sym f ∙ g), ← h) refl
+
+    module _ (g : t ≡ false) (n : ℕ) (i : n ≡ cond (r .registered) 0 (r .«queue_count»)) (s : Stale) (h : s ≡ staleOf epoch (listsIn st 3 n)) where
+      pub queue-decides : responseAssignment (view r st) a ≡ unless (staleRefusal s) (view r st) (registered (view r st) a)
+      unfolding responseAssignment view
+      queue-decides =
+          ap (λ (x : Option Refusal). unless x (view r st) (responded′ (staleFault a (replayable (view r st))))) no-fault
+          ∙ ap responded′ fault
+        where
+          responded′ : Option Refusal → Result
+          responded′ x = unless x (view r st) (registered (view r st) a)
+
+          no-fault : floorFault (a .layoutEpoch) (view r st .state .«epoch_floor») ≡ none
+          no-fault = ap (λ (x : ℕ). floorFault x (r .«epoch_floor»)) (sym e) ∙ floor-met epoch (r .«epoch_floor») (sym f ∙ g)
+
+          fault : staleFault a (replayable (view r st)) ≡ staleRefusal s
+          fault =
+              stale-fault a (replayable (view r st))
+              ∙ ap staleRefusal (ap₂ staleOf (sym e) (replayed-is r st n i) ∙ sym h)
+
+  module _ (a : ConsumerAssignment) (s : Stale) where
+    abbrev Decided : Type 0
+    Decided = responseAssignment (view r st) a ≡ unless (staleRefusal s) (view r st) (registered (view r st) a)
+
+    pub assignment-stale : (got prev : ℕ) → Decided → s ≡ stale.At got prev → responseAssignment (view r st) a ≡ refuse (StaleEpoch got prev) (view r st)
+    assignment-stale got prev d k = d ∙ ap (λ (x : Stale). unless (staleRefusal x) (view r st) (registered (view r st) a)) k
+
+    pub assignment-on : Decided → s ≡ stale.Nowhere → responseAssignment (view r st) a ≡ registered (view r st) a
+    assignment-on d k = d ∙ ap (λ (x : Stale). unless (staleRefusal x) (view r st) (registered (view r st) a)) k
+
+  -- ---- content
+
+  pub content-refused : (q : Content) (x : Refusal) → q ≡ refused x → responseContent (view r st) q ≡ refuse x (view r st)
+  unfolding responseContent
+  content-refused q x e = rw e refl
+
+  pub content-taken : (q : Content) (a : ConsumerAssignment) → q ≡ taken a → responseContent (view r st) q ≡ responseAssignment (view r st) a
+  unfolding responseContent
+  content-taken q a e = rw e refl
+
+  -- ---- a message that is valid: 23, then 16 or 17
+
+  module _ (m : List ℕ) (i : ControllerIncarnation) where
+    pub valid-mismatch : (i .0 ≡ r .incarnation .0 → ⊥)
+        → responseValid (view r st) i (responseOf m) ≡ refuse (IncarnationMismatch i (r .incarnation)) (view r st)
+    unfolding responseValid view
+    valid-mismatch f = rw (ne-eqb (i .0) (r .incarnation .0) f) refl
+
+    module _ (e : i .0 ≡ r .incarnation .0) (h : ResponseHead) (p : ResponseIs m h) where
+      pub valid-assigned : h .«has_assignment» ≡ true
+          → responseValid (view r st) i (responseOf m)
+          ≡ responseContent (view r st) (contentOf (topicOf (slot st 0)) (responseOf m .assignment))
+      unfolding responseValid view
+      valid-assigned f = rw (eq-eqb (i .0) (r .incarnation .0) e, sym (p .has-assignment) ∙ f) refl
+
+      pub valid-denied : h .«has_assignment» ≡ false → (x : Refusal) → x ≡ deniedBy (h .error) (h .«request_id»)
+          → responseValid (view r st) i (responseOf m) ≡ refuse x (view r st)
+      unfolding responseValid view
+      valid-denied f x g =
+          rw (eq-eqb (i .0) (r .incarnation .0) e)
+          (otherwise (responseOf m .hasAssignment) _ _ (sym (p .has-assignment) ∙ f)
+          ∙ ap (λ (y : Refusal). refuse y (view r st)) (same (responseOf m .error) ∙ sym (g ∙ ap₂ deniedBy (p .error) (p .id))))
+        where
+          otherwise : (t : Bool) (y z : Result) → t ≡ false → cond t y z ≡ z
+          otherwise true y z k = absurd (true≢false k)
+          otherwise false y z k = refl
+
+          same : (c : ErrorCode) → denied (responseOf m) c ≡ deniedBy c (responseOf m .requestId)
+          same (Given c) = refl
+          same Absent = refl
+
+    -- ---- the call: 1, 22, 3 to 7
+
+    pub call-short : length st < 6144 → responseCall (view r st) m i ≡ refuse StoreTooShort (view r st)
+    unfolding responseCall view
+    call-short h = rw (lt-ltb (length st) 6144 h) refl
+
+    module _ (h : 6144 ≤ length st) (x : Bool) (s : x ≡ not (damaged (view r st))) where
+      pub call-damaged : not x ≡ true → responseCall (view r st) m i ≡ refuse MalformedStore (view r st)
+      unfolding responseCall view
+      call-damaged f = rw (le-ltb (length st) 6144 h, not-false (damaged (view r st)) (sym s ∙ not-true x f)) refl
+
+      module _ (f : not x ≡ false) where
+        pub undamaged : damaged (view r st) ≡ false
+        undamaged = not-true (damaged (view r st)) (sym s ∙ not-false x f)
+
+        module _ (y : Checked) (e : y ≡ firstFault CommandScalableTopicSubscribeResponse m) where
+          checked-decides : responseCall (view r st) m i ≡ responseChecked (view r st) i m y
+          unfolding responseCall view
+          checked-decides = rw (le-ltb (length st) 6144 h, undamaged, e) refl
+
+          pub call-faulty : (z : Refusal) → y ≡ checked.Refused z → responseCall (view r st) m i ≡ refuse z (view r st)
+          call-faulty z k = checked-decides ∙ ap (responseChecked (view r st) i m) k
+
+          pub call-valid : y ≡ checked.Valid → responseCall (view r st) m i ≡ responseValid (view r st) i (responseOf m)
+          call-valid k = checked-decides ∙ ap (responseChecked (view r st) i m) k
+
+  -- as the call on bytes
+  pub call-out : (c : Changed) (st′ m : List ℕ) (i : ControllerIncarnation)
+      → ((out : List ℕ) → outcome (c .answer) (c .next) st′ out ≡ effectOf (responseCall (view r st) m i) st out)
+      → (out : List ℕ) → outcome (c .answer) (c .next) st′ out ≡ responseOutcome r st m i out
+  unfolding responseOutcome
+  call-out c st′ m i f = f

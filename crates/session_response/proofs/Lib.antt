@@ -1,0 +1,2 @@
+mod ReplayLaws
+mod CallLaws

@@ -1,0 +1,57 @@
+-- What the functions of src/ answer: the epochs of the queue, and the replay's last list.
+-- Assumes nothing.
+use Prim.Native.Nat.{ℕ}
+use mathlib.Core.Path.{_≡_}
+use mathlib.Core.Bool.{true, cond}
+use mathlib.Core.List.{List, [], _∷_}
+use mathlib.Core.Option.{Option, some, none}
+use lib.Dec.{ltb}
+use Rattle.refusal.specs.declared.Refusal.{Refusal}
+use Rattle.refusal.specs.declared.Refusal.the-variants.{Broker, Empty, StaleEpoch}
+use Rattle.readers.specs.declared.ErrorCode.{ErrorCode}
+use Rattle.readers.specs.declared.ErrorCode.the-variants.{Given, Absent}
+use Rattle.packed.specs.Assignment.{ConsumerAssignment, assignmentOf}
+use Rattle.session.specs.Store.{listsIn}
+use Rattle.session.specs.declared.SessionRecord.{SessionRecord}
+use Rattle.session.specs.Session.{Session, Result, raise}
+use Rattle.session.specs.Response.{lastList, replayable, register}
+use Rattle.session_store.specs.Scratch.{Scratch}
+use Rattle.session_response.specs.declared.Stale.{Stale}
+use Rattle.session_response.specs.declared.Stale.the-variants.{Nowhere, At}
+
+-- the first epoch of the queue that lies below the one before it
+unfoldable pub staleOf : ℕ → List ConsumerAssignment → Stale
+staleOf prev [] = Nowhere
+staleOf prev (a ∷ queue) = cond (ltb (a .layoutEpoch) prev) (At (a .layoutEpoch) prev) (staleOf (a .layoutEpoch) queue)
+
+abbrev pub staleRefusal : Stale → Option Refusal
+staleRefusal Nowhere = none
+staleRefusal (At got prev) = some (StaleEpoch got prev)
+
+-- the last list of the replay of n queue entries over the assignment in b, in a buffer
+pub record LastIs (store b : List ℕ) (n size : ℕ) (last : List ℕ) : Type 0 where
+  pub scratch : Scratch last size
+  pub is-last : assignmentOf last ≡ lastList (assignmentOf b) (listsIn store 3 n)
+
+-- ---- the parts of specs/Response that a function each gives
+
+abbrev pub deniedBy : ErrorCode → ℕ → Refusal
+deniedBy (Given code) request = Broker code
+deniedBy Absent request = Empty request
+
+-- the record behind an accepted response, whose last list has that epoch
+abbrev pub registeredBy : SessionRecord → ℕ → ℕ → SessionRecord
+registeredBy r epoch count =
+    record {
+      «consumer_id» = r .«consumer_id»;
+      incarnation = r .incarnation;
+      registered = true;
+      invalidated = r .invalidated;
+      «epoch_floor» = raise (r .«epoch_floor») epoch;
+      «queue_count» = count;
+      «drain_position» = 0;
+    }
+
+-- the baseline is set, and with it the last list and the floor
+abbrev pub registered : Session → ConsumerAssignment → Result
+registered s baseline = register s baseline (lastList baseline (replayable s))

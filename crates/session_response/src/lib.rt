@@ -1,0 +1,237 @@
+// Response: the answer to a registration, `handle_subscribe_response_for`.
+//
+// The Rust stages a clone, replays the queue over it, and keeps it only if every push passes. Here the queue's epochs are tested first, and nothing is written before
+// the last test.
+ghost use mathlib.Core.Path.{_≡_};
+ghost use mathlib.Core.Bool.{true, false, cond};
+ghost use mathlib.Core.List.{List};
+ghost use Prim.Native.Nat.{ℕ, _+_, _*_, _≤_};
+ghost use lib.ListN.{length};
+ghost use Rattle.readers.specs.Messages.{responseOf};
+ghost use Rattle.packed.specs.Assignment as packed-form;
+ghost use Rattle.content.specs.Content.{contentOf};
+ghost use Rattle.intake.specs.Intake.{IntakeIs};
+ghost use Rattle.session.specs.Store.{slot, listsIn, allStart};
+ghost use Rattle.session.specs.Identity.{topicOf, isIdentity};
+ghost use Rattle.session.specs.Session.{view, damaged};
+ghost use Rattle.session.specs.Response.{responseAssignment, responseContent, responseValid};
+ghost use Rattle.session.specs.Calls.{outcome, effectOf, responseOutcome};
+ghost use Rattle.session_store.specs.Scratch.{Scratch};
+ghost use Rattle.session_response.specs.Replay.{staleOf, LastIs, deniedBy, registeredBy, registered};
+use intake::Intake;
+use messages::Checked;
+use messages::MessageKind;
+use packed::SLOT;
+use readers::ErrorCode;
+use refusal::Refusal;
+use session::Answer;
+use session::Changed;
+use session::SessionRecord;
+use types::ControllerIncarnation;
+
+// An epoch of the queue that lies below the one before it: both.
+enum Stale {
+    Nowhere,
+    At(u64, u64),
+}
+
+// The first of n queue entries whose epoch lies below the one before it, which for the first is a given one.
+fn first_stale(store: &[u8], epoch: u64, n: usize) -> Stale
+    requires { ⌜ 2048 * (3 + n) ≤ length (now store) ⌝ }
+    ensures { λ r. ⌜ r ≡ staleOf epoch (listsIn (now (store .entry)) 3 n) ⌝ }
+{
+    let mut prev = epoch;
+    let mut k: usize = 3;
+    let mut left = n;
+    while 0 < left {
+        let got = packed_int::read_u64(store, SLOT * k);
+        if got < prev {
+            return Stale::At(got, prev);
+        }
+        prev = got;
+        k = k + 1;
+        left = left - 1;
+    }
+    Stale::Nowhere
+}
+
+// Copies the last list of the replay of n queue entries over the assignment of size bytes in b, and answers its size.
+fn load_last(store: &[u8], n: usize, b: &[u8], size: usize, last: &mut [u8]) -> usize
+    requires { ⌜ 2048 * (3 + n) ≤ length (now store) ⌝ }
+    requires { ⌜ allStart (now store) 3 n ≡ true ⌝ }
+    requires { ⌜ Scratch (now b) size ⌝ }
+    requires { ⌜ length (now last) ≡ 2048 ⌝ }
+    ensures { λ r. ⌜ LastIs (now (store .entry)) (now (b .entry)) n r (now (last .exit)) ⌝ }
+{
+    if n == 0 {
+        packed_int::put_bytes(last, 0, &b[..SLOT]);
+        return size;
+    }
+    let at = SLOT * (2 + n);
+    packed_int::put_bytes(last, 0, &store[at..at + SLOT]);
+    records::assignment_size(last)
+}
+
+// How many pushes are replayed: none in a registered session.
+fn replay_count(r: SessionRecord) -> usize
+    ensures { λ x. ⌜ x ≡ cond (r .registered) 0 (r .«queue_count») ⌝ }
+{
+    if r.registered { 0 } else { r.queue_count }
+}
+
+// The record behind an accepted response, whose last list has that epoch.
+fn registered_with(r: SessionRecord, epoch: u64, count: usize) -> SessionRecord
+    ensures { λ x. ⌜ x ≡ registeredBy r epoch count ⌝ }
+{
+    let incarnation = r.incarnation;
+    let floor = r.epoch_floor;
+    let epoch_floor = session_record::raised(floor, epoch);
+    SessionRecord {
+        consumer_id: r.consumer_id,
+        incarnation,
+        registered: true,
+        invalidated: r.invalidated,
+        epoch_floor,
+        queue_count: count,
+        drain_position: 0,
+    }
+}
+
+// The baseline of size bytes in the buffer b is set, and with it the last list and the floor.
+fn register(r: SessionRecord, store: &mut [u8], b: &[u8], size: usize, count: usize) -> Changed
+    requires { ⌜ (6144 ≤ length (now store)) × (damaged (view r (now store)) ≡ false) ⌝ }
+    requires { ⌜ Scratch (now b) size ⌝ }
+    requires { ⌜ count ≡ cond (r .registered) 0 (r .«queue_count») ⌝ }
+    ensures { λ x. ⌜ ((out : List ℕ) → outcome (x .answer) (x .next) (now (store .exit)) out
+        ≡ effectOf (registered (view r (now (store .entry))) (packed-form.assignmentOf (now (b .entry)))) (now (store .entry)) out) ⌝ }
+{
+    let mut last = [0u8; 2048];
+    let len = load_last(store, count, b, size, &mut last);
+    let epoch = packed_int::read_u64(&last, 0);
+    session_store::write_slot(store, 1, b, size);
+    session_store::write_slot(store, 2, &last, len);
+    let next = registered_with(r, epoch, count);
+    Changed {
+        next,
+        answer: Answer::Accepted,
+    }
+}
+
+// A response with the assignment of size bytes in the buffer b: 26, then 27.
+fn assigned(r: SessionRecord, store: &mut [u8], b: &[u8], size: usize) -> Changed
+    requires { ⌜ (6144 ≤ length (now store)) × (damaged (view r (now store)) ≡ false) ⌝ }
+    requires { ⌜ Scratch (now b) size ⌝ }
+    ensures { λ x. ⌜ ((out : List ℕ) → outcome (x .answer) (x .next) (now (store .exit)) out
+        ≡ effectOf (responseAssignment (view r (now (store .entry))) (packed-form.assignmentOf (now (b .entry)))) (now (store .entry)) out) ⌝ }
+{
+    let floor = r.epoch_floor;
+    let epoch = packed_int::read_u64(b, 0);
+    if session_record::below_floor(floor, epoch) {
+        let value = session_record::floor_value(floor);
+        return session_record::refuse(
+            r,
+            Refusal::CrossIncarnationEpochRegression {
+                got: epoch,
+                floor: value,
+            },
+        );
+    }
+    let count = replay_count(r);
+    match first_stale(store, epoch, count) {
+        Stale::At(got, prev) => session_record::refuse(r, Refusal::StaleEpoch { got, prev }),
+        Stale::Nowhere => register(r, store, b, size, count),
+    }
+}
+
+// Takes the response's assignment into the buffer.
+fn take_assignment(store: &[u8], message: &[u8], epoch: u64, b: &mut [u8]) -> Intake
+    requires { ⌜ (6144 ≤ length (now store)) × (length (now b) ≡ 2048) ⌝ }
+    requires { ⌜ isIdentity (slot (now store) 0) ≡ true ⌝ }
+    requires { ⌜ epoch ≡ responseOf (now message) .assignment .layoutEpoch ⌝ }
+    ensures { λ x. ⌜ IntakeIs (now (b .entry)) x (now (b .exit)) (contentOf (topicOf (slot (now (store .entry)) 0)) (responseOf (now (message .entry)) .assignment)) ⌝ }
+{
+    let len = packed_int::read_u16(store, 0) as usize;
+    intake::take_in(message, 4, &store[7..7 + len], epoch, b)
+}
+
+// A response with an assignment.
+fn taken(r: SessionRecord, store: &mut [u8], message: &[u8], epoch: u64) -> Changed
+    requires { ⌜ (6144 ≤ length (now store)) × (damaged (view r (now store)) ≡ false) ⌝ }
+    requires { ⌜ epoch ≡ responseOf (now message) .assignment .layoutEpoch ⌝ }
+    ensures { λ x. ⌜ ((out : List ℕ) → outcome (x .answer) (x .next) (now (store .exit)) out
+        ≡ effectOf (responseContent (view r (now (store .entry))) (contentOf (topicOf (slot (now (store .entry)) 0)) (responseOf (now (message .entry)) .assignment))) (now (store .entry)) out) ⌝ }
+{
+    let mut b = [0u8; 2048];
+    match take_assignment(store, message, epoch, &mut b) {
+        Intake::Refused(x) => session_record::refuse(r, x),
+        Intake::Taken(size) => assigned(r, store, &b, size),
+    }
+}
+
+// The refusal of a response without an assignment: 16, or 17.
+fn denial(error: ErrorCode, request_id: u64) -> Refusal
+    ensures { λ x. ⌜ x ≡ deniedBy error «request_id» ⌝ }
+{
+    match error {
+        ErrorCode::Given(code) => Refusal::Broker { code },
+        ErrorCode::Absent => Refusal::Empty { request_id },
+    }
+}
+
+// A response whose message is valid.
+fn valid(
+    r: SessionRecord,
+    store: &mut [u8],
+    message: &[u8],
+    incarnation: ControllerIncarnation,
+) -> Changed
+    requires { ⌜ (6144 ≤ length (now store)) × (damaged (view r (now store)) ≡ false) ⌝ }
+    ensures { λ x. ⌜ ((out : List ℕ) → outcome (x .answer) (x .next) (now (store .exit)) out
+        ≡ effectOf (responseValid (view r (now (store .entry))) incarnation (responseOf (now (message .entry)))) (now (store .entry)) out) ⌝ }
+{
+    let expected = r.incarnation;
+    if incarnation.0 != expected.0 {
+        return session_record::refuse(
+            r,
+            Refusal::IncarnationMismatch {
+                got: incarnation,
+                expected,
+            },
+        );
+    }
+    let head = readers::read_response(message);
+    if head.has_assignment {
+        return taken(r, store, message, head.layout_epoch);
+    }
+    let error = head.error;
+    session_record::refuse(r, denial(error, head.request_id))
+}
+
+// The response. Refused in order: 1, 22, 3 to 7, 23, 16 or 17, 9 to 15, 26, 27. The broker's text of a 16 is `broker_text`.
+pub fn responded(
+    r: SessionRecord,
+    store: &mut [u8],
+    message: &[u8],
+    incarnation: ControllerIncarnation,
+) -> Changed
+    ensures { λ x. ⌜ ((out : List ℕ) → outcome (x .answer) (x .next) (now (store .exit)) out
+        ≡ responseOutcome r (now (store .entry)) (now (message .entry)) incarnation out) ⌝ }
+{
+    if store.len() < session_store::MIN_STORE {
+        return session_record::refuse(r, Refusal::StoreTooShort);
+    }
+    if !session_store::is_sound(r, store) {
+        return session_record::refuse(r, Refusal::MalformedStore);
+    }
+    match messages::first_fault(MessageKind::CommandScalableTopicSubscribeResponse, message) {
+        Checked::Refused(x) => session_record::refuse(r, x),
+        Checked::Valid => valid(r, store, message, incarnation),
+    }
+}
+
+// The broker's text, empty where there is none: a part of the message, never of the store.
+pub fn broker_text<'m, 's>(message: &'m [u8], store: &'s [u8]) -> &'m [u8]
+    ensures { λ r. ⌜ now r ≡ responseOf (now (message .entry)) .message ⌝ }
+{
+    readers::response_text(message, store)
+}

@@ -1,0 +1,2 @@
+mod UpdateLaws
+mod TakenLaws

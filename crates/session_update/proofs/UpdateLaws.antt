@@ -1,0 +1,196 @@
+-- The cases of an update, one law for each answer of the functions.
+--
+-- In order: epochs and the list where they lie (`buffer-epoch` to `list-starts`); an unregistered session (`epoch-low`, `queue-full`,
+-- `queue-joined`); a registered one (`list-same`, `epoch-stale`, `list-held`); what the assignment comes to (`content-refuses` to
+-- `content-joins`); link and consumer (`other-link`, `other-consumer`, `addressed`); the call (`store-short` to `call-valid`).
+-- Assumes nothing.
+use Prim.Native.Nat.{ℕ, _+_, _*_, _≤_, _<_}
+use native.Mathlib.Omega.{arith}
+use mathlib.Core.Path.{_≡_, sym, ap, _∙_}
+use mathlib.Core.Bool.{Bool, true, false, not}
+use mathlib.Core.List.{List}
+use lib.ListN.{length, take, drop}
+use lib.Seq.{take-take}
+use borrow.Author.Tests.{lt-ltb, le-ltb, eq-eqb, ne-eqb, not-true, not-false}
+use Rattle.types.specs.declared.ControllerIncarnation.{ControllerIncarnation}
+use Rattle.refusal.specs.declared.Refusal.{Refusal}
+use Rattle.refusal.specs.declared.Refusal.the-variants as refusal
+use Rattle.messages.specs.declared.Checked.the-variants as checked
+use Rattle.messages.specs.declared.MessageKind.the-variants.{CommandScalableTopicAssignmentUpdate}
+use Rattle.messages.specs.FirstFault.{firstFault}
+use Rattle.readers.specs.Messages.{WireUpdate, updateOf}
+use Rattle.packed_int.specs.Be.{be, beAt}
+use Rattle.packed_int.specs.Put.{put}
+use Rattle.packed.specs.Assignment.{ConsumerAssignment, encodeAssignment, num, assignmentOf, startsAssignment}
+use Rattle.packed.specs.Equal.{sameAssignment}
+use Rattle.delta.specs.Delta.{encodeDelta, sizeDelta}
+use Rattle.delta.specs.Change.{deltaBetween}
+use Rattle.content.specs.Content.{Content, refused, taken, contentOf}
+use Rattle.session.specs.declared.SessionRecord.{SessionRecord}
+use Rattle.session.specs.declared.Changed.{Changed}
+use Rattle.session.specs.declared.Floor.{Floor}
+use Rattle.session.specs.declared.Answer.the-variants.{Refused, Unchanged, Delta}
+use Rattle.session.specs.Store.{slot, depthOf, listIn, writeSlot}
+use Rattle.session.specs.Identity.{topicOf}
+use Rattle.session.specs.Session.{view, damaged, raise}
+use Rattle.session.specs.Update.{withQueueCount, withFloor, updateUnregistered, updateRegistered, updateContent, updateValid, updateCall}
+use Rattle.session.specs.Calls.{Outcome, outcome, effectOf, updateOutcome}
+use Rattle.session_record.specs.Floors.{belowFloor, floorValue}
+use Rattle.session_record.proofs.FloorLaws.{floor-below, floor-met}
+use Rattle.session_store.proofs.StoreLaws.{slot-at}
+
+-- what is answered, with the record, is the outcome
+pub told : (st out : List ℕ) {z : Outcome} {x y : Changed} → x ≡ y → outcome (y .answer) (y .next) st out ≡ z
+    → outcome (x .answer) (x .next) st out ≡ z
+told st out e h = rw e h
+
+-- ---- where they lie
+
+pub buffer-epoch : (b : List ℕ) (epoch : ℕ) → epoch ≡ beAt 8 b 0 → epoch ≡ assignmentOf b .layoutEpoch
+unfolding assignmentOf num beAt
+buffer-epoch b epoch e = e
+
+pub list-epoch : (st : List ℕ) (epoch : ℕ) → epoch ≡ beAt 8 st 4096 → epoch ≡ listIn st 2 .layoutEpoch
+unfolding listIn assignmentOf num beAt slot
+list-epoch st epoch e = e ∙ ap be (sym (take-take 8 2048 (drop 4096 st) (omega arith)))
+
+pub list-there : (st : List ℕ) → assignmentOf (take 2048 (drop 4096 st)) ≡ listIn st 2
+unfolding listIn
+list-there st = ap assignmentOf (slot-at st 2)
+
+pub list-starts : (st : List ℕ) → startsAssignment (slot st 2) ≡ true → startsAssignment (take 2048 (drop 4096 st)) ≡ true
+list-starts st h = ap startsAssignment (slot-at st 2) ∙ h
+
+-- ---- unregistered
+
+module _ (r : SessionRecord) (st out : List ℕ) (a : ConsumerAssignment) (epoch : ℕ) (e : epoch ≡ a .layoutEpoch)
+    (t : Bool) (f : t ≡ belowFloor epoch (r .«epoch_floor»)) where
+  floor-test : belowFloor (a .layoutEpoch) (r .«epoch_floor») ≡ t
+  floor-test = ap (λ (n : ℕ). belowFloor n (r .«epoch_floor»)) (sym e) ∙ sym f
+
+  pub epoch-low : t ≡ true → (v : ℕ) → v ≡ floorValue (r .«epoch_floor»)
+      → outcome (Refused (refusal.CrossIncarnationEpochRegression epoch v)) r st out ≡ effectOf (updateUnregistered (view r st) a) st out
+  unfolding updateUnregistered view
+  epoch-low h v g = rw (e, g, floor-below (a .layoutEpoch) (r .«epoch_floor») (floor-test ∙ h))
+
+  module _ (h : t ≡ false) (max : ℕ) (d : max ≡ depthOf (length st)) where
+    pub queue-full : r .«queue_count» ≡ max
+        → outcome (Refused (refusal.PreBaselineBufferFull max)) r st out ≡ effectOf (updateUnregistered (view r st) a) st out
+    unfolding updateUnregistered view
+    queue-full q =
+        rw (
+          floor-met (a .layoutEpoch) (r .«epoch_floor») (floor-test ∙ h),
+          eq-eqb (r .«queue_count») (depthOf (length st)) (q ∙ d),
+          d,
+        )
+
+    pub queue-joined : (r .«queue_count» ≡ max → ⊥) → (new : List ℕ) → new ≡ put st (2048 * (3 + r .«queue_count»)) (encodeAssignment a)
+        → (next : SessionRecord) → next ≡ withQueueCount r (r .«queue_count» + 1)
+        → outcome Unchanged next new out ≡ effectOf (updateUnregistered (view r st) a) st out
+    unfolding updateUnregistered view writeSlot
+    queue-joined q new p next n =
+        rw (
+          floor-met (a .layoutEpoch) (r .«epoch_floor») (floor-test ∙ h),
+          ne-eqb (r .«queue_count») (depthOf (length st)) (λ w. q (w ∙ sym d)),
+          p,
+          n,
+        )
+
+-- ---- registered
+
+module _ (r : SessionRecord) (st out : List ℕ) (a l : ConsumerAssignment) (p : l ≡ listIn st 2)
+    (t : Bool) (f : t ≡ sameAssignment l a) where
+  same-test : sameAssignment (listIn st 2) a ≡ t
+  same-test = ap (λ (b : ConsumerAssignment). sameAssignment b a) (sym p) ∙ sym f
+
+  pub list-same : t ≡ true → outcome Unchanged r st out ≡ effectOf (updateRegistered (view r st) a) st out
+  unfolding updateRegistered view
+  list-same h = rw (same-test ∙ h)
+
+  module _ (h : t ≡ false) (epoch prev : ℕ) (e : epoch ≡ a .layoutEpoch) (g : prev ≡ listIn st 2 .layoutEpoch) where
+    pub epoch-stale : epoch < prev
+        → outcome (Refused (refusal.StaleEpoch epoch prev)) r st out ≡ effectOf (updateRegistered (view r st) a) st out
+    unfolding updateRegistered view
+    epoch-stale q = rw (same-test ∙ h, e, g, lt-ltb (a .layoutEpoch) (listIn st 2 .layoutEpoch) (omega arith))
+
+    pub list-held : prev ≤ epoch → (len : ℕ) → len ≡ sizeDelta (deltaBetween l a)
+        → (delta : List ℕ) → delta ≡ put out 0 (encodeDelta (deltaBetween l a)) → (new : List ℕ) → new ≡ put st 4096 (encodeAssignment a)
+        → (floor : Floor) → floor ≡ raise (r .«epoch_floor») epoch → (next : SessionRecord) → next ≡ withFloor r floor
+        → outcome (Delta len) next new delta ≡ effectOf (updateRegistered (view r st) a) st out
+    unfolding updateRegistered view writeSlot
+    list-held q len el delta ed new en floor ef next ex =
+        rw (same-test ∙ h, le-ltb (a .layoutEpoch) (listIn st 2 .layoutEpoch) (omega arith), el, ed, en, ex, ef, e, p)
+
+-- ---- what the assignment comes to
+
+module _ (r : SessionRecord) (st out : List ℕ) (c : Content) where
+  pub content-refuses : (x : Refusal) → c ≡ refused x → outcome (Refused x) r st out ≡ effectOf (updateContent (view r st) c) st out
+  unfolding updateContent view
+  content-refuses x e = rw e
+
+  module _ (a : ConsumerAssignment) (e : c ≡ taken a) where
+    pub content-holds : r .registered ≡ true
+        → effectOf (updateRegistered (view r st) a) st out ≡ effectOf (updateContent (view r st) c) st out
+    unfolding updateContent view
+    content-holds h = rw (e, h)
+
+    pub content-joins : r .registered ≡ false
+        → effectOf (updateUnregistered (view r st) a) st out ≡ effectOf (updateContent (view r st) c) st out
+    unfolding updateContent view
+    content-joins h = rw (e, h)
+
+-- ---- link and consumer
+
+module _ (r : SessionRecord) (st out : List ℕ) (incarnation : ControllerIncarnation) (u : WireUpdate) where
+  pub other-link : (incarnation .0 ≡ r .incarnation .0 → ⊥)
+      → outcome (Refused (refusal.IncarnationMismatch incarnation (r .incarnation))) r st out
+      ≡ effectOf (updateValid (view r st) incarnation u) st out
+  unfolding updateValid view
+  other-link h = rw (ne-eqb (incarnation .0) (r .incarnation .0) h)
+
+  module _ (h : incarnation .0 ≡ r .incarnation .0) (id : ℕ) (e : id ≡ u .consumerId) where
+    pub other-consumer : (id ≡ r .«consumer_id» → ⊥)
+        → outcome (Refused (refusal.ConsumerMismatch id (r .«consumer_id»))) r st out
+        ≡ effectOf (updateValid (view r st) incarnation u) st out
+    unfolding updateValid view
+    other-consumer k = rw (eq-eqb (incarnation .0) (r .incarnation .0) h, ← e, ne-eqb id (r .«consumer_id») k)
+
+    pub addressed : id ≡ r .«consumer_id»
+        → effectOf (updateContent (view r st) (contentOf (topicOf (slot st 0)) (u .assignment))) st out
+        ≡ effectOf (updateValid (view r st) incarnation u) st out
+    unfolding updateValid view
+    addressed k = rw (eq-eqb (incarnation .0) (r .incarnation .0) h, ← e, eq-eqb id (r .«consumer_id») k)
+
+-- ---- the call
+
+-- what the test of the store says
+pub store-good : (r : SessionRecord) (st : List ℕ) (x : Bool) → x ≡ not (damaged (view r st)) → not x ≡ false → damaged (view r st) ≡ false
+store-good r st x e f = not-true (damaged (view r st)) (sym e ∙ not-false x f)
+
+module _ (r : SessionRecord) (st m : List ℕ) (incarnation : ControllerIncarnation) (out : List ℕ) where
+  pub store-short : length st < 6144 → outcome (Refused refusal.StoreTooShort) r st out ≡ updateOutcome r st m incarnation out
+  unfolding updateOutcome updateCall view
+  store-short h = rw (lt-ltb (length st) 6144 h)
+
+  module _ (h : 6144 ≤ length st) where
+    pub output-short : length out < 3210 → outcome (Refused refusal.OutputTooShort) r st out ≡ updateOutcome r st m incarnation out
+    unfolding updateOutcome updateCall view
+    output-short k = rw (le-ltb (length st) 6144 h, lt-ltb (length out) 3210 k)
+
+    module _ (k : 3210 ≤ length out) where
+      pub store-bad : (x : Bool) → x ≡ not (damaged (view r st)) → not x ≡ true
+          → outcome (Refused refusal.MalformedStore) r st out ≡ updateOutcome r st m incarnation out
+      unfolding updateOutcome updateCall view
+      store-bad x e f =
+          rw (le-ltb (length st) 6144 h, le-ltb (length out) 3210 k, not-false (damaged (view r st)) (sym e ∙ not-true x f))
+
+      module _ (d : damaged (view r st) ≡ false) where
+        pub message-bad : (y : Refusal) → firstFault CommandScalableTopicAssignmentUpdate m ≡ checked.Refused y
+            → outcome (Refused y) r st out ≡ updateOutcome r st m incarnation out
+        unfolding updateOutcome updateCall view
+        message-bad y g = rw (le-ltb (length st) 6144 h, le-ltb (length out) 3210 k, d, g)
+
+        pub call-valid : firstFault CommandScalableTopicAssignmentUpdate m ≡ checked.Valid
+            → effectOf (updateValid (view r st) incarnation (updateOf m)) st out ≡ updateOutcome r st m incarnation out
+        unfolding updateOutcome updateCall view
+        call-valid g = rw (le-ltb (length st) 6144 h, le-ltb (length out) 3210 k, d, g)

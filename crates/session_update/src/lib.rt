@@ -1,0 +1,179 @@
+// Update: a push of the controller, `handle_assignment_update_for`.
+//
+// The message's assignment is taken into a buffer of one slot; what is refused before the last test has written nothing to store or output.
+ghost use mathlib.Core.Path.{_≡_};
+ghost use mathlib.Core.Bool.{true, false};
+ghost use mathlib.Core.List.{List};
+ghost use Prim.Native.Nat.{ℕ, _≤_};
+ghost use lib.ListN.{length};
+ghost use Rattle.readers.specs.Messages.{updateOf};
+ghost use Rattle.packed.specs.Assignment.{startsAssignment};
+ghost use Rattle.packed.specs.Assignment as packed-form;
+ghost use Rattle.content.specs.Content.{contentOf};
+ghost use Rattle.intake.specs.Intake.{IntakeIs};
+ghost use Rattle.session.specs.Store.{slot, depthOf};
+ghost use Rattle.session.specs.Identity.{topicOf, isIdentity};
+ghost use Rattle.session.specs.Session.{view, damaged};
+ghost use Rattle.session.specs.Update.{updateUnregistered, updateRegistered, updateContent, updateValid};
+ghost use Rattle.session.specs.Calls.{outcome, effectOf, updateOutcome};
+ghost use Rattle.session_store.specs.Scratch.{Scratch};
+use intake::Intake;
+use messages::Checked;
+use messages::MessageKind;
+use packed::SLOT;
+use refusal::Refusal;
+use session::Answer;
+use session::Changed;
+use session::SessionRecord;
+use types::ControllerIncarnation;
+
+// The store's list slot.
+const LIST: usize = 4096;
+
+// An update of an unregistered session: the assignment of n bytes in the buffer joins the queue.
+fn enqueued(r: SessionRecord, store: &mut [u8], b: &[u8], n: usize) -> Changed
+    requires { ⌜ (6144 ≤ length (now store)) × (r .«queue_count» ≤ depthOf (length (now store))) ⌝ }
+    requires { ⌜ Scratch (now b) n ⌝ }
+    ensures { λ x. ⌜ ((out : List ℕ) → outcome (x .answer) (x .next) (now (store .exit)) out
+        ≡ effectOf (updateUnregistered (view r (now (store .entry))) (packed-form.assignmentOf (now (b .entry)))) (now (store .entry)) out) ⌝ }
+{
+    let floor = r.epoch_floor;
+    let epoch = packed_int::read_u64(b, 0);
+    if session_record::below_floor(floor, epoch) {
+        let value = session_record::floor_value(floor);
+        return session_record::refuse(
+            r,
+            Refusal::CrossIncarnationEpochRegression {
+                got: epoch,
+                floor: value,
+            },
+        );
+    }
+    let max = session_store::depth(store.len());
+    if r.queue_count == max {
+        return session_record::refuse(r, Refusal::PreBaselineBufferFull { max });
+    }
+    session_store::write_slot(store, 3 + r.queue_count, b, n);
+    let next = session_record::with_queue_count(r, r.queue_count + 1);
+    session_record::unchanged(next)
+}
+
+// An update of a registered session: the assignment of n bytes in the buffer is held, and its delta answered.
+fn held(r: SessionRecord, store: &mut [u8], b: &[u8], n: usize, out: &mut [u8]) -> Changed
+    requires { ⌜ (6144 ≤ length (now store)) × (3210 ≤ length (now out)) ⌝ }
+    requires { ⌜ startsAssignment (slot (now store) 2) ≡ true ⌝ }
+    requires { ⌜ Scratch (now b) n ⌝ }
+    ensures { λ x. ⌜ outcome (x .answer) (x .next) (now (store .exit)) (now (out .exit))
+        ≡ effectOf (updateRegistered (view r (now (store .entry))) (packed-form.assignmentOf (now (b .entry)))) (now (store .entry)) (now (out .entry)) ⌝ }
+{
+    if records::same_assignment(&store[LIST..LIST + SLOT], b) {
+        return session_record::unchanged(r);
+    }
+    let epoch = packed_int::read_u64(b, 0);
+    let prev = packed_int::read_u64(store, LIST);
+    if epoch < prev {
+        return session_record::refuse(r, Refusal::StaleEpoch { got: epoch, prev });
+    }
+    let len = difference::write_delta(&store[LIST..LIST + SLOT], b, out);
+    session_store::write_slot(store, 2, b, n);
+    let floor = r.epoch_floor;
+    let raised = session_record::raised(floor, epoch);
+    let next = session_record::with_floor(r, raised);
+    Changed {
+        next,
+        answer: Answer::Delta(len),
+    }
+}
+
+// Takes the update's assignment into the buffer.
+fn take_assignment(store: &[u8], message: &[u8], epoch: u64, b: &mut [u8]) -> Intake
+    requires { ⌜ (6144 ≤ length (now store)) × (length (now b) ≡ 2048) ⌝ }
+    requires { ⌜ isIdentity (slot (now store) 0) ≡ true ⌝ }
+    requires { ⌜ epoch ≡ updateOf (now message) .assignment .layoutEpoch ⌝ }
+    ensures { λ x. ⌜ IntakeIs (now (b .entry)) x (now (b .exit)) (contentOf (topicOf (slot (now (store .entry)) 0)) (updateOf (now (message .entry)) .assignment)) ⌝ }
+{
+    let len = packed_int::read_u16(store, 0) as usize;
+    intake::take_in(message, 2, &store[7..7 + len], epoch, b)
+}
+
+// An update for this link and this consumer.
+fn taken(r: SessionRecord, store: &mut [u8], message: &[u8], epoch: u64, out: &mut [u8]) -> Changed
+    requires { ⌜ (6144 ≤ length (now store)) × (3210 ≤ length (now out)) ⌝ }
+    requires { ⌜ damaged (view r (now store)) ≡ false ⌝ }
+    requires { ⌜ epoch ≡ updateOf (now message) .assignment .layoutEpoch ⌝ }
+    ensures { λ x. ⌜ outcome (x .answer) (x .next) (now (store .exit)) (now (out .exit))
+        ≡ effectOf (updateContent (view r (now (store .entry))) (contentOf (topicOf (slot (now (store .entry)) 0)) (updateOf (now (message .entry)) .assignment))) (now (store .entry)) (now (out .entry)) ⌝ }
+{
+    let mut b = [0u8; 2048];
+    match take_assignment(store, message, epoch, &mut b) {
+        Intake::Refused(x) => session_record::refuse(r, x),
+        Intake::Taken(n) => {
+            if r.registered {
+                return held(r, store, &b, n, out);
+            }
+            enqueued(r, store, &b, n)
+        }
+    }
+}
+
+// An update whose message is valid.
+fn valid(
+    r: SessionRecord,
+    store: &mut [u8],
+    message: &[u8],
+    incarnation: ControllerIncarnation,
+    out: &mut [u8],
+) -> Changed
+    requires { ⌜ (6144 ≤ length (now store)) × (3210 ≤ length (now out)) ⌝ }
+    requires { ⌜ damaged (view r (now store)) ≡ false ⌝ }
+    ensures { λ x. ⌜ outcome (x .answer) (x .next) (now (store .exit)) (now (out .exit))
+        ≡ effectOf (updateValid (view r (now (store .entry))) incarnation (updateOf (now (message .entry)))) (now (store .entry)) (now (out .entry)) ⌝ }
+{
+    let expected = r.incarnation;
+    if incarnation.0 != expected.0 {
+        return session_record::refuse(
+            r,
+            Refusal::IncarnationMismatch {
+                got: incarnation,
+                expected,
+            },
+        );
+    }
+    let head = readers::read_update(message);
+    if head.consumer_id != r.consumer_id {
+        return session_record::refuse(
+            r,
+            Refusal::ConsumerMismatch {
+                got: head.consumer_id,
+                expected: r.consumer_id,
+            },
+        );
+    }
+    taken(r, store, message, head.layout_epoch, out)
+}
+
+// The update. Refused in order: 1, 2, 22, 3 to 7, 23, 24, 9 to 15, then 26, 28 or 27.
+pub fn updated(
+    r: SessionRecord,
+    store: &mut [u8],
+    message: &[u8],
+    incarnation: ControllerIncarnation,
+    out: &mut [u8],
+) -> Changed
+    ensures { λ x. ⌜ outcome (x .answer) (x .next) (now (store .exit)) (now (out .exit))
+        ≡ updateOutcome r (now (store .entry)) (now (message .entry)) incarnation (now (out .entry)) ⌝ }
+{
+    if store.len() < session_store::MIN_STORE {
+        return session_record::refuse(r, Refusal::StoreTooShort);
+    }
+    if out.len() < difference::LONGEST {
+        return session_record::refuse(r, Refusal::OutputTooShort);
+    }
+    if !session_store::is_sound(r, store) {
+        return session_record::refuse(r, Refusal::MalformedStore);
+    }
+    match messages::first_fault(MessageKind::CommandScalableTopicAssignmentUpdate, message) {
+        Checked::Refused(x) => session_record::refuse(r, x),
+        Checked::Valid => valid(r, store, message, incarnation, out),
+    }
+}
