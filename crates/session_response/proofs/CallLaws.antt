@@ -1,18 +1,20 @@
 -- The response, refusal by refusal: each law gives the result of one way through it.
 --
--- In order: a result on bytes (`refused-out`, `given-out`, `registered-out`); an assignment, 26 and 27 (`assignment-*`); content
--- (`content-*`); a message that is valid (`valid-*`); the call (`call-*`).
+-- In order: a result on bytes (`refused-out`, `given-out`, `registered-out`); an assignment, 26 and 27 (`assignment-below` to
+-- `assignment-on`); content (`content-refused`, `content-taken`); a message that is valid (`valid-mismatch` to `valid-denied`); the call
+-- (`call-short` to `call-out`).
 -- Assumes nothing.
 use Prim.Native.Nat.{ℕ, _*_, _≤_, _<_}
 use mathlib.Core.Path.{_≡_, refl, sym, ap, ap₂, _∙_}
 use mathlib.Core.Bool.{Bool, true, false, not, cond, true≢false}
 use mathlib.Core.List.{List}
-use mathlib.Core.Option.{Option, some, none}
+use mathlib.Core.Option.{Option, none}
 use lib.ListN.{length}
 use borrow.Author.Tests.{le-ltb, lt-ltb, eq-eqb, ne-eqb, not-true, not-false}
 use Rattle.types.specs.declared.ControllerIncarnation.{ControllerIncarnation}
 use Rattle.refusal.specs.declared.Refusal.{Refusal}
-use Rattle.refusal.specs.declared.Refusal.the-variants.{StoreTooShort, MalformedStore, IncarnationMismatch, CrossIncarnationEpochRegression, StaleEpoch}
+use Rattle.refusal.specs.declared.Refusal.the-variants.{StoreTooShort, MalformedStore, IncarnationMismatch}
+use Rattle.refusal.specs.declared.Refusal.the-variants.{CrossIncarnationEpochRegression, StaleEpoch}
 use Rattle.messages.specs.declared.MessageKind.the-variants.{CommandScalableTopicSubscribeResponse}
 use Rattle.messages.specs.declared.Checked.{Checked}
 use Rattle.messages.specs.declared.Checked.the-variants as checked
@@ -31,14 +33,15 @@ use Rattle.session.specs.declared.Answer.the-variants as answer
 use Rattle.session.specs.Store.{slot, listsIn, writeSlot}
 use Rattle.session.specs.Identity.{topicOf}
 use Rattle.session.specs.Session.{view, damaged, Result, refuse, unless, floorFault}
-use Rattle.session.specs.Response.{staleFault, lastList, replayable, responseAssignment, responseContent, denied, responseValid, responseChecked, responseCall}
+use Rattle.session.specs.Response.{staleFault, lastList, replayable, denied}
+use Rattle.session.specs.Response.{responseAssignment, responseContent, responseValid, responseChecked, responseCall}
 use Rattle.session.specs.Calls.{outcome, effectOf, responseOutcome}
 use Rattle.session_record.specs.Floors.{belowFloor, floorValue}
 use Rattle.session_record.proofs.FloorLaws.{floor-below, floor-met}
 use Rattle.session_response.specs.declared.Stale.{Stale}
 use Rattle.session_response.specs.declared.Stale.the-variants as stale
 use Rattle.session_response.specs.Replay.{staleOf, staleRefusal, LastIs, deniedBy, registeredBy, registered}
-use Rattle.session_response.proofs.ReplayLaws.{buffer-epoch, stale-fault, replayed-is}
+use Rattle.session_response.proofs.ReplayLaws.{stale-fault, replayed-is}
 
 module _ (r : SessionRecord) (st : List ℕ) where
   -- ---- a result on bytes
@@ -68,39 +71,38 @@ module _ (r : SessionRecord) (st : List ℕ) where
 
   -- ---- an assignment: 26, then 27
 
+  -- the queue's epochs are all that is left to decide
+  abbrev pub Decided : ConsumerAssignment → Stale → Type 0
+  Decided a s = responseAssignment (view r st) a ≡ unless (staleRefusal s) (view r st) (registered (view r st) a)
+
   module _ (a : ConsumerAssignment) (epoch : ℕ) (e : epoch ≡ a .layoutEpoch) (t : Bool) (f : t ≡ belowFloor epoch (r .«epoch_floor»)) where
     pub assignment-below : t ≡ true → (v : ℕ) → v ≡ floorValue (r .«epoch_floor»)
         → responseAssignment (view r st) a ≡ refuse (CrossIncarnationEpochRegression epoch v) (view r st)
     unfolding responseAssignment view
     assignment-below g v h = rw (← e, floor-below epoch (r .«epoch_floor») (sym f ∙ g), ← h) refl
 
-    module _ (g : t ≡ false) (n : ℕ) (i : n ≡ cond (r .registered) 0 (r .«queue_count»)) (s : Stale) (h : s ≡ staleOf epoch (listsIn st 3 n)) where
-      pub queue-decides : responseAssignment (view r st) a ≡ unless (staleRefusal s) (view r st) (registered (view r st) a)
+    module _ (g : t ≡ false) (n : ℕ) (i : n ≡ cond (r .registered) 0 (r .«queue_count»)) where
+      pub queue-decides : (s : Stale) → s ≡ staleOf epoch (listsIn st 3 n) → Decided a s
       unfolding responseAssignment view
-      queue-decides =
-          ap (λ (x : Option Refusal). unless x (view r st) (responded′ (staleFault a (replayable (view r st))))) no-fault
-          ∙ ap responded′ fault
+      queue-decides s h =
+          ap (λ (x : Option Refusal). unless x (view r st) (unless (staleFault a (replayable (view r st))) (view r st) on)) no-fault
+          ∙ ap (λ (x : Option Refusal). unless x (view r st) on) fault
         where
-          responded′ : Option Refusal → Result
-          responded′ x = unless x (view r st) (registered (view r st) a)
+          on : Result
+          on = registered (view r st) a
 
-          no-fault : floorFault (a .layoutEpoch) (view r st .state .«epoch_floor») ≡ none
+          no-fault : floorFault (a .layoutEpoch) (r .«epoch_floor») ≡ none
           no-fault = ap (λ (x : ℕ). floorFault x (r .«epoch_floor»)) (sym e) ∙ floor-met epoch (r .«epoch_floor») (sym f ∙ g)
 
           fault : staleFault a (replayable (view r st)) ≡ staleRefusal s
-          fault =
-              stale-fault a (replayable (view r st))
-              ∙ ap staleRefusal (ap₂ staleOf (sym e) (replayed-is r st n i) ∙ sym h)
+          fault = stale-fault a (replayable (view r st)) ∙ ap staleRefusal (ap₂ staleOf (sym e) (replayed-is r st n i) ∙ sym h)
 
-  module _ (a : ConsumerAssignment) (s : Stale) where
-    abbrev Decided : Type 0
-    Decided = responseAssignment (view r st) a ≡ unless (staleRefusal s) (view r st) (registered (view r st) a)
+  module _ (a : ConsumerAssignment) (s : Stale) (d : Decided a s) where
+    pub assignment-stale : (got prev : ℕ) → s ≡ stale.At got prev → responseAssignment (view r st) a ≡ refuse (StaleEpoch got prev) (view r st)
+    assignment-stale got prev k = d ∙ ap (λ (x : Stale). unless (staleRefusal x) (view r st) (registered (view r st) a)) k
 
-    pub assignment-stale : (got prev : ℕ) → Decided → s ≡ stale.At got prev → responseAssignment (view r st) a ≡ refuse (StaleEpoch got prev) (view r st)
-    assignment-stale got prev d k = d ∙ ap (λ (x : Stale). unless (staleRefusal x) (view r st) (registered (view r st) a)) k
-
-    pub assignment-on : Decided → s ≡ stale.Nowhere → responseAssignment (view r st) a ≡ registered (view r st) a
-    assignment-on d k = d ∙ ap (λ (x : Stale). unless (staleRefusal x) (view r st) (registered (view r st) a)) k
+    pub assignment-on : s ≡ stale.Nowhere → responseAssignment (view r st) a ≡ registered (view r st) a
+    assignment-on k = d ∙ ap (λ (x : Stale). unless (staleRefusal x) (view r st) (registered (view r st) a)) k
 
   -- ---- content
 
@@ -108,7 +110,8 @@ module _ (r : SessionRecord) (st : List ℕ) where
   unfolding responseContent
   content-refused q x e = rw e refl
 
-  pub content-taken : (q : Content) (a : ConsumerAssignment) → q ≡ taken a → responseContent (view r st) q ≡ responseAssignment (view r st) a
+  pub content-taken : (q : Content) (a : ConsumerAssignment) → q ≡ taken a
+      → responseContent (view r st) q ≡ responseAssignment (view r st) a
   unfolding responseContent
   content-taken q a e = rw e refl
 

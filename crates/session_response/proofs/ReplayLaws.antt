@@ -37,7 +37,6 @@ use Rattle.session.specs.Response.{staleFault, lastList, replayable}
 use Rattle.session.proofs.SlotLaws.{length-slot, size-ok}
 use Rattle.session_store.specs.Scratch.{Scratch}
 use Rattle.session_store.proofs.StoreLaws.{part-slot, all-start-at, queue-room, queue-starts}
-use Rattle.session_response.specs.declared.Stale.{Stale}
 use Rattle.session_response.specs.declared.Stale.the-variants.{Nowhere, At}
 use Rattle.session_response.specs.Replay.{staleOf, staleRefusal, LastIs}
 

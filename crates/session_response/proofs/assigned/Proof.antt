@@ -1,12 +1,9 @@
 -- `session_response::assigned` meets its contract: 26, then 27, or else the session is registered.
 -- Assumes nothing.
-use mathlib.Core.Path.{_≡_}
 use Rattle.packed.specs.Assignment.{assignmentOf}
-use Rattle.session.specs.Session.{view, unless}
-use Rattle.session.specs.Response.{responseAssignment}
-use Rattle.session_response.specs.Replay.{staleRefusal, registered}
 use Rattle.session_response.proofs.ReplayLaws.{buffer-epoch, replayed-room}
-use Rattle.session_response.proofs.CallLaws.{refused-out, given-out, assignment-below, queue-decides, assignment-stale, assignment-on}
+use Rattle.session_response.proofs.CallLaws.{refused-out, given-out, Decided}
+use Rattle.session_response.proofs.CallLaws.{assignment-below, queue-decides, assignment-stale, assignment-on}
 use borrow.Author.Needs.{needs}
 use Rattle.session_response.proofs.assigned.Statement.{statement}
 use Rattle.session_response.proofs.assigned.Tie as tie
@@ -23,29 +20,28 @@ floor-value-requires c κs = search needs
 refuse-requires : tie.Need-refuse-requires
 refuse-requires c κs = search needs
 
--- the queue decides
-past : (c : tie.After-first-stale) → let k = c .before .before in let f = k .before in let s = f .before .before .before .before .before in
-    responseAssignment (view (s .args .r) (s .args .store .now)) (assignmentOf (s .args .b .now))
-    ≡ unless (staleRefusal (c .first-stale .result)) (view (s .args .r) (s .args .store .now))
-    (registered (view (s .args .r) (s .args .store .now)) (assignmentOf (s .args .b .now)))
+-- the floor is met
+past : (c : tie.After-first-stale) → let s = c .before .before .before .before .before .before .before .before in
+    Decided (s .args .r) (s .args .store .now) (assignmentOf (s .args .b .now)) (c .first-stale .result)
 past c =
     let k = c .before .before in
     let f = k .before in
     let e = f .before .before in
     let s = e .before .before .before in
     queue-decides (s .args .r) (s .args .store .now) (assignmentOf (s .args .b .now)) (e .read-u64 .result)
-    (buffer-epoch (s .args .b .now) (e .read-u64 .result) (e .read-u64 .ensures)) (f .before .below-floor .result) (f .before .below-floor .ensures)
-    (f .if1 .left) (k .replay-count .result) (k .replay-count .ensures) (c .first-stale .result) (c .first-stale .ensures)
+    (buffer-epoch (s .args .b .now) (e .read-u64 .result) (e .read-u64 .ensures))
+    (f .before .below-floor .result) (f .before .below-floor .ensures) (f .if1 .left) (k .replay-count .result) (k .replay-count .ensures)
+    (c .first-stale .result) (c .first-stale .ensures)
 
 returns : tie.Need-returns
 returns c =
     let f = c .before .before .before in
     let e = f .before in
     let s = e .before .before .before in
-    let a = assignmentOf (s .args .b .now) in
     refused-out (s .args .r) (s .args .store .now) (c .refuse .result) _ _ (c .refuse .ensures)
-    (assignment-below (s .args .r) (s .args .store .now) a (e .read-u64 .result) (buffer-epoch (s .args .b .now) (e .read-u64 .result) (e .read-u64 .ensures))
-    (f .below-floor .result) (f .below-floor .ensures) (c .before .before .if1 .taken) (c .before .floor-value .result) (c .before .floor-value .ensures))
+    (assignment-below (s .args .r) (s .args .store .now) (assignmentOf (s .args .b .now)) (e .read-u64 .result)
+    (buffer-epoch (s .args .b .now) (e .read-u64 .result) (e .read-u64 .ensures)) (f .below-floor .result) (f .below-floor .ensures)
+    (c .before .before .if1 .taken) (c .before .floor-value .result) (c .before .floor-value .ensures))
 
 replay-count-requires : tie.Need-replay-count-requires
 replay-count-requires c κs = search needs
@@ -77,8 +73,8 @@ returns-2 c =
     let n = k .before .before in
     let s = n .before .before .before .before .before .before .before .before in
     refused-out (s .args .r) (s .args .store .now) (c .refuse2 .result) _ _ (c .refuse2 .ensures)
-    (assignment-stale (s .args .r) (s .args .store .now) (assignmentOf (s .args .b .now)) (n .first-stale .result) (k .got .given .0 .0)
-    (k .got .given .0 .1 .0) (past n) (k .got .given .1))
+    (assignment-stale (s .args .r) (s .args .store .now) (assignmentOf (s .args .b .now)) (n .first-stale .result) (past n)
+    (k .got .given .0 .0) (k .got .given .0 .1 .0) (k .got .given .1))
 
 same-length-2 : tie.Need-same-length-2
 same-length-2 c = search needs
@@ -89,7 +85,8 @@ returns-3 c =
     let n = g .before .before .before .before in
     let s = n .before .before .before .before .before .before .before .before in
     given-out (s .args .r) (s .args .store .now) (g .register .result) (g .register .last .1 .0) _ _
-    (assignment-on (s .args .r) (s .args .store .now) (assignmentOf (s .args .b .now)) (n .first-stale .result) (past n) (g .before .before .enum-told .given .1))
+    (assignment-on (s .args .r) (s .args .store .now) (assignmentOf (s .args .b .now)) (n .first-stale .result) (past n)
+    (g .before .before .enum-told .given .1))
     (g .register .ensures)
 
 pub assigned-spec : {M : Type 1} → statement M

@@ -11,7 +11,8 @@ use Rattle.session_response.proofs.first_stale.Statement.{statement}
 use Rattle.session_response.proofs.first_stale.Tie as tie
 
 abbrev Inv-loop : tie.InvT-loop
-Inv-loop store epoch n prev₀ k₀ left₀ prev k left = (staleOf epoch (listsIn store 3 n) ≡ staleOf prev (listsIn store k left)) × (k + left ≡ 3 + n)
+Inv-loop store epoch n prev₀ k₀ left₀ prev k left =
+    (staleOf epoch (listsIn store 3 n) ≡ staleOf prev (listsIn store k left)) × (k + left ≡ 3 + n)
 
 abbrev μ-loop : tie.MeasureT-loop
 μ-loop store epoch n prev₀ k₀ left₀ prev k left = left
@@ -55,7 +56,8 @@ loop-again c =
 returns-2 : tie.Need-returns-2 Inv-loop μ-loop
 returns-2 c =
     let l = c .before in
-    stale-end (l .loop .prev) (l .before .before .args .store .now) (l .loop .k) (l .loop .left) (c .loop-test .left) ∙ sym (l .loop .inv .0)
+    stale-end (l .loop .prev) (l .before .before .args .store .now) (l .loop .k) (l .loop .left) (c .loop-test .left)
+    ∙ sym (l .loop .inv .0)
 
 pub first-stale-spec : {M : Type 1} → statement M
 first-stale-spec =

@@ -1,8 +1,7 @@
 -- `session_response::load_last` meets its contract: without a queue the assignment itself is last, or else the queue's last slot.
 -- Assumes nothing.
-use Prim.Native.Nat.{ℕ}
 use native.Mathlib.Omega.{arith}
-use mathlib.Core.Path.{_≡_, sym}
+use mathlib.Core.Path.{sym}
 use lib.Seq.{length-take-le}
 use Rattle.session_response.proofs.ReplayLaws.{last-none, last-starts, last-some}
 use borrow.Author.Needs.{needs}
@@ -25,8 +24,8 @@ same-length c = search needs
 returns : tie.Need-returns
 returns c =
     let s = c .before .before .before .before .before .before .before .before .before in
-    last-none (s .args .store .now) (s .args .b .now) (s .args .last .now) (c .before .before .put-bytes .last .0) (s .args .n) (s .args .size)
-    (c .before .before .before .before .before .if1 .taken) (s .pre .1 .1 .0) (s .pre .1 .1 .1) (c .before .before .put-bytes .ensures)
+    last-none (s .args .store .now) (s .args .b .now) (s .args .last .now) (c .before .before .put-bytes .last .0) (s .args .n)
+    (s .args .size) (c .before .before .before .before .before .if1 .taken) (s .pre .1 .1 .0) (s .pre .1 .1 .1) (c .before .before .put-bytes .ensures)
 
 add-at : tie.Need-add-at
 add-at c = search needs
@@ -54,8 +53,8 @@ assignment-size-requires c κs =
     let p = c .before .before .before in
     let k = p .before .before .before in
     let s = k .before .before .before .before in
-    last-starts (s .args .store .now) (s .args .b .now) (s .args .last .now) (p .put-bytes2 .last .0) (s .args .n) (omega (arith, k .if1 .left))
-    (s .pre .0) (s .pre .1 .1 .1) (p .put-bytes2 .ensures) (s .pre .1 .0)
+    last-starts (s .args .store .now) (s .args .b .now) (s .args .last .now) (p .put-bytes2 .last .0) (s .args .n)
+    (omega (arith, k .if1 .left)) (s .pre .0) (s .pre .1 .1 .1) (p .put-bytes2 .ensures) (s .pre .1 .0)
 
 same-length-2 : tie.Need-same-length-2
 same-length-2 c = search needs
@@ -65,8 +64,8 @@ returns-2 c =
     let p = c .before .before .before .before in
     let k = p .before .before .before in
     let s = k .before .before .before .before in
-    last-some (s .args .store .now) (s .args .b .now) (s .args .last .now) (p .put-bytes2 .last .0) (s .args .n) (omega (arith, k .if1 .left))
-    (s .pre .0) (s .pre .1 .1 .1) (p .put-bytes2 .ensures) (s .pre .1 .0) (c .assignment-size .result) (c .assignment-size .ensures)
+    last-some (s .args .store .now) (s .args .b .now) (s .args .last .now) (p .put-bytes2 .last .0) (s .args .n)
+    (omega (arith, k .if1 .left)) (s .pre .0) (s .pre .1 .1 .1) (p .put-bytes2 .ensures) (s .pre .1 .0) (c .assignment-size .result) (c .assignment-size .ensures)
 
 pub load-last-spec : {M : Type 1} → statement M
 load-last-spec =

@@ -1,6 +1,7 @@
 -- `session_response::responded` meets its contract: a test after the other.
 -- Assumes nothing.
-use Rattle.session_response.proofs.CallLaws.{refused-out, given-out, call-short, call-damaged, undamaged, call-faulty, call-valid, call-out}
+use Rattle.session_response.proofs.CallLaws.{refused-out, given-out, call-out}
+use Rattle.session_response.proofs.CallLaws.{call-short, call-damaged, undamaged, call-faulty, call-valid}
 use borrow.Author.Needs.{needs}
 use Rattle.session_response.proofs.responded.Statement.{statement}
 use Rattle.session_response.proofs.responded.Tie as tie

@@ -47,7 +47,8 @@ returns c =
     let s = c .before .before .before .before .before .before .before .before .before in
     let u = c .before .before .before .before .before in
     let t = c .before .before .take-in in
-    subst (λ (p : List ℕ). IntakeIs (s .args .b .now) (t .result) (t .last .1 .1 .1 .1 .0) (contentOf p (responseOf (s .args .message .now) .assignment)))
+    subst (λ (p : List ℕ). IntakeIs (s .args .b .now) (t .result) (t .last .1 .1 .1 .1 .0)
+    (contentOf p (responseOf (s .args .message .now) .assignment)))
     (topic-is (s .args .store .now) (u .read-u16 .result) (u .read-u16 .ensures) (s .pre .1 .0)) (t .ensures)
 
 pub take-assignment-spec : {M : Type 1} → statement M

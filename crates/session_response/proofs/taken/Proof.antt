@@ -7,8 +7,6 @@ use Rattle.readers.specs.Messages.{responseOf}
 use Rattle.content.specs.Content.{contentOf}
 use Rattle.session.specs.Store.{slot}
 use Rattle.session.specs.Identity.{topicOf}
-use Rattle.session.specs.Session.{view}
-use Rattle.session.specs.Response.{responseContent}
 use Rattle.session_store.proofs.StoreLaws.{identity-good}
 use Rattle.session_response.proofs.ReplayLaws.{TakenIn, taken-in, refused-in}
 use Rattle.session_response.proofs.CallLaws.{refused-out, given-out, content-refused, content-taken}
@@ -35,13 +33,15 @@ enum-known-size c = search needs
 
 -- what stands in the buffer then
 took : (c : tie.After-size) → let k = c .before .before .before in let s = k .before .before .before .before .before in
-    TakenIn (k .take-assignment .last .1 .1 .1 .0) (c .size .given .0 .0) (contentOf (topicOf (slot (s .args .store .now) 0)) (responseOf (s .args .message .now) .assignment))
+    TakenIn (k .take-assignment .last .1 .1 .1 .0) (c .size .given .0 .0)
+    (contentOf (topicOf (slot (s .args .store .now) 0)) (responseOf (s .args .message .now) .assignment))
 took c =
     let k = c .before .before .before in
     let m = k .before .before .before in
     let s = m .before .before in
     taken-in (topicOf (slot (s .args .store .now) 0)) (s .args .message .now) (replicate 2048 0) (k .take-assignment .last .1 .1 .1 .0)
-    (k .take-assignment .result) (k .take-assignment .ensures) (c .size .given .0 .0) (c .size .given .1) refl (λ i. m .shared-slice-known .given i .fits)
+    (k .take-assignment .result) (k .take-assignment .ensures) (c .size .given .0 .0) (c .size .given .1) refl
+    (λ i. m .shared-slice-known .given i .fits)
 
 slice-aggregate-assigned : tie.Need-slice-aggregate-assigned
 slice-aggregate-assigned c = search needs
@@ -60,7 +60,7 @@ returns c =
     let k = x .before .before .before in
     let s = k .before .before .before .before .before in
     let q = contentOf (topicOf (slot (s .args .store .now) 0)) (responseOf (s .args .message .now) .assignment) in
-    refused-out (s .args .r) (s .args .store .now) (c .refuse .result) (x .x .given .0 .0) (responseContent (view (s .args .r) (s .args .store .now)) q) (c .refuse .ensures)
+    refused-out (s .args .r) (s .args .store .now) (c .refuse .result) _ _ (c .refuse .ensures)
     (content-refused (s .args .r) (s .args .store .now) q (x .x .given .0 .0)
     (refused-in (topicOf (slot (s .args .store .now) 0)) (s .args .message .now) (replicate 2048 0) (k .take-assignment .last .1 .1 .1 .0)
     (k .take-assignment .result) (k .take-assignment .ensures) (x .x .given .0 .0) (x .x .given .1)))
@@ -74,7 +74,7 @@ returns-2 c =
     let k = g .before .before .before .before in
     let s = k .before .before .before .before .before .before .before .before in
     let q = contentOf (topicOf (slot (s .args .store .now) 0)) (responseOf (s .args .message .now) .assignment) in
-    given-out (s .args .r) (s .args .store .now) (g .assigned .result) (g .assigned .last .1 .0) _ (responseContent (view (s .args .r) (s .args .store .now)) q)
+    given-out (s .args .r) (s .args .store .now) (g .assigned .result) (g .assigned .last .1 .0) _ _
     (content-taken (s .args .r) (s .args .store .now) q _ (took k .is)) (g .assigned .ensures)
 
 pub taken-spec : {M : Type 1} → statement M
