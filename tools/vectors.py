@@ -8,7 +8,7 @@ import pathlib
 import re
 import sys
 
-CRATE = pathlib.Path(__file__).resolve().parent.parent / "crates" / "vectors"
+CRATES = pathlib.Path(__file__).resolve().parent.parent / "crates"
 
 
 class Refused(Exception):
@@ -240,9 +240,9 @@ def argument(kind, word):
     return bytes.fromhex(word[2:]) if word.startswith("0x") else word.encode()
 
 
-def answer(line):
+def answer(commands, line):
     name, *words = line.split(" ")
-    kinds, command = COMMANDS[name]
+    kinds, command = commands[name]
     if kinds.endswith("*"):
         kinds = kinds[0] * len(words)
     assert len(kinds) == len(words), line
@@ -252,18 +252,21 @@ def answer(line):
         return " ".join(["refused", *map(str, refusal.args)])
 
 
-def main():
-    vectors = (CRATE / "stdin").read_text(encoding="utf-8").splitlines()
-    lines = [(number, line, answer(line)) for number, line in enumerate(vectors, 1) if not line.startswith("#")]
+def hold(name, commands):
+    """Compares the answers to a program's vectors with its stdout."""
+    crate = CRATES / name
+    vectors = (crate / "stdin").read_text(encoding="utf-8").splitlines()
+    lines = [(number, line, answer(commands, line)) for number, line in enumerate(vectors, 1) if not line.startswith("#")]
     if "--write" in sys.argv:
-        (CRATE / "stdout").write_text("".join(told + "\n" for _, _, told in lines), encoding="utf-8")
-    held = (CRATE / "stdout").read_text(encoding="utf-8").splitlines()
+        (crate / "stdout").write_text("".join(told + "\n" for _, _, told in lines), encoding="utf-8")
+    held = (crate / "stdout").read_text(encoding="utf-8").splitlines()
     for (number, line, told), have in zip(lines, held):
         if told != have:
-            sys.exit(f"vectors: stdin:{number}: '{line}' should give '{told}', stdout has '{have}'")
+            sys.exit(f"{name}: stdin:{number}: '{line}' should give '{told}', stdout has '{have}'")
     if len(lines) != len(held):
-        sys.exit(f"vectors: stdout has {len(held)} lines, should have {len(lines)}")
-    print(f"vectors: {len(lines)} lines as reckoned")
+        sys.exit(f"{name}: stdout has {len(held)} lines, should have {len(lines)}")
+    print(f"{name}: {len(lines)} lines as reckoned")
 
 
-main()
+if __name__ == "__main__":
+    hold("vectors", COMMANDS)

@@ -129,15 +129,15 @@ module _ (r : SessionRecord) (st out : List ℕ) (c : Content) where
   content-refuses x e = rw e
 
   module _ (a : ConsumerAssignment) (e : c ≡ taken a) where
-    pub content-holds : r .registered ≡ true
-        → effectOf (updateRegistered (view r st) a) st out ≡ effectOf (updateContent (view r st) c) st out
+    pub content-holds : r .registered ≡ true → {z : Outcome} → z ≡ effectOf (updateRegistered (view r st) a) st out
+        → z ≡ effectOf (updateContent (view r st) c) st out
     unfolding updateContent view
-    content-holds h = rw (e, h)
+    content-holds h w = w ∙ rw (e, h)
 
-    pub content-joins : r .registered ≡ false
-        → effectOf (updateUnregistered (view r st) a) st out ≡ effectOf (updateContent (view r st) c) st out
+    pub content-joins : r .registered ≡ false → {z : Outcome} → z ≡ effectOf (updateUnregistered (view r st) a) st out
+        → z ≡ effectOf (updateContent (view r st) c) st out
     unfolding updateContent view
-    content-joins h = rw (e, h)
+    content-joins h w = w ∙ rw (e, h)
 
 -- ---- link and consumer
 
@@ -156,10 +156,11 @@ module _ (r : SessionRecord) (st out : List ℕ) (incarnation : ControllerIncarn
     other-consumer k = rw (eq-eqb (incarnation .0) (r .incarnation .0) h, ← e, ne-eqb id (r .«consumer_id») k)
 
     pub addressed : id ≡ r .«consumer_id»
-        → effectOf (updateContent (view r st) (contentOf (topicOf (slot st 0)) (u .assignment))) st out
-        ≡ effectOf (updateValid (view r st) incarnation u) st out
+        → {z : Outcome} → z ≡ effectOf (updateContent (view r st) (contentOf (topicOf (slot st 0)) (u .assignment))) st out
+        → z ≡ effectOf (updateValid (view r st) incarnation u) st out
     unfolding updateValid view
-    addressed k = rw (eq-eqb (incarnation .0) (r .incarnation .0) h, ← e, eq-eqb id (r .«consumer_id») k)
+    addressed k w =
+        w ∙ rw (eq-eqb (incarnation .0) (r .incarnation .0) h, eq-eqb (u .consumerId) (r .«consumer_id») (sym e ∙ k))
 
 -- ---- the call
 
@@ -191,6 +192,7 @@ module _ (r : SessionRecord) (st m : List ℕ) (incarnation : ControllerIncarnat
         message-bad y g = rw (le-ltb (length st) 6144 h, le-ltb (length out) 3210 k, d, g)
 
         pub call-valid : firstFault CommandScalableTopicAssignmentUpdate m ≡ checked.Valid
-            → effectOf (updateValid (view r st) incarnation (updateOf m)) st out ≡ updateOutcome r st m incarnation out
+            → {z : Outcome} → z ≡ effectOf (updateValid (view r st) incarnation (updateOf m)) st out
+            → z ≡ updateOutcome r st m incarnation out
         unfolding updateOutcome updateCall view
-        call-valid g = rw (le-ltb (length st) 6144 h, le-ltb (length out) 3210 k, d, g)
+        call-valid g w = w ∙ rw (le-ltb (length st) 6144 h, le-ltb (length out) 3210 k, d, g)

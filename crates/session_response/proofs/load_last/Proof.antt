@@ -25,7 +25,8 @@ returns : tie.Need-returns
 returns c =
     let s = c .before .before .before .before .before .before .before .before .before in
     last-none (s .args .store .now) (s .args .b .now) (s .args .last .now) (c .before .before .put-bytes .last .0) (s .args .n)
-    (s .args .size) (c .before .before .before .before .before .if1 .taken) (s .pre .1 .1 .0) (s .pre .1 .1 .1) (c .before .before .put-bytes .ensures)
+    (s .args .size) (c .before .before .before .before .before .if1 .taken) (s .pre .1 .1 .0) (s .pre .1 .1 .1)
+    (c .before .before .put-bytes .ensures)
 
 add-at : tie.Need-add-at
 add-at c = search needs
@@ -65,7 +66,8 @@ returns-2 c =
     let k = p .before .before .before in
     let s = k .before .before .before .before in
     last-some (s .args .store .now) (s .args .b .now) (s .args .last .now) (p .put-bytes2 .last .0) (s .args .n)
-    (omega (arith, k .if1 .left)) (s .pre .0) (s .pre .1 .1 .1) (p .put-bytes2 .ensures) (s .pre .1 .0) (c .assignment-size .result) (c .assignment-size .ensures)
+    (omega (arith, k .if1 .left)) (s .pre .0) (s .pre .1 .1 .1) (p .put-bytes2 .ensures) (s .pre .1 .0)
+    (c .assignment-size .result) (c .assignment-size .ensures)
 
 pub load-last-spec : {M : Type 1} → statement M
 load-last-spec =

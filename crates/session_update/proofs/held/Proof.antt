@@ -1,5 +1,6 @@
 -- `session_update::held` meets its contract: no change, 27, or the assignment is held.
 -- Assumes nothing.
+use native.Mathlib.Omega.{arith}
 use mathlib.Core.Path.{_≡_}
 use Rattle.packed.specs.Assignment.{assignmentOf}
 use Rattle.session.specs.Store.{listIn}
@@ -90,7 +91,9 @@ write-delta-requires c κs =
     (list-starts (s .args .store .now) (s .pre .1 .0), (s .pre .1 .1 .starts, s .pre .0 .1))
 
 write-slot-requires : tie.Need-write-slot-requires
-write-slot-requires c κs = search needs
+write-slot-requires c κs =
+    let s = start (c .before .before .before .before .before .before .before .before .before .before .before) in
+    (omega (arith, s .pre .0 .0), s .pre .1 .1)
 
 raised-requires : tie.Need-raised-requires
 raised-requires c κs = search needs

@@ -1,6 +1,6 @@
 -- `session_update::taken` meets its contract: what was taken stands in the buffer, and is held or joins the queue.
 -- Assumes nothing.
-use mathlib.Core.Path.{refl, _∙_}
+use mathlib.Core.Path.{refl}
 use lib.ListN.{replicate}
 use Rattle.readers.specs.Messages.{updateOf}
 use Rattle.content.specs.Content.{Content, contentOf}
@@ -22,7 +22,8 @@ content s = contentOf (topicOf (slot (s .args .store .now) 0)) (updateOf (s .arg
 
 -- it stands in the buffer
 buffer : (c : tie.After-n)
-    → TakenIs (c .n .given .0 .0) (c .before .before .before .take-assignment .last .1 .1 .1 .0) (content (start (c .before .before .before)))
+    → TakenIs (c .n .given .0 .0) (c .before .before .before .take-assignment .last .1 .1 .1 .0)
+    (content (start (c .before .before .before)))
 buffer c =
     let t = c .before .before .before in
     let s = start t in
@@ -70,8 +71,8 @@ returns c =
     let k = h .before .before .before .before in
     let b = k .before .before in
     let s = start (b .before .before .before) in
-    h .held .ensures
-    ∙ content-holds (s .args .r) (s .args .store .now) (s .args .out .now) (content s) _ (buffer b .is) (k .if1 .taken)
+    content-holds (s .args .r) (s .args .store .now) (s .args .out .now) (content s) _ (buffer b .is) (k .if1 .taken)
+    (h .held .ensures)
 
 slice-aggregate-enqueued : tie.Need-slice-aggregate-enqueued
 slice-aggregate-enqueued c = search needs
@@ -104,8 +105,8 @@ returns-3 c =
     let k = h .before .before .before in
     let b = k .before .before in
     let s = start (b .before .before .before) in
-    h .enqueued .ensures (s .args .out .now)
-    ∙ content-joins (s .args .r) (s .args .store .now) (s .args .out .now) (content s) _ (buffer b .is) (k .if1 .left)
+    content-joins (s .args .r) (s .args .store .now) (s .args .out .now) (content s) _ (buffer b .is) (k .if1 .left)
+    (h .enqueued .ensures (s .args .out .now))
 
 pub taken-spec : {M : Type 1} → statement M
 taken-spec =

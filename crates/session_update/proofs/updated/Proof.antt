@@ -102,9 +102,8 @@ returns-5 c =
     let k = m .before in
     let o = k .before .before .before in
     let s = start o in
-    v .valid .ensures
-    ∙ call-valid (s .args .r) (s .args .store .now) (s .args .message .now) (s .args .incarnation) (s .args .out .now)
-    (o .before .if1 .left) (o .if2 .left) (good k) (sym (m .first-fault .ensures) ∙ x .enum-told .given .1)
+    call-valid (s .args .r) (s .args .store .now) (s .args .message .now) (s .args .incarnation) (s .args .out .now)
+    (o .before .if1 .left) (o .if2 .left) (good k) (sym (m .first-fault .ensures) ∙ x .enum-told .given .1) (v .valid .ensures)
 
 pub updated-spec : {M : Type 1} → statement M
 updated-spec =

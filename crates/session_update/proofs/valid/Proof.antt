@@ -1,6 +1,5 @@
 -- `session_update::valid` meets its contract: 23, then 24, then what the assignment comes to.
 -- Assumes nothing.
-use mathlib.Core.Path.{_∙_}
 use Rattle.readers.specs.Messages.{updateOf}
 use Rattle.session_update.proofs.UpdateLaws.{told, other-link, other-consumer, addressed}
 use borrow.Author.Needs.{needs}
@@ -50,9 +49,9 @@ returns-3 c =
     let h = t .before .before .before .before .before .before in
     let k = h .before in
     let s = start k in
-    t .taken .ensures
-    ∙ addressed (s .args .r) (s .args .store .now) (s .args .out .now) (s .args .incarnation) (updateOf (s .args .message .now))
+    addressed (s .args .r) (s .args .store .now) (s .args .out .now) (s .args .incarnation) (updateOf (s .args .message .now))
     (k .if1 .left) (h .read-update .result .«consumer_id») (h .read-update .ensures .id) (t .before .before .before .if2 .left)
+    (t .taken .ensures)
 
 pub valid-spec : {M : Type 1} → statement M
 valid-spec =

@@ -1,0 +1,19 @@
+-- `front_of` stays in bounds: a front of n elements has n, where there are as many.
+-- Assumes nothing.
+use mathlib.Core.Path.{sym}
+use lib.Seq.{length-take-le}
+use borrow.Author.Needs.{needs}
+use Rattle.assignment_vectors.proofs.output_vectors.front_of.Statement.{statement}
+use Rattle.assignment_vectors.proofs.output_vectors.front_of.Tie as tie
+
+slice-aggregate-result : tie.Need-slice-aggregate-result
+slice-aggregate-result c = sym (length-take-le _ _ (c .before .if1 .taken))
+
+returns : tie.Need-returns
+returns c = search needs
+
+returns-2 : tie.Need-returns-2
+returns-2 c = search needs
+
+pub front-of-spec : {M : Type 1} → statement M
+front-of-spec = tie.close (tie.spec slice-aggregate-result returns returns-2)
