@@ -1,0 +1,3 @@
+mod Lend
+mod Lent
+mod Types
