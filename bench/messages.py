@@ -2,6 +2,7 @@
 """Writes the benchmark messages: updates for consumer 7 under the parent topic://a/b/c at epoch 20,000.
 
 a: 4 segments without buckets. b: 145 segments without buckets. c: one segment with 506 buckets that rise. s: c with its buckets in falling order.
+a2: a with 2 other ids. b2: b with 72 other ids. c2: c with its upper 253 buckets one longer. Each comes at the same epoch, so that either is taken after the other.
 """
 import pathlib
 import sys
@@ -34,10 +35,14 @@ def update(segments):
 
 
 RISING = [(128 * i, 128 * i + 100) for i in range(506)]
+LONGER = [(128 * i, 128 * i + 100 + i // 253) for i in range(506)]
 MESSAGES = {
     "a": update(segment(i, 16384 * i, 16384 * i + 16383) for i in range(4)),
+    "a2": update(segment(i + i // 2 * 4, 16384 * i, 16384 * i + 16383) for i in range(4)),
     "b": update(segment(2 * i, 400 * i, 400 * i + 399) for i in range(145)),
+    "b2": update(segment(2 * i + i % 2, 400 * i, 400 * i + 399) for i in range(145)),
     "c": update([segment(0, 0, 65535, RISING)]),
+    "c2": update([segment(0, 0, 65535, LONGER)]),
     "s": update([segment(0, 0, 65535, RISING[::-1])]),
 }
 

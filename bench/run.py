@@ -2,8 +2,8 @@
 """Measures the port beside the Rust and prints the tables of docs/BENCHMARKS.md; with --write they replace those in the file.
 
 Instructions are counted by callgrind: a run of TIMES turns less a run of none, by TIMES. It needs rt, gcc and valgrind. The Rust's side is measured where
-CUDDREWYN_RUST names the folder of the Rust's sources and cargo finds Debian's crates (librust-prost-dev, librust-prost-derive-dev, librust-bytes-dev);
-else its column says so.
+CUDDREWYN_RUST names the folder of the Rust's sources and cargo finds Debian's crates (librust-prost-dev, librust-prost-derive-dev, librust-bytes-dev,
+librust-thiserror-dev); else its column says so.
 """
 import os
 import pathlib
@@ -16,64 +16,107 @@ HERE = pathlib.Path(__file__).resolve().parent
 ROOT = HERE.parent
 DOCUMENT = ROOT / "docs" / "BENCHMARKS.md"
 TIMES = 20
-CASES = {
+FULL = 1024
+MESSAGES = {
     "a": "4 segments without buckets",
     "b": "145 segments without buckets",
     "c": "one segment, 506 buckets that rise",
     "s": "the same, buckets falling",
 }
+# What it is; the two messages that come in turn; whether the session is registered; how many pushes its queue holds; how many segments each update loses and gains.
+UPDATES = [
+    ("a: 4 segments without buckets", "a", "a2", 1, 0, "2 2"),
+    ("n: a's first message again, no change", "a", "a", 1, 0, "0 0"),
+    ("b: 145 segments without buckets", "b", "b2", 1, 0, "72 72"),
+    ("c: one segment, 506 buckets that rise", "c", "c2", 1, 0, "1 1"),
+    ("d: a's first message, queued before the response", "a", "a", 0, 0, "0 0"),
+    ("a, 1,024 pushes in the queue", "a", "a2", 1, FULL, "2 2"),
+    ("n, 1,024 pushes in the queue", "a", "a", 1, FULL, "0 0"),
+]
 
 
 def run(*words, **more):
-    return subprocess.run(words, check=True, capture_output=True, text=True, **more)
+    return subprocess.run([str(word) for word in words], check=True, capture_output=True, text=True, **more)
 
 
-def instructions(program, message):
-    """The instructions of one turn of the program over the message."""
+def instructions(told, *words):
+    """The instructions of one turn of the program that the words call, as text; what its turns print must be as told. None, where there is no program."""
+    if words[0] is None:
+        return "not measured"
     counts = []
     for times in (0, TIMES):
-        told = run("valgrind", "--tool=callgrind", "--callgrind-out-file=/dev/null", program, message, str(times))
-        assert told.stdout.strip() == "0", f"{program} refused {message}"
-        counts.append(int(re.search(r"Collected : (\d+)", told.stderr)[1]))
-    return (counts[1] - counts[0]) // TIMES
+        done = run("valgrind", "--tool=callgrind", "--callgrind-out-file=/dev/null", *words, times)
+        assert times == 0 or done.stdout.strip() == told, f"{words} printed {done.stdout}"
+        counts.append(int(re.search(r"Collected : (\d+)", done.stderr)[1]))
+    return f"{(counts[1] - counts[0]) // TIMES:,}"
 
 
-def port(folder):
-    run("rt", "staticlib", "speed", cwd=ROOT)
-    program = folder / "scan"
-    run("gcc", "-O2", str(HERE / "scan.c"), str(ROOT / "target/staticlib/libspeed.a"), "-o", str(program))
+def port(folder, name):
+    """The program of bench/NAME.c over the proved archive."""
+    program = folder / name
+    run("gcc", "-O2", HERE / f"{name}.c", ROOT / "target/staticlib/libspeed.a", "-o", program)
     return program
 
 
-def rust(folder):
-    """The program that decodes with prost, or None where the Rust's folder is not named."""
+def rust(folder, crate, name):
+    """The program of the Rust's side, or None where the Rust's folder is not named."""
     if not os.environ.get("CUDDREWYN_RUST"):
         return None
     try:
-        run("cargo", "build", "--release", "--offline", "--target-dir", str(folder / "prost"), cwd=HERE / "prost")
+        run("cargo", "build", "--release", "--offline", "--target-dir", folder / crate, cwd=HERE / crate)
     except (OSError, subprocess.CalledProcessError) as error:
-        sys.exit(f"bench: prost-decode was not built: {getattr(error, 'stderr', error)}")
-    return folder / "prost" / "release" / "prost-decode"
+        sys.exit(f"bench: {name} was not built: {getattr(error, 'stderr', error)}")
+    return folder / crate / "release" / name
 
 
-def table(folder):
-    run(sys.executable, str(HERE / "messages.py"), str(folder))
-    ours, theirs = port(folder), rust(folder)
-    lines = ["| case | bytes | prost decode | `first_fault` |", "|---|---|---|---|"]
-    for name, what in CASES.items():
-        message = str(folder / f"{name}.bin")
-        other = f"{instructions(theirs, message):,}" if theirs else "not measured"
-        lines.append(f"| {name}: {what} | {os.path.getsize(message):,} | {other} | {instructions(ours, message):,} |")
-    return "\n".join(lines)
+def rows(heads, lines):
+    head, *rest = ("| " + " | ".join(line) + " |" for line in [heads, *lines])
+    return "\n".join([head, "|" + "---|" * len(heads), *rest])
+
+
+def scan_table(folder, _):
+    theirs, ours = rust(folder, "prost", "prost-decode"), port(folder, "scan")
+    lines = []
+    for name, what in MESSAGES.items():
+        file = folder / f"{name}.bin"
+        lines.append([f"{name}: {what}", f"{os.path.getsize(file):,}", instructions("0", theirs, file), instructions("0", ours, file)])
+    return rows(["case", "bytes", "prost decode", "`first_fault`"], lines)
+
+
+def intake_table(folder, session):
+    ours = port(folder, "take_in")
+    lines = []
+    for name, what in MESSAGES.items():
+        file = folder / f"{name}.bin"
+        lines.append([f"{name}: {what}", instructions("0", session, "intake", file), instructions("0", ours, file)])
+    return rows(["case", "`ConsumerAssignment::try_from_pb`", "`take_in`"], lines)
+
+
+def update_table(folder, session):
+    ours = port(folder, "update")
+    lines = []
+    for what, first, second, registered, queued, changed in UPDATES:
+        words = [folder / f"{first}.bin", folder / f"{second}.bin", registered, queued]
+        theirs = instructions(f"0 {changed}", session, "update", *words)
+        lines.append([what, changed.replace(" ", ", "), theirs, instructions(f"0 {changed}", ours, *words)])
+    return rows(["case", "lost, gained", "prost decode and `handle_assignment_update_for`", "`updated`"], lines)
+
+
+TABLES = {"scan": scan_table, "intake": intake_table, "update": update_table}
 
 
 def main():
-    with tempfile.TemporaryDirectory() as folder:
-        made = table(pathlib.Path(folder))
-    print(made)
+    with tempfile.TemporaryDirectory() as name:
+        folder = pathlib.Path(name)
+        run(sys.executable, HERE / "messages.py", folder)
+        run("rt", "staticlib", "speed", cwd=ROOT)
+        session = rust(folder, "rust", "rust-session")
+        made = {mark: table(folder, session) for mark, table in TABLES.items()}
+    print("\n\n".join(made.values()))
     if "--write" in sys.argv:
         text = DOCUMENT.read_text(encoding="utf-8")
-        text = re.sub(r"(<!-- scan -->\n).*?(<!-- end -->)", lambda match: match[1] + made + "\n" + match[2], text, flags=re.S)
+        for mark, table in made.items():
+            text = re.sub(rf"(<!-- {mark} -->\n).*?(<!-- end -->)", lambda match: match[1] + table + "\n" + match[2], text, flags=re.S)
         DOCUMENT.write_text(text, encoding="utf-8")
 
 

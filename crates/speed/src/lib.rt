@@ -2,6 +2,10 @@
 use intake::Intake;
 use messages::Checked;
 use messages::MessageKind;
+use session::Answer;
+use session::Floor;
+use session::SessionRecord;
+use types::ControllerIncarnation;
 
 // 0 where the update is valid, 1 where it is refused.
 #[no_mangle]
@@ -20,5 +24,34 @@ pub extern "C" fn speed_take_in(message: &[u8], parent: &[u8]) -> usize {
     match intake::take_in(message, 2, parent, head.layout_epoch, &mut b) {
         Intake::Taken(size) => size,
         Intake::Refused(_) => 0,
+    }
+}
+
+// An update of consumer 7 over link 1, whose queue holds so many pushes, all drained: 0 where it is taken, the refusal's number where it is not.
+#[no_mangle]
+pub extern "C" fn speed_update(
+    store: &mut [u8],
+    message: &[u8],
+    out: &mut [u8],
+    registered: bool,
+    count: usize,
+) -> u8 {
+    let r = SessionRecord {
+        consumer_id: 7,
+        incarnation: ControllerIncarnation(1),
+        registered,
+        invalidated: false,
+        epoch_floor: Floor::Unset,
+        queue_count: count,
+        drain_position: count,
+    };
+    let changed = session_update::updated(r, store, message, ControllerIncarnation(1), out);
+    let answer = changed.answer;
+    match answer {
+        Answer::Refused(x) => refusal::number(x),
+        Answer::Accepted => 0,
+        Answer::Unchanged => 0,
+        Answer::Delta(_) => 0,
+        Answer::Replay(_, _) => 0,
     }
 }
