@@ -1,14 +1,14 @@
 -- `begin_owned` meets its contract: a walk of its MIR by hand. A local that holds the record is lent to `begin` for a lifetime that is made for
 -- the call (proofs/Lend). Of `begin` only its contract is used.
 -- Assumes nothing.
-use Rattle.ranges.proofs.Words.{_≡_, refl, ℕ, some, [], _∷_, URA, fullShare, named, Val, SProp, ent, emp, id⊢, ftrue, flft, Model, Heap, Env}
+use Rattle.ranges.proofs.Words.{_≡_, refl, ℕ, some, List, [], _∷_, URA, fullShare, named, Val, SProp, ent, emp, id⊢, ftrue, flft, Model, Heap, Env}
 use Rattle.ranges.proofs.Words.{Tables, fmOf, factI, Running, GhostRules, givenOf, tablesOf, Given, Sq, runs, params′, atRet, ‵, raw, _⊛_, ⋆, _$_}
-use Rattle.ranges.proofs.Words.{_∵_, !, qed, by, move, drop, use1, use2, split, join, fsplit, fjoin, frame, done, look, addr, returns, of-opd}
+use Rattle.ranges.proofs.Words.{_∵_, !, qed, by, move, drop, use1, split, join, fsplit, fjoin, frame, done, look, addr, returns, of-opd}
 use Rattle.ranges.proofs.Words.{and-then, no-more, stop, from, params1, pass1, pass0, init, RefT, heard, nothing, Contract, Triple, Clauses}
 use mir.Val.{vptr}
 use base.Fml.{GName}
 use contract.Monad.{fact}
-use types.Kit.{Item}
+use types.Kit.{Item, use2}
 use types.Part.{agg}
 use denote.Ref.{MutRef}
 use Rattle.types.specs.declared.ControllerIncarnation.{ControllerIncarnation}
@@ -80,7 +80,7 @@ module _ {M : Type 1} (𝓤 : URA M) (H : Heap 𝓤) (𝓜 : Model 𝓤 H) (𝓖
   walk =
       params1 ! $ pass1 ! (init ! 2 refl (fits session W r r-is)) $ pass1 ! (init ! 4 refl (fits link W i i-is)) $ pass0 ! $
       sets ! 0 (of-opd ! (mine ! 0 refl)) refl (fits session W r r-is) $ sets ! 0 (addr ! (from ! (stop !))) refl (tt, tt) $
-      lifts ! 6 refl $ lends ! tt session (named 0) r-is (λ ν γ. use2 W (raw (G .pre (to ν γ))) (asked ν γ) $
+      lifts ! 6 refl $ lends ! tt session (named 0) r r-is (λ ν γ. use2 W (raw (G .pre (to ν γ))) (asked ν γ) $
       -- [what the callee asks; what the lender keeps; the locals, but the one that is lent]
       asks g.ended c-g (to ν γ) ! (fmOf 𝓤 H (W .laws) 𝓣) known answer (and-then ! (mine ! 2 refl) (and-then ! (mine ! 2 refl) (no-more !)))
       (λ a ws a-is. move ! (2 ∷ []) $ use1 W (raw (fact 𝓤 (record { next = ws .0; answer = a } ≡ beginOf r i))) (id⊢ 𝓤 _) $ heard ! _ (λ e.

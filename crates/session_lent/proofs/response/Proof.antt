@@ -39,21 +39,21 @@ module _ {M : Type 1} (𝓤 : URA M) (H : Heap 𝓤) (𝓜 : Model 𝓤 H) (𝓖
   abbrev c : Clauses 𝓤 f.ended
   c = f.clauses 𝓤 H (𝓖 .A) (𝓜 .mem) (𝓡 .run)
 
-  walk : Walked 𝓤 H 𝓜 𝓖 𝓡 code.env f-key.name code.function ss c spelt
+  walk : Walked 𝓤 H 𝓜 𝓖 𝓡 code.env ss c f-key.name code.function spelt
   walk κs qs r rest _ are m =
       params1 ! $ pass1 ! (init ! 7 refl (tt, tt)) $ pass1 ! (init ! 9 refl (slice-fits (are .0 .0 .1))) $
       pass1 ! (init ! 11 refl (slice-fits (are .1 .0 .0 .1))) $
       pass1 ! (init ! 13 refl (fits link W (rest .1 .1 .0) (are .1 .1 .0))) $ pass0 ! $
       copies-record ! (κs .0) (qs .0) r refl refl refl refl (λ is.
       borrows-on ! 6 refl refl refl (tt, tt) refl refl refl (slice-fits (are .0 .0 .1)) $
-      hands-on 𝓤 H 𝓜 𝓖 𝓡 code.env ss ss′ c (g.clauses 𝓤 H (𝓖 .A) (𝓜 .mem) (𝓡 .run)) κs qs r rest (spelt κs) tt rest _ tt !
-      g-def.name g-def.routine code.calls-session-response·responded (g-thm.met 𝓤 H 𝓜 𝓖 𝓡) (id⊢ 𝓤 _, (λ u ws. (ws, id⊢ 𝓤 _, id⊢ 𝓤 _))) is
-      (drop 2 steps.locals) m 3 (some _ ∷ some _ ∷ some _ ∷ none ∷ some _ ∷ some _ ∷ some _ ∷ [])
+      hands-on 𝓤 H 𝓜 𝓖 𝓡 code.env ss c κs qs r rest (spelt κs) tt (drop 2 steps.locals) m ss′ (g.clauses 𝓤 H (𝓖 .A) (𝓜 .mem) (𝓡 .run))
+      rest _ tt ! g-def.name g-def.routine code.calls-session-response·responded (g-thm.met 𝓤 H 𝓜 𝓖 𝓡) (id⊢ 𝓤 _, (λ u ws. (ws, id⊢ 𝓤 _, id⊢ 𝓤 _))) is
+      3 (some _ ∷ some _ ∷ some _ ∷ none ∷ some _ ∷ some _ ∷ some _ ∷ [])
       (and-then ! (mine ! 5 refl) (and-then ! (mine ! 5 refl) (and-then ! (mine ! 5 refl) (and-then ! (mine ! 5 refl) (no-more !)))))
       (refl, refl, (λ v. refl), (λ v. refl)))
 
 pub response-spec : {M : Type 1} → stated.statement M
 unfolding code.routine tablesOf
 response-spec 𝓤 H 𝓜 𝓖 𝓡 =
-    lent-proved 𝓤 H 𝓜 𝓖 𝓡 code.env f-key.name code.function ss (c 𝓤 H 𝓜 𝓖 𝓡) (code.unfolded 𝓤 H 𝓜 𝓡) spelt
+    lent-proved 𝓤 H 𝓜 𝓖 𝓡 code.env ss (c 𝓤 H 𝓜 𝓖 𝓡) f-key.name code.function (code.unfolded 𝓤 H 𝓜 𝓡) spelt
     (λ κs. (mut-slice-tells (named 1) (κs .1 .0) u8, (shr-slice-tells (named 2) (κs .1 .1 .0) u8, (link .lowers .val-is, tt)))) (walk 𝓤 H 𝓜 𝓖 𝓡)

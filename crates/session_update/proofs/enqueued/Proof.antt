@@ -64,11 +64,11 @@ write-slot-requires : tie.Need-write-slot-requires
 write-slot-requires c κs =
     let w = c .before .before in
     let d = w .before .before in
-    let s = d .before .before .before .before .before .before in (
-      depth-inside (length (s .args .store .now)) (s .args .r .«queue_count»)
-          (omega (arith, s .pre .0 .1, d .depth .ensures, w .if2 .left)),
-      s .pre .1,
-    )
+    let s = d .before .before .before .before .before .before in
+    let room =
+    depth-inside (length (s .args .store .now)) (s .args .r .«queue_count»)
+    (omega (arith, s .pre .0 .1, d .depth .ensures, w .if2 .left)) in
+    (omega (arith, room), s .pre .1)
 
 add-with-queue-count : tie.Need-add-with-queue-count
 add-with-queue-count c = search needs
