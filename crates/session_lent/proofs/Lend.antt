@@ -15,8 +15,8 @@ use base.Fml.{Lft, GName, Share, fat, flft, fobs, fauth, fbor, fobor, flent, fre
 use prog.Wp.{Heap, Env, Calls, Loops}
 use ghost.Atoms.{Atoms}
 use sound.WpLaws.{FmC}
-use types.Kit.{Given, Item, Goal, Soaks, Post, Seq, Step, step, runs, lands, ‵, raw, _⊛_, later, some, _$_, move, split, pick, rewrite, use1, use3}
-use types.Kit.{fjoin, fpack, fpick, fsplit, await}
+use types.Kit.{Given, Item, Goal, Soaks, Post, Seq, Step, step, runs, lands, ‵, raw, _⊛_, later, some, _$_, move, split, pick, rewrite}
+use types.Kit.{use1, use3, fjoin, fpack, fpick, fsplit, await}
 use types.Run.{Opds}
 use types.SemTy.{Body}
 use types.Tokens.{lft-new, lft-end}
@@ -71,7 +71,8 @@ module _ {M : Type 1} {𝓤 : URA M} {H : Heap 𝓤} {A : Atoms 𝓤} {K : Type 
   -- a local that holds h is lent for a lifetime ν that is made for the call: [ν's token; the reference; what the lender keeps]
   pub lends : K → Soaks G → (F : Flat R) (ℓ : Lifetime) (h : R .Denot) {l : ℕ} → IsLow F h
       → ((ν : ℕ) (γ : GName) → Seq K W (‵ (flft (ν ∷ []) fullShare)
-      ∷ ‵ (MutRef ℓ (ν ∷ []) R .own (record { ptr = (l, 0); name = γ; now = h }) (vptr l 0 ∷ [])) ∷ ‵ (flent (ν ∷ []) (Body (mem R) l 0 γ)) ∷ Γ) G)
+      ∷ ‵ (MutRef ℓ (ν ∷ []) R .own (record { ptr = (l, 0); name = γ; now = h }) (vptr l 0 ∷ []))
+      ∷ ‵ (flent (ν ∷ []) (Body (mem R) l 0 γ)) ∷ Γ) G)
       → Seq K W (‵ (fat fullShare (ty F) l 0 (low F h)) ∷ Γ) G
   unfolding partOf
   lends t z F ℓ h {l} is k =
@@ -97,8 +98,9 @@ module _ {M : Type 1} {𝓤 : URA M} {H : Heap 𝓤} {A : Atoms 𝓤} {K : Type 
   -- what the callee asks is at the head. Afterwards there are its tokens, what says the last values, and what the contract says
   pub asks : K → FmC 𝓤 H (W .laws) C → Triple 𝓤 (C f) (Meant 𝓤 H A T c) → (F : Flat (Result 𝓤 H A T c y))
       → Opds K W (raw (Meant 𝓤 H A T c .pre y) ∷ Γ) E xs (Meant 𝓤 H A T c .args y)
-      → ((r : Result 𝓤 H A T c y .Denot) (ws : Lasts T (y .0 .0) (y .0 .3)) → IsLow F r → Seq K W (raw (Tokens 𝓤 H A T c y) ∷ ‵ (lasts T (y .0 .0) (y .0 .3) ws)
-      ∷ raw (Says 𝓤 H A T c y r ws) ∷ Γ) (lands C Λ E d (low F r) rest q))
+      → ((r : Result 𝓤 H A T c y .Denot) (ws : Lasts T (y .0 .0) (y .0 .3)) → IsLow F r
+      → Seq K W (raw (Tokens 𝓤 H A T c y) ∷ ‵ (lasts T (y .0 .0) (y .0 .3) ws) ∷ raw (Says 𝓤 H A T c y r ws) ∷ Γ)
+      (lands C Λ E d (low F r) rest q))
       → Seq K W (raw (Meant 𝓤 H A T c .pre y) ∷ Γ) (runs C Λ E (seq (call f xs d) rest) q)
   asks t fm met F os k = calls-at t fm (Meant 𝓤 H A T c) met y os (λ v.
       use1 W (later (some (λ (r : Row .Denot). (raw (Tokens 𝓤 H A T c y) ⊛ ‵ (Row .own r (v ∷ []))) ⊛ raw (End r)))) (id⊢ 𝓤 _) $

@@ -23,7 +23,8 @@ use Rattle.session.proofs.Answer.Laws as A′
 use Rattle.session.proofs.Changed as C
 use Rattle.session.proofs.Changed.Laws as C′
 
-abbrev flat-enum : (T : Enum.Declared) (L : EL.Laws T) → Few (Enum.shape T) → Lowered (Enum.row T) → Plainss (Enum.variants T) → Flat (Enum.row T)
+abbrev flat-enum : (T : Enum.Declared) (L : EL.Laws T) → Few (Enum.shape T) → Lowered (Enum.row T) → Plainss (Enum.variants T)
+    → Flat (Enum.row T)
 flat-enum T L few lw pl = record { lowers = lw; lawful = λ 𝓤 H A W. EL.lawful T L 𝓤 H A W few; makes = λ 𝓤 H A W. EL.makes T pl 𝓤 H A }
 
 abbrev pub session : Flat R.the-row

@@ -1,5 +1,5 @@
-// The calls that change a session, with the session's record lent to them: each hands the record to the call that takes it by value, and puts
-// what comes back in its place.
+// The calls that change a session, with the session's record lent to them: each hands the record to the call that takes it by value, puts back
+// the record that comes of it, and says what that call says.
 ghost use mathlib.Core.Path.{_≡_};
 ghost use mathlib.Core.List.{List};
 ghost use Prim.Native.Nat.{ℕ};
@@ -14,18 +14,18 @@ use types::ControllerIncarnation;
 pub fn begin(r: &mut SessionRecord, incarnation: ControllerIncarnation) -> Answer
     ensures { λ x. ⌜ record { next = now (r .exit); answer = x } ≡ beginOf (now (r .entry)) incarnation ⌝ }
 {
-    let changed = session_link::begun(*r, incarnation);
-    *r = changed.next;
-    changed.answer
+    let begun = session_link::begun(*r, incarnation);
+    *r = begun.next;
+    begun.answer
 }
 
 // The controller is not to be trusted any more: `invalidate_authority`.
 pub fn invalidate(r: &mut SessionRecord) -> Answer
     ensures { λ x. ⌜ record { next = now (r .exit); answer = x } ≡ invalidateOf (now (r .entry)) ⌝ }
 {
-    let changed = session_link::invalidated(*r);
-    *r = changed.next;
-    changed.answer
+    let invalidated = session_link::invalidated(*r);
+    *r = invalidated.next;
+    invalidated.answer
 }
 
 // The answer to a registration: `handle_subscribe_response_for`.
@@ -38,9 +38,9 @@ pub fn response(
     ensures { λ x. ⌜ ((out : List ℕ) → outcome x (now (r .exit)) (now (store .exit)) out
         ≡ responseOutcome (now (r .entry)) (now (store .entry)) (now (message .entry)) incarnation out) ⌝ }
 {
-    let changed = session_response::responded(*r, store, message, incarnation);
-    *r = changed.next;
-    changed.answer
+    let responded = session_response::responded(*r, store, message, incarnation);
+    *r = responded.next;
+    responded.answer
 }
 
 // A push of the controller: `handle_assignment_update_for`.
@@ -54,9 +54,9 @@ pub fn update(
     ensures { λ x. ⌜ outcome x (now (r .exit)) (now (store .exit)) (now (out .exit))
         ≡ updateOutcome (now (r .entry)) (now (store .entry)) (now (message .entry)) incarnation (now (out .entry)) ⌝ }
 {
-    let changed = session_update::updated(*r, store, message, incarnation, out);
-    *r = changed.next;
-    changed.answer
+    let updated = session_update::updated(*r, store, message, incarnation, out);
+    *r = updated.next;
+    updated.answer
 }
 
 // The next push of the queue that differs from its predecessor: `take_replayed_updates`.
@@ -64,9 +64,9 @@ pub fn drain(r: &mut SessionRecord, store: &[u8], out: &mut [u8]) -> Answer
     ensures { λ x. ⌜ outcome x (now (r .exit)) (now (store .entry)) (now (out .exit))
         ≡ drainOutcome (now (r .entry)) (now (store .entry)) (now (out .entry)) ⌝ }
 {
-    let changed = session_drain::drained(*r, store, out);
-    *r = changed.next;
-    changed.answer
+    let drained = session_drain::drained(*r, store, out);
+    *r = drained.next;
+    drained.answer
 }
 
 // A caller with a record of its own, which it lends.

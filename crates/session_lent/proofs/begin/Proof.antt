@@ -42,10 +42,9 @@ module _ {M : Type 1} (𝓤 : URA M) (H : Heap 𝓤) (𝓜 : Model 𝓤 H) (𝓖
       params1 ! $ pass1 ! (init ! 7 refl (tt, tt)) $ pass1 ! (init ! 9 refl (fits link W (rest .0) (are .0))) $ pass0 ! $
       copies-record ! (κs .0) (qs .0) r refl refl refl refl (λ is.
       hands-on 𝓤 H 𝓜 𝓖 𝓡 code.env ss c κs qs r rest (spelt κs) tt (drop 2 steps.locals) m ss′ (g.clauses 𝓤 H (𝓖 .A) (𝓜 .mem) (𝓡 .run))
-      rest _ tt ! g-def.name g-def.routine code.calls-session-link·begun (g-thm.met 𝓤 H 𝓜 𝓖 𝓡) (id⊢ 𝓤 _, (λ u ws. (ws, id⊢ 𝓤 _, id⊢ 𝓤 _))) is
-      1 (some _ ∷ none ∷ some _ ∷ [])
-      (and-then ! (mine ! 5 refl) (and-then ! (mine ! 5 refl) (no-more !)))
-      (refl, refl, (λ v. refl), (λ v. refl)))
+      rest _ tt ! g-def.name g-def.routine code.calls-session-link·begun (g-thm.met 𝓤 H 𝓜 𝓖 𝓡)
+      (id⊢ 𝓤 _, (λ u ws. (ws, id⊢ 𝓤 _, id⊢ 𝓤 _))) is 1 (some _ ∷ none ∷ some _ ∷ [])
+      (and-then ! (mine ! 5 refl) (and-then ! (mine ! 5 refl) (no-more !))) (refl, refl, (λ v. refl), (λ v. refl)))
 
 pub begin-spec : {M : Type 1} → stated.statement M
 unfolding code.routine tablesOf

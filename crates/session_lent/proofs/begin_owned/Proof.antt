@@ -1,10 +1,11 @@
--- `begin_owned` meets its contract: a walk of its MIR by hand. A local that holds the record is lent to `begin` for a lifetime that is made for
--- the call (proofs/Lend). Of `begin` only its contract is used.
+-- `begin_owned` meets its contract: a walk of its MIR by hand. A local that holds the record is lent to `begin` for a lifetime that is made
+-- for the call (proofs/Lend). Of `begin` only its contract is used.
 -- Assumes nothing.
-use Rattle.ranges.proofs.Words.{_≡_, refl, ℕ, some, List, [], _∷_, URA, fullShare, named, Val, SProp, ent, emp, id⊢, ftrue, flft, Model, Heap, Env}
-use Rattle.ranges.proofs.Words.{Tables, fmOf, factI, Running, GhostRules, givenOf, tablesOf, Given, Sq, runs, params′, atRet, ‵, raw, _⊛_, ⋆, _$_}
-use Rattle.ranges.proofs.Words.{_∵_, !, qed, by, move, drop, use1, split, join, fsplit, fjoin, frame, done, look, addr, returns, of-opd}
-use Rattle.ranges.proofs.Words.{and-then, no-more, stop, from, params1, pass1, pass0, init, RefT, heard, nothing, Contract, Triple, Clauses}
+use Rattle.ranges.proofs.Words.{_≡_, refl, ℕ, some, List, [], _∷_, URA, fullShare, named, Val, SProp, ent, emp, id⊢, ftrue, flft, Model}
+use Rattle.ranges.proofs.Words.{Heap, Env, Tables, fmOf, factI, Running, GhostRules, givenOf, tablesOf, Given, Sq, runs, params′, atRet}
+use Rattle.ranges.proofs.Words.{‵, raw, _⊛_, ⋆, _$_, _∵_, !, qed, by, move, drop, use1, split, join, fsplit, fjoin, frame, done, look}
+use Rattle.ranges.proofs.Words.{addr, returns, of-opd, and-then, no-more, stop, from, params1, pass1, pass0, init, RefT, heard, nothing}
+use Rattle.ranges.proofs.Words.{Contract, Triple, Clauses}
 use mir.Val.{vptr}
 use base.Fml.{GName}
 use contract.Monad.{fact}
@@ -16,7 +17,8 @@ use Rattle.session.specs.declared.SessionRecord.{SessionRecord}
 use Rattle.session.specs.declared.Changed.{Changed}
 use Rattle.session.specs.Link.{beginOf}
 use Rattle.session.proofs.SessionRecord as R
-use Rattle.ranges.proofs.Walk.{low, IsLow, fits, held, envOf, closes, lifts, lays, mine, sets, lands-in, Meant, has, Ends, leaves, table, knows, proved}
+use Rattle.ranges.proofs.Walk.{low, IsLow, fits, held, envOf, closes, lifts, lays, mine, sets, lands-in, Meant, has}
+use Rattle.ranges.proofs.Walk.{Ends, leaves, table, knows, proved}
 use Rattle.session_lent.proofs.Types.{session, link, answer, changed, changed-is}
 use Rattle.session_lent.proofs.Lend.{lends, back, asks}
 use Rattle.session_lent.proofs.begin as g
@@ -72,8 +74,8 @@ module _ {M : Type 1} (𝓤 : URA M) (H : Heap 𝓤) (𝓜 : Model 𝓤 H) (𝓖
 
   asked : (ν : ℕ) (γ : GName) → ent 𝓤 (⋆ 𝓤 H (𝓖 .A) (asking ν γ)) (G .pre (to ν γ))
   asked ν γ =
-      qed W (asking ν γ) ∵ nothing ! $ has ! link i i-is $ fjoin ! $ move ! (2 ∷ 0 ∷ []) $ fjoin ! $ nothing ! $ move ! (2 ∷ 0 ∷ []) $ join ! $
-      move ! (0 ∷ 1 ∷ []) $ join ! $ nothing ! $ move ! (1 ∷ 0 ∷ []) $ frame ! $ done !
+      qed W (asking ν γ) ∵ nothing ! $ has ! link i i-is $ fjoin ! $ move ! (2 ∷ 0 ∷ []) $ fjoin ! $ nothing ! $ move ! (2 ∷ 0 ∷ []) $
+      join ! $ move ! (0 ∷ 1 ∷ []) $ join ! $ nothing ! $ move ! (1 ∷ 0 ∷ []) $ frame ! $ done !
 
   walk : Sq W (held 𝓤 steps.locals m [])
       (params′ E (low session r ∷ low link i ∷ []) (runs (𝓣 .C) (𝓣 .Λ) E (code.function .body) (atRet E Post)))

@@ -41,8 +41,8 @@ module _ {M : Type 1} (𝓤 : URA M) (H : Heap 𝓤) (𝓜 : Model 𝓤 H) (𝓖
       copies-record ! (κs .0) (qs .0) r refl refl refl refl (λ is.
       borrows-on ! 6 refl refl refl (tt, tt) refl refl refl (slice-fits (are .1 .0 .0 .1)) $
       hands-on 𝓤 H 𝓜 𝓖 𝓡 code.env ss c κs qs r rest (spelt κs) tt (drop 2 steps.locals) m ss′ (g.clauses 𝓤 H (𝓖 .A) (𝓜 .mem) (𝓡 .run))
-      rest _ tt ! g-def.name g-def.routine code.calls-session-drain·drained (g-thm.met 𝓤 H 𝓜 𝓖 𝓡) (id⊢ 𝓤 _, (λ u ws. (ws, id⊢ 𝓤 _, id⊢ 𝓤 _))) is
-      2 (some _ ∷ some _ ∷ none ∷ some _ ∷ some _ ∷ some _ ∷ [])
+      rest _ tt ! g-def.name g-def.routine code.calls-session-drain·drained (g-thm.met 𝓤 H 𝓜 𝓖 𝓡)
+      (id⊢ 𝓤 _, (λ u ws. (ws, id⊢ 𝓤 _, id⊢ 𝓤 _))) is 2 (some _ ∷ some _ ∷ none ∷ some _ ∷ some _ ∷ some _ ∷ [])
       (and-then ! (mine ! 5 refl) (and-then ! (mine ! 5 refl) (and-then ! (mine ! 5 refl) (no-more !))))
       (refl, refl, (λ v. refl), (λ v. refl)))
 

@@ -37,10 +37,9 @@ module _ {M : Type 1} (𝓤 : URA M) (H : Heap 𝓤) (𝓜 : Model 𝓤 H) (𝓖
       params1 ! $ pass1 ! (init ! 7 refl (tt, tt)) $ pass0 ! $
       copies-record ! (κs .0) (qs .0) r refl refl refl refl (λ is.
       hands-on 𝓤 H 𝓜 𝓖 𝓡 code.env ss c κs qs r rest (spelt κs) tt (drop 2 steps.locals) m ss′ (g.clauses 𝓤 H (𝓖 .A) (𝓜 .mem) (𝓡 .run))
-      rest _ tt ! g-def.name g-def.routine code.calls-session-link·invalidated (g-thm.met 𝓤 H 𝓜 𝓖 𝓡) (id⊢ 𝓤 _, (λ u ws. (ws, id⊢ 𝓤 _, id⊢ 𝓤 _))) is
-      0 (none ∷ some _ ∷ [])
-      (and-then ! (mine ! 5 refl) (no-more !))
-      (refl, refl, (λ v. refl), (λ v. refl)))
+      rest _ tt ! g-def.name g-def.routine code.calls-session-link·invalidated (g-thm.met 𝓤 H 𝓜 𝓖 𝓡)
+      (id⊢ 𝓤 _, (λ u ws. (ws, id⊢ 𝓤 _, id⊢ 𝓤 _))) is 0 (none ∷ some _ ∷ [])
+      (and-then ! (mine ! 5 refl) (no-more !)) (refl, refl, (λ v. refl), (λ v. refl)))
 
 pub invalidate-spec : {M : Type 1} → stated.statement M
 unfolding code.routine tablesOf

@@ -49,13 +49,18 @@ module _ {M : Type 1} (𝓤 : URA M) (H : Heap 𝓤) (𝓜 : Model 𝓤 H) (𝓖
       borrows-on ! 6 refl refl refl (tt, tt) refl refl refl (slice-fits (are .0 .0 .1)) $
       borrows-on ! 6 refl refl refl (tt, tt) refl refl refl (slice-fits (are .1 .1 .1 .0 .0 .1)) $
       hands-on 𝓤 H 𝓜 𝓖 𝓡 code.env ss c κs qs r rest (spelt κs) tt (drop 2 steps.locals) m ss′ (g.clauses 𝓤 H (𝓖 .A) (𝓜 .mem) (𝓡 .run))
-      rest _ tt ! g-def.name g-def.routine code.calls-session-update·updated (g-thm.met 𝓤 H 𝓜 𝓖 𝓡) (id⊢ 𝓤 _, (λ u ws. (ws, id⊢ 𝓤 _, id⊢ 𝓤 _))) is
-      4 (some _ ∷ some _ ∷ some _ ∷ some _ ∷ none ∷ some _ ∷ some _ ∷ some _ ∷ some _ ∷ some _ ∷ [])
-      (and-then ! (mine ! 5 refl) (and-then ! (mine ! 5 refl) (and-then ! (mine ! 5 refl) (and-then ! (mine ! 5 refl) (and-then ! (mine ! 5 refl) (no-more !))))))
-      (refl, refl, (λ v. refl), (λ v. refl)))
+      rest _ tt ! g-def.name g-def.routine code.calls-session-update·updated (g-thm.met 𝓤 H 𝓜 𝓖 𝓡)
+      (id⊢ 𝓤 _, (λ u ws. (ws, id⊢ 𝓤 _, id⊢ 𝓤 _))) is 4
+      (some _ ∷ some _ ∷ some _ ∷ some _ ∷ none ∷ some _ ∷ some _ ∷ some _ ∷ some _ ∷ some _ ∷ [])
+      (and-then ! (mine ! 5 refl) (and-then ! (mine ! 5 refl) (and-then ! (mine ! 5 refl)
+      (and-then ! (mine ! 5 refl) (and-then ! (mine ! 5 refl) (no-more !)))))) (refl, refl, (λ v. refl), (λ v. refl)))
 
 pub update-spec : {M : Type 1} → stated.statement M
 unfolding code.routine tablesOf
 update-spec 𝓤 H 𝓜 𝓖 𝓡 =
     lent-proved 𝓤 H 𝓜 𝓖 𝓡 code.env ss (c 𝓤 H 𝓜 𝓖 𝓡) f-key.name code.function (code.unfolded 𝓤 H 𝓜 𝓡) spelt
-    (λ κs. (mut-slice-tells (named 1) (κs .1 .0) u8, (shr-slice-tells (named 2) (κs .1 .1 .0) u8, (link .lowers .val-is, (mut-slice-tells (named 3) (κs .1 .1 .1 .0) u8, tt))))) (walk 𝓤 H 𝓜 𝓖 𝓡)
+    (λ κs.
+    let store-tells = mut-slice-tells (named 1) (κs .1 .0) u8 in
+    let message-tells = shr-slice-tells (named 2) (κs .1 .1 .0) u8 in
+    let out-tells = mut-slice-tells (named 3) (κs .1 .1 .1 .0) u8 in
+    (store-tells, (message-tells, (link .lowers .val-is, (out-tells, tt))))) (walk 𝓤 H 𝓜 𝓖 𝓡)
