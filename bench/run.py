@@ -32,6 +32,8 @@ UPDATES = [
     ("d: a's first message, queued before the response", "a", "a", 0, 0, "0 0"),
     ("a, 1,024 pushes in the queue", "a", "a2", 1, FULL, "2 2"),
     ("n, 1,024 pushes in the queue", "a", "a", 1, FULL, "0 0"),
+    ("b, 1,024 pushes in the queue", "b", "b2", 1, FULL, "72 72"),
+    ("c, 1,024 pushes in the queue", "c", "c2", 1, FULL, "1 1"),
 ]
 
 

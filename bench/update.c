@@ -1,7 +1,7 @@
 // Runs the exported update as often as asked, by two messages in turn: update FIRST SECOND REGISTERED QUEUED TIMES.
 // Prints how many were refused, then how many segments the last delta loses and gains.
 //
-// The session is registered (1) with no segments, or not (0); QUEUED pushes of FIRST stand in its queue. An update by SECOND comes before those that are counted.
+// The session is registered (1) with no segments, or not (0); QUEUED pushes of FIRST stand in its queue: one is made, the others are copies of its slot. An update by SECOND comes before those that are counted.
 #include <stdbool.h>
 #include <stddef.h>
 #include <stdint.h>
@@ -42,7 +42,8 @@ int main(int count, char **words) {
     size_t queued = (size_t)atoi(words[4]);
     int times = atoi(words[5]), refused = 0;
     identify("topic://a/b/c");
-    for (size_t pushed = 0; pushed < queued; pushed++) refused += update(0, false, pushed);
+    if (queued) refused += update(0, false, 0);
+    for (size_t slot = 4; slot < 3 + queued; slot++) memcpy(store + SLOT * slot, store + SLOT * 3, SLOT);
     refused += update(1, registered, queued);
     memset(out, 0, sizeof out);
     for (int turn = 0; turn < times; turn++) refused += update(turn % 2, registered, queued);
