@@ -1,0 +1,5 @@
+pub mod Result
+pub mod Text
+pub mod Ranges
+pub mod ConsumerType
+pub mod SegmentTopic

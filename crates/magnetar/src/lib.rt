@@ -1,0 +1,1 @@
+// The Rust, transcribed: no code, definitions alone. See specs/.

@@ -1,0 +1,62 @@
+-- The name builder is the Rust's `KeyRange::new` and `canonical_segment_topic` (`build-agrees`).
+-- Assumes nothing.
+use Prim.Native.Nat.{ℕ}
+use mathlib.Core.Path.{_≡_, refl, sym, ap, subst}
+use mathlib.Core.Bool.{Bool, true, false, cond}
+use mathlib.Core.List.{List}
+use Rattle.types.specs.declared.KeyRange.{KeyRange}
+use Rattle.types.specs.declared.KeyRangeError.{KeyRangeError}
+use Rattle.types.specs.declared.SegmentId.{SegmentId}
+use Rattle.types.specs.declared.RangeResult.{RangeResult}
+use Rattle.types.specs.declared.RangeResult.the-variants.{Valid, Invalid}
+use Rattle.types.specs.KeyRanges.{newKeyRange}
+use Rattle.refusal.specs.declared.Refusal.the-variants as refusal
+use Rattle.topic.specs.Parents.{isParent, pathOf}
+use Rattle.topic.specs.Names.{segmentTopic}
+use Rattle.topic.specs.Build.{Outcome, refuse, written, buildName, canonicalSegmentTopic}
+use Rattle.magnetar.specs.Result.{Result, Ok, Err, _>>=_, map-err}
+use Rattle.magnetar.specs.Text.{Text}
+use Rattle.magnetar.specs.SegmentTopic.{SegmentTopicError, InvalidParent, InvalidRange, canonical-segment-topic}
+use Rattle.same_names.specs.Agree.{rangeOf, outcomeOf, fits, BuildAgrees}
+use Rattle.same_names.proofs.ParentAgrees.{segment-topic-agrees}
+use Rattle.same_names.proofs.RangeAgrees.{new-agrees}
+
+-- a call with the outcome x, whose result in the Rust is r
+abbrev pub Gives : List ℕ → Outcome → Result Text SegmentTopicError → Type 0
+Gives out x r = fits out r ≡ true → x ≡ outcomeOf out r
+
+pub gives-by : (out : List ℕ) (x : Outcome) {r s : Result Text SegmentTopicError} → r ≡ s → Gives out x s → Gives out x r
+gives-by out x e g = subst (Gives out x) (sym e) g
+
+-- a text that fits is written
+pub gives-text : (text out : List ℕ) → Gives out (written text out) (Ok text)
+unfolding written
+gives-text text out h = rw h
+
+-- the builder's call behind `KeyRange::new`
+abbrev behindRange : Text → SegmentId → Result KeyRange KeyRangeError → Result Text SegmentTopicError
+behindRange parent id r = map-err InvalidRange r >>= (λ range. canonical-segment-topic parent range id)
+
+module _ (parent : Text) (id : SegmentId) (out : List ℕ) where
+  abbrev name : KeyRange → Text
+  name range = segmentTopic (pathOf parent) range id
+
+  -- 12
+  parent-stage : (range : KeyRange) (u : Bool)
+      → Gives out (cond u (written (name range) out) (refuse refusal.InvalidParent out))
+      (cond u (Ok (name range)) (Err (InvalidParent parent)))
+  parent-stage range true = gives-text (name range) out
+  parent-stage range false = λ h. refl
+
+  -- 9
+  range-stage : (x : RangeResult) → Gives out (buildName parent x id out) (behindRange parent id (rangeOf x))
+  unfolding buildName
+  range-stage (Invalid error) = λ h. refl
+  range-stage (Valid range) =
+      gives-by out _ (segment-topic-agrees parent range id) (parent-stage range (isParent parent))
+
+pub build-agrees : BuildAgrees
+unfolding canonicalSegmentTopic
+build-agrees parent s e id out u =
+    let x : Outcome = buildName parent (newKeyRange s e) id out in
+    rw u (gives-by out x (ap (behindRange parent id) (new-agrees s e)) (range-stage parent id out (newKeyRange s e)))
