@@ -18,10 +18,10 @@ use Rattle.ranges.specs.Meaning.{both-true}
 use Rattle.utf8.specs.Table.{isUtf8}
 use Rattle.topic.specs.Parents.{isParent, pathOf}
 use Rattle.wire.specs.Fields.{Field, fieldsOf}
-use Rattle.messages.specs.declared.MessageKind.the-variants.{CommandScalableTopicAssignmentUpdate, CommandScalableTopicSubscribeResponse}
-use Rattle.messages.specs.declared.Checked.the-variants.{Valid}
-use Rattle.messages.specs.Schema.{ruleFor, complete}
-use Rattle.messages.specs.FirstFault.{checkFields, faultWithin, firstFault}
+use Rattle.schema.specs.declared.MessageKind.the-variants.{CommandScalableTopicAssignmentUpdate, CommandScalableTopicSubscribeResponse}
+use Rattle.schema.specs.declared.Checked.the-variants.{Valid}
+use Rattle.schema.specs.Schema.{ruleFor, complete}
+use Rattle.schema.specs.FirstFault.{checkFields, faultWithin, firstFault}
 use Rattle.readers.specs.declared.ErrorCode.the-variants as code
 use Rattle.readers.specs.Messages.{assignmentOf, WireUpdate, updateOf, WireResponse, responseOf}
 use Rattle.packed.specs.Assignment.{AssignedSegment, ConsumerAssignment, slotSize, sizeAssignment, okFrom, okAssignment}

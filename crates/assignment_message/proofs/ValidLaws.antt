@@ -10,12 +10,12 @@ use mathlib.Core.List.{List, [], _∷_, map}
 use lib.ListN.{length}
 use Rattle.types.specs.declared.KeyRange.{KeyRange}
 use Rattle.topic.specs.Parents.{pathOf}
-use Rattle.messages.specs.declared.MessageKind.{MessageKind}
-use Rattle.messages.specs.declared.MessageKind.the-variants.{ScalableConsumerAssignment, ScalableAssignedSegment, IntRange}
-use Rattle.messages.specs.declared.ValueKind.the-variants as value
-use Rattle.messages.specs.declared.Checked.the-variants.{Valid}
-use Rattle.messages.specs.Schema.{ruleFor, complete}
-use Rattle.messages.specs.FirstFault.{elem, checkFields, faultWithin}
+use Rattle.schema.specs.declared.MessageKind.{MessageKind}
+use Rattle.schema.specs.declared.MessageKind.the-variants.{ScalableConsumerAssignment, ScalableAssignedSegment, IntRange}
+use Rattle.schema.specs.declared.ValueKind.the-variants as value
+use Rattle.schema.specs.declared.Checked.the-variants.{Valid}
+use Rattle.schema.specs.Schema.{ruleFor, complete}
+use Rattle.schema.specs.FirstFault.{elem, checkFields, faultWithin}
 use Rattle.packed.specs.Assignment.{AssignedSegment, ConsumerAssignment}
 use Rattle.packed.proofs.RoundLaws.{FitRange, FitRanges}
 use Rattle.content.proofs.EachLaws.{Each, each-map}

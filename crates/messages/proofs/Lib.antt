@@ -1,5 +1,1 @@
-pub mod SchemaLaws
-pub mod FaultLaws
 pub mod ScanLaws
-pub mod PlainLaws
-pub mod Levels

@@ -2,7 +2,7 @@
 --
 -- In order: the marks of the fields seen (`Marks`); where the loop stands (`Scanned`), at its start (`scanned-start`); a field's key
 -- (`Headed`, `head-at`); the end (`end-at`); a repeat (`repeat-at`); what stands behind the key (`StepAt`, `step-at`).
--- Not here: the same of a part alone, without places and marks (proofs/FaultLaws).
+-- Not here: the same of a part alone, without places and marks (FaultLaws of the crate schema).
 -- Assumes nothing.
 use Prim.Native.Nat.{ℕ, zero, suc, _+_, _-_, _≤_, _<_}
 use native.Mathlib.Nat.{add-sub-cancel-left}
@@ -25,21 +25,21 @@ use Rattle.wire.specs.declared.Body.the-variants as body
 use Rattle.wire.specs.Field.{keyOf, bodyOf}
 use Rattle.wire.specs.Fields.{bytes}
 use Rattle.wire.proofs.FieldLaws.{key-size, body-size-after}
-use Rattle.messages.specs.declared.MessageKind.{MessageKind}
-use Rattle.messages.specs.declared.ValueKind.{ValueKind}
-use Rattle.messages.specs.declared.ValueKind.the-variants as value
-use Rattle.messages.specs.declared.FieldRule.{FieldRule}
-use Rattle.messages.specs.declared.Checked.{Checked}
-use Rattle.messages.specs.declared.Checked.the-variants.{Valid, Refused}
+use Rattle.schema.specs.declared.MessageKind.{MessageKind}
+use Rattle.schema.specs.declared.ValueKind.{ValueKind}
+use Rattle.schema.specs.declared.ValueKind.the-variants as value
+use Rattle.schema.specs.declared.FieldRule.{FieldRule}
+use Rattle.schema.specs.declared.Checked.{Checked}
+use Rattle.schema.specs.declared.Checked.the-variants.{Valid, Refused}
 use Rattle.messages.specs.declared.Head.{Head}
 use Rattle.messages.specs.declared.Head.the-variants as head
 use Rattle.messages.specs.declared.Step.{Step}
 use Rattle.messages.specs.declared.Step.the-variants as step
-use Rattle.messages.specs.Schema.{ruleFor, fitsWire, complete}
-use Rattle.messages.specs.FirstFault.{elem, note, first, checkValue, faultWithin}
-use Rattle.messages.specs.Steps.{marked, headOf, partStep, stepOf}
-use Rattle.messages.proofs.SchemaLaws.{rule-slot, complete-same}
-use Rattle.messages.proofs.FaultLaws.{
+use Rattle.schema.specs.Schema.{ruleFor, fitsWire, complete, marked}
+use Rattle.schema.specs.FirstFault.{elem, note, first, checkValue, faultWithin}
+use Rattle.messages.specs.Steps.{headOf, partStep, stepOf}
+use Rattle.schema.proofs.SchemaLaws.{rule-slot, complete-same}
+use Rattle.schema.proofs.FaultLaws.{
   faultOf,
   fault-end,
   fault-bad-key,
@@ -96,6 +96,13 @@ scanned-start zero k s h = absurd (h refl)
 scanned-start (suc d) k s h =
     let e : suc d - 1 ≡ d = omega arith in
     record { within = omega arith; seen = []; marks-seen = marks-none; stands = rw e }
+
+-- ---- a field's key
+
+-- a key that is found, by its field's rule
+pub head-found : (k : MessageKind) (l : List ℕ) (f : ℕ) (w : WireType) (n : ℕ) (r : FieldRule) → keyOf l ≡ key.Found f w n → r ≡ ruleFor k f
+    → (b : Bool) → fitsWire (r .value) w ≡ b → headOf k (keyOf l) ≡ cond b (head.Field n w r) (head.Refused WrongWireType)
+head-found k l f w n r e g b h = rw (e, ← g, h)
 
 -- a key at a place of s, whose field has a type that fits: its field's number, and what the reader answers
 pub record Headed (k : MessageKind) (s : List ℕ) (at n : ℕ) (w : WireType) (r : FieldRule) : Type 0 where

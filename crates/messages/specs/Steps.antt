@@ -1,27 +1,23 @@
 -- What the reader's functions answer at one field.
 -- Assumes nothing.
 use Prim.Native.Nat.{ℕ, _+_}
-use mathlib.Core.Bool.{Bool, false, cond}
+use mathlib.Core.Bool.{cond}
 use mathlib.Core.List.{List}
-use lib.ListN.{take, drop, getD}
+use lib.ListN.{take, drop}
 use Rattle.utf8.specs.Table.{isUtf8}
 use Rattle.refusal.specs.declared.Refusal.the-variants.{InvalidWireFormat, WrongWireType, InvalidUtf8}
 use Rattle.wire.specs.declared.Key.{Key}
 use Rattle.wire.specs.declared.Key.the-variants as key
 use Rattle.wire.specs.declared.Body.{Body}
 use Rattle.wire.specs.declared.Body.the-variants as body
-use Rattle.messages.specs.declared.MessageKind.{MessageKind}
-use Rattle.messages.specs.declared.ValueKind.{ValueKind}
-use Rattle.messages.specs.declared.ValueKind.the-variants as value
+use Rattle.schema.specs.declared.MessageKind.{MessageKind}
+use Rattle.schema.specs.declared.ValueKind.{ValueKind}
+use Rattle.schema.specs.declared.ValueKind.the-variants as value
 use Rattle.messages.specs.declared.Head.{Head}
 use Rattle.messages.specs.declared.Head.the-variants as head
 use Rattle.messages.specs.declared.Step.{Step}
 use Rattle.messages.specs.declared.Step.the-variants as step
-use Rattle.messages.specs.Schema.{ruleFor, fitsWire}
-
--- the mark of a field that counts under i
-abbrev pub marked : List Bool → ℕ → Bool
-marked seen i = getD seen i false
+use Rattle.schema.specs.Schema.{ruleFor, fitsWire}
 
 -- a field's key and its rule: 3, then 4
 abbrev pub headOf : MessageKind → Key → Head

@@ -2,57 +2,19 @@
 //
 // `first_fault` reads a message by the table of its fields and gives the refusal of its first fault in byte order. It takes a part of any length and content.
 // What a message's fields hold is read by other crates, which ask nothing of this pass.
-mod plain;
-mod rule;
-
 ghost use mathlib.Core.Path.{_≡_};
 ghost use Prim.Native.Nat.{_+_, _<_, _^_};
 ghost use Rattle.wire.specs.Field.{keyOf, bodyOf};
-ghost use Rattle.messages.specs.FirstFault.{faultWithin, firstFault};
-ghost use Rattle.messages.specs.Schema.{levels};
+ghost use Rattle.schema.specs.FirstFault.{faultWithin, firstFault};
 ghost use Rattle.messages.specs.Steps.{headOf, stepOf, partStep};
-use plain::is_plain;
 use refusal::Refusal;
-use rule::complete;
-use rule::field_rule;
-use rule::fits_wire;
+pub use schema::Checked;
+use schema::FieldRule;
+pub use schema::MessageKind;
+use schema::ValueKind;
 use wire::Body;
 use wire::Key;
 use wire::WireType;
-
-// The messages, under the names of PulsarApi.proto.
-pub enum MessageKind {
-    CommandScalableTopicAssignmentUpdate,
-    CommandScalableTopicSubscribeResponse,
-    ScalableConsumerAssignment,
-    ScalableAssignedSegment,
-    IntRange,
-    CommandWatchScalableTopicsUpdate,
-    ScalableTopicsSnapshot,
-    ScalableTopicsDiff,
-}
-
-// What a field holds.
-pub enum ValueKind {
-    // The field is unknown.
-    Any,
-    Number,
-    Text,
-    Message(MessageKind),
-}
-
-// How a field is checked.
-pub struct FieldRule {
-    // The number under which the field counts as singular, below 8; 0 where it may come again.
-    pub slot: usize,
-    pub value: ValueKind,
-}
-
-// What a check of a message gives.
-pub enum Checked {
-    Valid,
-    Refused(Refusal),
-}
 
 // A field's key: refused, or the key's length, the field's type and its rule.
 pub enum Head {
@@ -73,9 +35,9 @@ fn read_head(kind: MessageKind, s: &[u8]) -> Head
 {
     match wire::read_key(s) {
         Key::Found(f, w, n) => {
-            let rule = field_rule(kind, f);
+            let rule = schema::field_rule(kind, f);
             let v = rule.value;
-            if fits_wire(v, w) {
+            if schema::fits_wire(v, w) {
                 Head::Field(n, w, rule)
             } else {
                 Head::Refused(Refusal::WrongWireType)
@@ -120,7 +82,7 @@ fn value_step(v: ValueKind, w: WireType, s: &[u8]) -> Step
 fn scan(depth: usize, kind: MessageKind, s: &[u8]) -> Checked
     ensures { λ r. ⌜ r ≡ faultWithin depth kind (now (s .entry)) ⌝ }
 {
-    if is_plain(kind, s) {
+    if plain::is_plain(kind, s) {
         return Checked::Valid;
     }
     if depth == 0 {
@@ -164,7 +126,7 @@ fn scan(depth: usize, kind: MessageKind, s: &[u8]) -> Checked
             }
         }
     }
-    if complete(kind, seen) {
+    if schema::complete(kind, seen) {
         Checked::Valid
     } else {
         Checked::Refused(Refusal::MissingField)
@@ -175,6 +137,6 @@ fn scan(depth: usize, kind: MessageKind, s: &[u8]) -> Checked
 pub fn first_fault(kind: MessageKind, s: &[u8]) -> Checked
     ensures { λ r. ⌜ r ≡ firstFault kind (now (s .entry)) ⌝ }
 {
-    let depth = rule::nesting(kind);
+    let depth = schema::nesting(kind);
     scan(depth, kind, s)
 }

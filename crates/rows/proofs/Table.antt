@@ -12,8 +12,8 @@ use Rattle.topic.specs.Names.{hex4, decimalWithin, decimal, descriptor, segment
 use Rattle.wire.specs.Varints.{varintOf}
 use Rattle.wire.specs.Field.{keyOf, numberOf, partOf}
 use Rattle.wire.specs.Fields.{fieldsOf}
-use Rattle.messages.specs.Schema.{ruleFor, complete}
-use Rattle.messages.specs.FirstFault.{firstFault}
+use Rattle.schema.specs.Schema.{ruleFor, complete}
+use Rattle.schema.specs.FirstFault.{firstFault}
 use Rattle.readers.specs.Messages.{segmentOf, assignmentOf, updateOf}
 use Rattle.packed.specs.Assignment.{sizeSegment, sizeSegments, sizeAssignment}
 use Rattle.packed.specs.Rows as packed

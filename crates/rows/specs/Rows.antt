@@ -13,9 +13,9 @@ use Rattle.types.specs.KeyRanges.{keyRange}
 use Rattle.refusal.specs.declared.Refusal.the-variants.{OverlappingBucketRanges, InvalidParent, AssignmentTooLong}
 use Rattle.refusal.specs.declared.Refusal.the-variants.{StaleEpoch, PreBaselineBufferFull}
 use Rattle.topic.specs.Parents.{topicScheme, isParent}
-use Rattle.messages.specs.declared.MessageKind.the-variants.{CommandScalableTopicAssignmentUpdate}
-use Rattle.messages.specs.declared.Checked.the-variants.{Valid}
-use Rattle.messages.specs.FirstFault.{firstFault}
+use Rattle.schema.specs.declared.MessageKind.the-variants.{CommandScalableTopicAssignmentUpdate}
+use Rattle.schema.specs.declared.Checked.the-variants.{Valid}
+use Rattle.schema.specs.FirstFault.{firstFault}
 use Rattle.readers.specs.declared.IntRange.{IntRange}
 use Rattle.readers.specs.Messages.{WireSegment, updateOf}
 use Rattle.packed.specs.Assignment.{ConsumerAssignment, encodeAssignment}

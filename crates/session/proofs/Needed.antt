@@ -9,8 +9,8 @@ use mathlib.Core.List.{List, [], _∷_}
 use mathlib.Core.Option.{Option, some, none}
 use lib.ListN.{replicate}
 use Rattle.types.specs.declared.ControllerIncarnation.{ControllerIncarnation}
-use Rattle.messages.specs.Schema.{ruleFor, complete}
-use Rattle.messages.specs.FirstFault.{firstFault}
+use Rattle.schema.specs.Schema.{ruleFor, complete}
+use Rattle.schema.specs.FirstFault.{firstFault}
 use Rattle.wire.specs.Varints.{varintOf}
 use Rattle.wire.specs.Field.{keyOf, numberOf, partOf}
 use Rattle.wire.specs.Fields.{fieldsOf}

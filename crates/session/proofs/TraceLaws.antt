@@ -18,10 +18,10 @@ use borrow.Author.Tests.{ltb-false, eqb-false}
 use Rattle.types.specs.declared.ControllerIncarnation.{ControllerIncarnation}
 use Rattle.refusal.specs.declared.Refusal.{Refusal}
 use Rattle.parts.proofs.PartLaws.{Bytes}
-use Rattle.messages.specs.declared.MessageKind.the-variants.{CommandScalableTopicAssignmentUpdate, CommandScalableTopicSubscribeResponse}
-use Rattle.messages.specs.declared.Checked.{Checked}
-use Rattle.messages.specs.declared.Checked.the-variants as checked
-use Rattle.messages.specs.FirstFault.{firstFault}
+use Rattle.schema.specs.declared.MessageKind.the-variants.{CommandScalableTopicAssignmentUpdate, CommandScalableTopicSubscribeResponse}
+use Rattle.schema.specs.declared.Checked.{Checked}
+use Rattle.schema.specs.declared.Checked.the-variants as checked
+use Rattle.schema.specs.FirstFault.{firstFault}
 use Rattle.readers.specs.Messages.{WireAssignment, updateOf, responseOf}
 use Rattle.packed_int.specs.Put.{put}
 use Rattle.packed.specs.Assignment.{ConsumerAssignment}

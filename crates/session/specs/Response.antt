@@ -13,10 +13,10 @@ use lib.Dec.{eqb, ltb}
 use Rattle.types.specs.declared.ControllerIncarnation.{ControllerIncarnation}
 use Rattle.refusal.specs.declared.Refusal.{Refusal}
 use Rattle.refusal.specs.declared.Refusal.the-variants.{StoreTooShort, MalformedStore, IncarnationMismatch, Broker, Empty, StaleEpoch}
-use Rattle.messages.specs.declared.MessageKind.the-variants.{CommandScalableTopicSubscribeResponse}
-use Rattle.messages.specs.declared.Checked.{Checked}
-use Rattle.messages.specs.declared.Checked.the-variants.{Valid, Refused}
-use Rattle.messages.specs.FirstFault.{firstFault}
+use Rattle.schema.specs.declared.MessageKind.the-variants.{CommandScalableTopicSubscribeResponse}
+use Rattle.schema.specs.declared.Checked.{Checked}
+use Rattle.schema.specs.declared.Checked.the-variants.{Valid, Refused}
+use Rattle.schema.specs.FirstFault.{firstFault}
 use Rattle.readers.specs.declared.ErrorCode.{ErrorCode}
 use Rattle.readers.specs.declared.ErrorCode.the-variants.{Given, Absent}
 use Rattle.readers.specs.Messages.{WireResponse, responseOf}

@@ -11,10 +11,10 @@ use Rattle.types.specs.declared.ControllerIncarnation.{ControllerIncarnation}
 use Rattle.refusal.specs.declared.Refusal.{Refusal}
 use Rattle.refusal.specs.declared.Refusal.the-variants.{StoreTooShort, OutputTooShort, MalformedStore, IncarnationMismatch}
 use Rattle.refusal.specs.declared.Refusal.the-variants.{ConsumerMismatch, StaleEpoch, PreBaselineBufferFull}
-use Rattle.messages.specs.declared.MessageKind.the-variants.{CommandScalableTopicAssignmentUpdate}
-use Rattle.messages.specs.declared.Checked.{Checked}
-use Rattle.messages.specs.declared.Checked.the-variants.{Valid, Refused}
-use Rattle.messages.specs.FirstFault.{firstFault}
+use Rattle.schema.specs.declared.MessageKind.the-variants.{CommandScalableTopicAssignmentUpdate}
+use Rattle.schema.specs.declared.Checked.{Checked}
+use Rattle.schema.specs.declared.Checked.the-variants.{Valid, Refused}
+use Rattle.schema.specs.FirstFault.{firstFault}
 use Rattle.readers.specs.Messages.{WireUpdate, updateOf}
 use Rattle.packed.specs.Assignment.{ConsumerAssignment}
 use Rattle.packed.specs.Equal.{sameAssignment}

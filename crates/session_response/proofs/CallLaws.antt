@@ -15,10 +15,10 @@ use Rattle.types.specs.declared.ControllerIncarnation.{ControllerIncarnation}
 use Rattle.refusal.specs.declared.Refusal.{Refusal}
 use Rattle.refusal.specs.declared.Refusal.the-variants.{StoreTooShort, MalformedStore, IncarnationMismatch}
 use Rattle.refusal.specs.declared.Refusal.the-variants.{CrossIncarnationEpochRegression, StaleEpoch}
-use Rattle.messages.specs.declared.MessageKind.the-variants.{CommandScalableTopicSubscribeResponse}
-use Rattle.messages.specs.declared.Checked.{Checked}
-use Rattle.messages.specs.declared.Checked.the-variants as checked
-use Rattle.messages.specs.FirstFault.{firstFault}
+use Rattle.schema.specs.declared.MessageKind.the-variants.{CommandScalableTopicSubscribeResponse}
+use Rattle.schema.specs.declared.Checked.{Checked}
+use Rattle.schema.specs.declared.Checked.the-variants as checked
+use Rattle.schema.specs.FirstFault.{firstFault}
 use Rattle.readers.specs.declared.ErrorCode.{ErrorCode}
 use Rattle.readers.specs.declared.ErrorCode.the-variants.{Given, Absent}
 use Rattle.readers.specs.declared.ResponseHead.{ResponseHead}

@@ -15,9 +15,9 @@ use borrow.Author.Tests.{lt-ltb, le-ltb, eq-eqb, ne-eqb, not-true, not-false}
 use Rattle.types.specs.declared.ControllerIncarnation.{ControllerIncarnation}
 use Rattle.refusal.specs.declared.Refusal.{Refusal}
 use Rattle.refusal.specs.declared.Refusal.the-variants as refusal
-use Rattle.messages.specs.declared.Checked.the-variants as checked
-use Rattle.messages.specs.declared.MessageKind.the-variants.{CommandScalableTopicAssignmentUpdate}
-use Rattle.messages.specs.FirstFault.{firstFault}
+use Rattle.schema.specs.declared.Checked.the-variants as checked
+use Rattle.schema.specs.declared.MessageKind.the-variants.{CommandScalableTopicAssignmentUpdate}
+use Rattle.schema.specs.FirstFault.{firstFault}
 use Rattle.readers.specs.Messages.{WireUpdate, updateOf}
 use Rattle.packed_int.specs.Be.{be, beAt}
 use Rattle.packed_int.specs.Put.{put}

@@ -9,7 +9,7 @@ use lib.ListN.{length}
 use borrow.Author.Needs.{needs}
 use borrow.Fn.Kinds.{In}
 use borrow.Fn.PlainCycle.{Measures, is, falls, and}
-use Rattle.messages.specs.declared.Checked.the-variants.{Valid, Refused}
+use Rattle.schema.specs.declared.Checked.the-variants.{Valid, Refused}
 use Rattle.messages.specs.declared.Head.{Head}
 use Rattle.messages.specs.declared.Head.the-variants as head
 use Rattle.messages.specs.declared.Step.{Step}
@@ -18,9 +18,9 @@ use Rattle.messages.proofs.ScanLaws.{Scanned, scanned-start, HeadAt, he
 use Rattle.messages.proofs.scan.Reads as scan
 use Rattle.messages.proofs.scan.Kinds as scan-kinds
 use Rattle.messages.proofs.+scan.Lts-scan as scan-lts
-use Rattle.messages.proofs.plain.is_plain.Reads as is-plain-reads
+use Rattle.plain.proofs.is_plain.Reads as is-plain-reads
 use Rattle.messages.proofs.read_head.Reads as read-head-reads
-use Rattle.messages.proofs.rule.complete.Reads as complete-reads
+use Rattle.schema.proofs.complete.Reads as complete-reads
 use Rattle.messages.proofs.value_step.Reads as value-step-reads
 use Rattle.messages.proofs.+scan.{statement}
 use Rattle.messages.proofs.+scan.Tie.{close}

@@ -1,7 +1,7 @@
 -- `first_fault` meets its contract: `scan` to the depth of the kind. Assumes nothing.
 use mathlib.Core.Path.{_∙_}
 use borrow.Author.Needs.{needs}
-use Rattle.messages.specs.FirstFault.{firstFault}
+use Rattle.schema.specs.FirstFault.{firstFault}
 use Rattle.messages.proofs.first_fault.Statement.{statement}
 use Rattle.messages.proofs.first_fault.Tie as tie
 

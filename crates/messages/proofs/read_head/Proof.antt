@@ -2,7 +2,7 @@
 use mathlib.Core.Path.{sym, _∙_}
 use mathlib.Core.Bool.{true, false}
 use borrow.Author.Needs.{needs}
-use Rattle.messages.proofs.SchemaLaws.{head-found}
+use Rattle.messages.proofs.ScanLaws.{head-found}
 use Rattle.messages.proofs.read_head.Statement.{statement}
 use Rattle.messages.proofs.read_head.Tie as tie
 

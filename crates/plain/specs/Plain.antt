@@ -1,0 +1,37 @@
+-- What the walk tells of a message in its usual form.
+--
+-- Every answer has one direction: what is told is so, and what is not told may be so all the same.
+-- Assumes nothing.
+use Prim.Native.Nat.{ℕ, _-_, _≤_, _<_}
+use mathlib.Core.Path.{_≡_}
+use mathlib.Core.List.{List, [], _∷_}
+use lib.ListN.{length, take, drop}
+use Rattle.wire.specs.declared.WireType.the-variants as wire
+use Rattle.wire.specs.Fields.{number, bytes, field, fieldsOf}
+use Rattle.schema.specs.declared.MessageKind.{MessageKind}
+use Rattle.plain.specs.declared.Part.{Part}
+use Rattle.plain.specs.declared.Part.the-variants.{Found, Absent}
+use Rattle.schema.specs.FirstFault.{checkFields, faultWithin}
+
+-- field f, a number, stands in s from a place to another
+pub record NumberField (f : ℕ) (s : List ℕ) (at to : ℕ) : Type 0 where
+  pub moved : at < to
+  pub within : to ≤ length s
+  pub value : ℕ
+  pub fields : fieldsOf (drop at s) ≡ field f wire.Varint (number value) ∷ fieldsOf (drop to s)
+
+-- field f stands in s from a place to another, and holds the part that starts at `from`
+pub record PartField (f : ℕ) (s : List ℕ) (at from to : ℕ) : Type 0 where
+  pub moved : at < to
+  pub ordered : from ≤ to
+  pub within : to ≤ length s
+  pub fields : fieldsOf (drop at s) ≡ field f wire.Len (bytes (take (to - from) (drop from s))) ∷ fieldsOf (drop to s)
+
+abbrev pub PartSays : ℕ → List ℕ → ℕ → Part → Type 0
+PartSays f s at (Found from to) = PartField f s at from to
+PartSays f s at Absent = Unit {0}
+
+-- the fields of a message up to a place have no fault, however deep messages may be nested: those behind it decide, with the fields seen
+pub record Passed (k : MessageKind) (seen : List ℕ) (s : List ℕ) (at : ℕ) : Type 0 where
+  pub within : at ≤ length s
+  pub stands : (d : ℕ) → checkFields (faultWithin d) k [] (fieldsOf s) ≡ checkFields (faultWithin d) k seen (fieldsOf (drop at s))

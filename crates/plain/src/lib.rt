@@ -1,0 +1,148 @@
+// The usual form of a message told quickly: its fields in the order of their numbers, with one-byte keys, and no others. That is what
+// writers write.
+//
+// A plain message is valid, whatever it is nested in. A message that is not plain may be valid all the same: the scan of `messages` decides.
+ghost use mathlib.Core.Path.{_≡_};
+ghost use mathlib.Core.Bool.{true};
+ghost use mathlib.Core.List.{[], _∷_};
+ghost use Prim.Native.Nat.{ℕ, _<_};
+ghost use Rattle.schema.specs.FirstFault.{faultWithin};
+ghost use Rattle.plain.specs.Plain.{NumberField, PartSays, Passed};
+use schema::Checked;
+use schema::MessageKind;
+use wire::Body;
+use wire::Varint;
+use wire::WireType;
+
+// A part that a field holds.
+enum Part {
+    // Where it starts and where it ends.
+    Found(usize, usize),
+    Absent,
+}
+
+// The place behind field f, a number, at a place; 0 where it does not stand there.
+fn number_end(f: u8, s: &[u8], at: usize) -> usize
+    requires { ⌜ (0 < f) × (f < 16) ⌝ }
+    ensures { λ r. ⌜ (0 < r → NumberField f (now (s .entry)) at r) ⌝ }
+{
+    if s.len() <= at {
+        return 0;
+    }
+    if s[at] != 8 * f {
+        return 0;
+    }
+    let from = at + 1;
+    match wire::read_short_varint(&s[from..]) {
+        Varint::Value(_, n) => from + n,
+        Varint::Broken => 0,
+    }
+}
+
+// The part of field f at a place.
+fn part_at(f: u8, s: &[u8], at: usize) -> Part
+    requires { ⌜ (0 < f) × (f < 16) ⌝ }
+    ensures { λ r. ⌜ PartSays f (now (s .entry)) at r ⌝ }
+{
+    if s.len() <= at {
+        return Part::Absent;
+    }
+    if s[at] != 8 * f + 2 {
+        return Part::Absent;
+    }
+    let behind = at + 1;
+    let Body::Part(n, len) = wire::read_body(WireType::Len, &s[behind..]) else {
+        return Part::Absent;
+    };
+    let from = behind + n;
+    Part::Found(from, from + len)
+}
+
+// Fields 1 and 2, and nothing else.
+fn plain_range(s: &[u8]) -> bool
+    ensures { λ r. ⌜ (r ≡ true → (d : ℕ) → faultWithin d MessageKind.IntRange (now (s .entry)) ≡ Checked.Valid) ⌝ }
+{
+    let start = number_end(1, s, 0);
+    if start == 0 {
+        return false;
+    }
+    let end = number_end(2, s, start);
+    if end == 0 {
+        return false;
+    }
+    end == s.len()
+}
+
+// The place behind fields 1 to 4 of a segment; 0 where they do not stand at its front.
+fn segment_end(s: &[u8]) -> usize
+    ensures { λ r. ⌜ (0 < r → Passed MessageKind.ScalableAssignedSegment (4 ∷ 3 ∷ 2 ∷ 1 ∷ []) (now (s .entry)) r) ⌝ }
+{
+    let id = number_end(1, s, 0);
+    if id == 0 {
+        return 0;
+    }
+    let start = number_end(2, s, id);
+    if start == 0 {
+        return 0;
+    }
+    let end = number_end(3, s, start);
+    if end == 0 {
+        return 0;
+    }
+    let Part::Found(from, to) = part_at(4, s, end) else {
+        return 0;
+    };
+    if utf8::is_utf8(&s[from..to]) { to } else { 0 }
+}
+
+// Fields 1 to 4, then plain ranges as field 5, and nothing else.
+fn plain_segment(s: &[u8]) -> bool
+    ensures { λ r. ⌜ (r ≡ true → (d : ℕ) → faultWithin d MessageKind.ScalableAssignedSegment (now (s .entry)) ≡ Checked.Valid) ⌝ }
+{
+    let mut at = segment_end(s);
+    if at == 0 {
+        return false;
+    }
+    while at < s.len() {
+        let Part::Found(from, to) = part_at(5, s, at) else {
+            return false;
+        };
+        if !plain_range(&s[from..to]) {
+            return false;
+        }
+        at = to;
+    }
+    true
+}
+
+// Field 1, then plain segments as field 2, and nothing else.
+fn plain_assignment(s: &[u8]) -> bool
+    ensures { λ r. ⌜ (r ≡ true → (d : ℕ) → faultWithin d MessageKind.ScalableConsumerAssignment (now (s .entry)) ≡ Checked.Valid) ⌝ }
+{
+    let mut at = number_end(1, s, 0);
+    if at == 0 {
+        return false;
+    }
+    while at < s.len() {
+        let Part::Found(from, to) = part_at(2, s, at) else {
+            return false;
+        };
+        if !plain_segment(&s[from..to]) {
+            return false;
+        }
+        at = to;
+    }
+    true
+}
+
+// The message is told to be plain: an assignment, a segment or a range.
+pub fn is_plain(kind: MessageKind, s: &[u8]) -> bool
+    ensures { λ r. ⌜ (r ≡ true → (d : ℕ) → faultWithin d kind (now (s .entry)) ≡ Checked.Valid) ⌝ }
+{
+    match kind {
+        MessageKind::ScalableConsumerAssignment => plain_assignment(s),
+        MessageKind::ScalableAssignedSegment => plain_segment(s),
+        MessageKind::IntRange => plain_range(s),
+        _ => false,
+    }
+}

@@ -1,0 +1,3 @@
+pub mod SchemaLaws
+pub mod FaultLaws
+pub mod Levels

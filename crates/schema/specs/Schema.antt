@@ -1,0 +1,147 @@
+-- The fields of the eight messages, as PulsarApi.proto has them. Each row: the field's number, its label and its type; its name stands behind it.
+-- Assumes nothing.
+use Prim.Native.Nat.{ℕ}
+use mathlib.Core.Bool.{Bool, true, false, cond, _&&_}
+use mathlib.Core.List.{List, [], _∷_}
+use lib.Dec.{eqb}
+use lib.ListN.{getD}
+use Rattle.wire.specs.declared.WireType.{WireType}
+use Rattle.wire.specs.declared.WireType.the-variants as wire
+use Rattle.schema.specs.declared.MessageKind.{MessageKind}
+use Rattle.schema.specs.declared.MessageKind.the-variants.{CommandScalableTopicAssignmentUpdate, CommandScalableTopicSubscribeResponse}
+use Rattle.schema.specs.declared.MessageKind.the-variants.{ScalableConsumerAssignment, ScalableAssignedSegment, IntRange}
+use Rattle.schema.specs.declared.MessageKind.the-variants.{CommandWatchScalableTopicsUpdate, ScalableTopicsSnapshot, ScalableTopicsDiff}
+use Rattle.schema.specs.declared.ValueKind.{ValueKind}
+use Rattle.schema.specs.declared.ValueKind.the-variants as value
+use Rattle.schema.specs.declared.FieldRule.{FieldRule}
+
+-- a field's label; the members of a oneof count together, under one number
+pub data Label : Type 0 where
+  required optional repeated : Label
+  oneof : ℕ → Label
+
+pub data ProtoType : Type 0 where
+  uint64 uint32 int32 enumeration string : ProtoType
+  message : MessageKind → ProtoType
+
+pub data SchemaField : Type 0 where
+  has : ℕ → Label → ProtoType → SchemaField
+
+abbrev pub schema : MessageKind → List SchemaField
+schema CommandScalableTopicAssignmentUpdate =
+    has 1 required uint64  -- consumer_id
+    ∷ has 2 required (message ScalableConsumerAssignment)  -- assignment
+    ∷ []
+schema CommandScalableTopicSubscribeResponse =
+    has 1 required uint64  -- request_id
+    ∷ has 2 optional enumeration  -- error
+    ∷ has 3 optional string  -- message
+    ∷ has 4 optional (message ScalableConsumerAssignment)  -- assignment
+    ∷ []
+schema ScalableConsumerAssignment =
+    has 1 required uint64  -- layout_epoch
+    ∷ has 2 repeated (message ScalableAssignedSegment)  -- segments
+    ∷ []
+schema ScalableAssignedSegment =
+    has 1 required uint64  -- segment_id
+    ∷ has 2 required uint32  -- hash_start
+    ∷ has 3 required uint32  -- hash_end
+    ∷ has 4 required string  -- segment_topic
+    ∷ has 5 repeated (message IntRange)  -- bucket_ranges
+    ∷ []
+schema IntRange =
+    has 1 required int32  -- start
+    ∷ has 2 required int32  -- end
+    ∷ []
+schema CommandWatchScalableTopicsUpdate =
+    has 1 required uint64  -- watch_id
+    ∷ has 2 (oneof 2) (message ScalableTopicsSnapshot)  -- snapshot
+    ∷ has 3 (oneof 2) (message ScalableTopicsDiff)  -- diff
+    ∷ has 4 optional enumeration  -- error
+    ∷ has 5 optional string  -- message
+    ∷ []
+schema ScalableTopicsSnapshot =
+    has 1 repeated string  -- topics
+    ∷ []
+schema ScalableTopicsDiff =
+    has 1 repeated string  -- added
+    ∷ has 2 repeated string  -- removed
+    ∷ []
+
+-- ---- the rule of a field
+
+abbrev pub valueOf : ProtoType → ValueKind
+valueOf uint64 = value.Number
+valueOf uint32 = value.Number
+valueOf int32 = value.Number
+valueOf enumeration = value.Number
+valueOf string = value.Text
+valueOf (message k) = value.Message k
+
+-- the number under which a field counts as singular; 0 where it may come again
+abbrev pub slotOf : ℕ → Label → ℕ
+slotOf f required = f
+slotOf f optional = f
+slotOf f repeated = 0
+slotOf f (oneof g) = g
+
+abbrev pub ruleOf : SchemaField → FieldRule
+ruleOf (has f a t) = record { slot = slotOf f a; value = valueOf t }
+
+-- an unknown field has any type and comes any number of times
+abbrev pub unknown : FieldRule
+unknown = record { slot = 0; value = value.Any }
+
+abbrev pub numberOf : SchemaField → ℕ
+numberOf (has f a t) = f
+
+abbrev pub ruleIn : ℕ → List SchemaField → FieldRule
+ruleIn f [] = unknown
+ruleIn f (r ∷ rs) = cond (eqb f (numberOf r)) (ruleOf r) (ruleIn f rs)
+
+unfoldable pub ruleFor : MessageKind → ℕ → FieldRule
+ruleFor k f = ruleIn f (schema k)
+
+-- "VARINT for numbers, LEN for texts and messages"; an unknown field fits any
+abbrev pub fitsWire : ValueKind → WireType → Bool
+fitsWire value.Any w = true
+fitsWire value.Number wire.Varint = true
+fitsWire value.Number wire.I64 = false
+fitsWire value.Number wire.Len = false
+fitsWire value.Number wire.I32 = false
+fitsWire value.Text wire.Varint = false
+fitsWire value.Text wire.I64 = false
+fitsWire value.Text wire.Len = true
+fitsWire value.Text wire.I32 = false
+fitsWire (value.Message k) wire.Varint = false
+fitsWire (value.Message k) wire.I64 = false
+fitsWire (value.Message k) wire.Len = true
+fitsWire (value.Message k) wire.I32 = false
+
+-- ---- required fields
+
+-- each required field is there
+abbrev pub completeIn : (ℕ → Bool) → List SchemaField → Bool
+completeIn there [] = true
+completeIn there (has f required t ∷ rs) = there f && completeIn there rs
+completeIn there (has f optional t ∷ rs) = completeIn there rs
+completeIn there (has f repeated t ∷ rs) = completeIn there rs
+completeIn there (has f (oneof g) t ∷ rs) = completeIn there rs
+
+unfoldable pub complete : MessageKind → (ℕ → Bool) → Bool
+complete k there = completeIn there (schema k)
+
+-- the mark of a field that counts under i
+abbrev pub marked : List Bool → ℕ → Bool
+marked seen i = getD seen i false
+
+-- how deep messages are nested in one, itself counted
+abbrev pub levels : MessageKind → ℕ
+levels CommandScalableTopicAssignmentUpdate = 4
+levels CommandScalableTopicSubscribeResponse = 4
+levels ScalableConsumerAssignment = 3
+levels ScalableAssignedSegment = 2
+levels IntRange = 1
+levels CommandWatchScalableTopicsUpdate = 2
+levels ScalableTopicsSnapshot = 1
+levels ScalableTopicsDiff = 1
