@@ -1,7 +1,8 @@
--- Laws of the scan of a message: where the loop stands, and what each answer of `read_head`, `value_step` and `complete` says there.
+-- Laws of the scan of a message: where the loop stands, and what each answer of `read_field` and `complete` says there.
 --
--- In order: the marks of the fields seen (`Marks`); where the loop stands (`Scanned`), at its start (`scanned-start`); a field's key
--- (`Headed`, `head-at`); the end (`end-at`); a repeat (`repeat-at`); what stands behind the key (`StepAt`, `step-at`).
+-- In order: the marks of the fields seen (`Marks`); where the loop stands (`Scanned`), at its start (`scanned-start`); the end (`end-at`);
+-- what an answer says (`StepAt`, `FieldAt`); a field's key (`Headed`, `head-says`), a repeat (`repeat-says`), what stands behind the key
+-- (`step-says`); the whole field (`field-at`).
 -- Not here: the same of a part alone, without places and marks (FaultLaws of the crate schema).
 -- Assumes nothing.
 use Prim.Native.Nat.{ℕ, zero, suc, _+_, _-_, _≤_, _<_}
@@ -16,6 +17,7 @@ use lib.Dec.{eqb, ltb}
 use borrow.Author.Tests.{eq-eqb, ne-eqb, eqb-true, eqb-false, lt-ltb}
 use Rattle.parts.proofs.PartLaws.{rest}
 use Rattle.utf8.specs.Table.{isUtf8}
+use Rattle.refusal.specs.declared.Refusal.{Refusal}
 use Rattle.refusal.specs.declared.Refusal.the-variants.{WrongWireType, RepeatedField, MissingField, InvalidUtf8}
 use Rattle.wire.specs.declared.WireType.{WireType}
 use Rattle.wire.specs.declared.Key.{Key}
@@ -31,13 +33,8 @@ use Rattle.schema.specs.declared.ValueKind.the-variants as value
 use Rattle.schema.specs.declared.FieldRule.{FieldRule}
 use Rattle.schema.specs.declared.Checked.{Checked}
 use Rattle.schema.specs.declared.Checked.the-variants.{Valid, Refused}
-use Rattle.messages.specs.declared.Head.{Head}
-use Rattle.messages.specs.declared.Head.the-variants as head
-use Rattle.messages.specs.declared.Step.{Step}
-use Rattle.messages.specs.declared.Step.the-variants as step
 use Rattle.schema.specs.Schema.{ruleFor, fitsWire, complete, marked}
 use Rattle.schema.specs.FirstFault.{elem, note, first, checkValue, faultWithin}
-use Rattle.messages.specs.Steps.{headOf, partStep, stepOf}
 use Rattle.schema.proofs.SchemaLaws.{rule-slot, complete-same}
 use Rattle.schema.proofs.FaultLaws.{
   faultOf,
@@ -50,6 +47,12 @@ use Rattle.schema.proofs.FaultLaws.{
   fault-fixed,
   fault-part,
 }
+use Rattle.field_step.specs.declared.Head.{Head}
+use Rattle.field_step.specs.declared.Head.the-variants as head
+use Rattle.field_step.specs.declared.Step.{Step}
+use Rattle.field_step.specs.declared.Step.the-variants as step
+use Rattle.field_step.specs.declared.FieldStep.{FieldStep}
+use Rattle.field_step.specs.Steps.{headOf, partStep, stepOf, refusedWith, fieldOf}
 
 -- ---- the marks of the fields seen
 
@@ -97,30 +100,51 @@ scanned-start (suc d) k s h =
     let e : suc d - 1 ≡ d = omega arith in
     record { within = omega arith; seen = []; marks-seen = marks-none; stands = rw e }
 
--- ---- a field's key
-
--- a key that is found, by its field's rule
-pub head-found : (k : MessageKind) (l : List ℕ) (f : ℕ) (w : WireType) (n : ℕ) (r : FieldRule) → keyOf l ≡ key.Found f w n → r ≡ ruleFor k f
-    → (b : Bool) → fitsWire (r .value) w ≡ b → headOf k (keyOf l) ≡ cond b (head.Field n w r) (head.Refused WrongWireType)
-head-found k l f w n r e g b h = rw (e, ← g, h)
-
 -- a key at a place of s, whose field has a type that fits: its field's number, and what the reader answers
-pub record Headed (k : MessageKind) (s : List ℕ) (at n : ℕ) (w : WireType) (r : FieldRule) : Type 0 where
-  pub f : ℕ
-  pub found : keyOf (drop at s) ≡ key.Found f w n
-  pub rule : r ≡ ruleFor k f
-  pub fits : fitsWire (ruleFor k f .value) w ≡ true
-  pub moved : 1 ≤ n
-  pub inside : at + n ≤ length s
-  pub low : r .slot < 8
+record Headed (k : MessageKind) (s : List ℕ) (at n : ℕ) (w : WireType) (r : FieldRule) : Type 0 where
+  f : ℕ
+  found : keyOf (drop at s) ≡ key.Found f w n
+  rule : r ≡ ruleFor k f
+  fits : fitsWire (ruleFor k f .value) w ≡ true
+  moved : 1 ≤ n
+  inside : at + n ≤ length s
+  low : r .slot < 8
 
 module _ {depth : ℕ} {k : MessageKind} {s : List ℕ} {marks : List Bool} {at : ℕ} (i : Scanned depth k s marks at) where
   abbrev inner : MessageKind → List ℕ → Checked
   inner = faultWithin (depth - 1)
 
+  -- ---- the end
+
+  pub end-at : length s ≤ at → (b : Bool) → complete k (marked marks) ≡ b → cond b Valid (Refused MissingField) ≡ faultWithin depth k s
+  end-at h b e =
+      let g : complete k (elem (i .seen)) ≡ b = sym (complete-same k (marked marks) (elem (i .seen)) (i .marks-seen .each)) ∙ e in
+      sym (i .stands ∙ fault-end inner k (i .seen) (drop at s) (omega (arith, length-drop at s)) b g)
+
+  -- ---- what an answer says
+
+  -- a message that stands in a field, which counts under a number and ends at a place
+  abbrev pub InnerAt : ℕ → ℕ → Checked → Type 0
+  InnerAt slot to Valid = Scanned depth k s (set marks slot (ltb 0 slot)) to
+  InnerAt slot to (Refused x) = Refused x ≡ faultWithin depth k s
+
+  abbrev pub StepAt : ℕ → ℕ → Step → Type 0
+  StepAt slot size (step.Refused x) = Refused x ≡ faultWithin depth k s
+  StepAt slot size (step.Next m) = (at < at + size + m) × Scanned depth k s (set marks slot (ltb 0 slot)) (at + size + m)
+  StepAt slot size (step.Inner j m len) =
+      (at < at + size + m)
+      × (at + size + m + len ≤ length s)
+      × ((q : Checked) → faultWithin (depth - 1) j (take (at + size + m + len - (at + size + m)) (drop (at + size + m) s)) ≡ q
+      → InnerAt slot (at + size + m + len) q)
+
+  pub record FieldAt (q : FieldStep) : Type 0 where
+    pub low : q .slot < 8
+    pub inside : at + q .size ≤ length s
+    pub stands : StepAt (q .slot) (q .size) (q .step)
+
   -- ---- a field's key
 
-  abbrev pub HeadAt : Head → Type 0
+  abbrev HeadAt : Head → Type 0
   HeadAt (head.Refused x) = Refused x ≡ faultWithin depth k s
   HeadAt (head.Field n w r) = Headed k s at n w r
 
@@ -149,16 +173,6 @@ module _ {depth : ℕ} {k : MessageKind} {s : List ℕ} {marks : List Bool} {at 
       go (key.Found f w n) e = by f w n e (fitsWire (ruleFor k f .value) w) refl
       go key.Broken e = sym (i .stands ∙ fault-bad-key inner k (i .seen) (drop at s) low e)
 
-  pub head-at : at < length s → (q : Head) → headOf k (keyOf (take (length s - at) (drop at s))) ≡ q → HeadAt q
-  head-at h q e = subst HeadAt (ap (λ (l : List ℕ). headOf k (keyOf l)) (sym (rest s at)) ∙ e) (head-says h)
-
-  -- ---- the end
-
-  pub end-at : length s ≤ at → (b : Bool) → complete k (marked marks) ≡ b → cond b Valid (Refused MissingField) ≡ faultWithin depth k s
-  end-at h b e =
-      let g : complete k (elem (i .seen)) ≡ b = sym (complete-same k (marked marks) (elem (i .seen)) (i .marks-seen .each)) ∙ e in
-      sym (i .stands ∙ fault-end inner k (i .seen) (drop at s) (omega (arith, length-drop at s)) b g)
-
   module _ {n : ℕ} {w : WireType} {r : FieldRule} (h : Headed k s at n w r) where
     -- ---- a repeat
 
@@ -168,28 +182,21 @@ module _ {depth : ℕ} {k : MessageKind} {s : List ℕ} {marks : List Bool} {at 
     some : 0 < length (drop at s)
     some = omega (arith, length-drop at s, h .moved, h .inside)
 
-    pub repeat-at : marked marks (r .slot) ≡ true → Refused RepeatedField ≡ faultWithin depth k s
-    repeat-at e =
+    repeat-says : marked marks (r .slot) ≡ true → Refused RepeatedField ≡ faultWithin depth k s
+    repeat-says e =
         sym (i .stands ∙ fault-repeat inner k (i .seen) (drop at s) some (h .f) w n (h .found) (h .fits) (seen-at true e))
 
     -- ---- what stands behind the key
 
     -- the marks with the field's own
-    abbrev pub noted : List Bool
+    abbrev noted : List Bool
     noted = set marks (r .slot) (ltb 0 (r .slot))
 
-    -- a message that stands in a field, up to a place
-    abbrev pub InnerAt : ℕ → Checked → Type 0
-    InnerAt to Valid = Scanned depth k s noted to
-    InnerAt to (Refused x) = Refused x ≡ faultWithin depth k s
+    abbrev Says : Step → Type 0
+    Says q = StepAt (r .slot) n q
 
-    abbrev pub StepAt : Step → Type 0
-    StepAt (step.Refused x) = Refused x ≡ faultWithin depth k s
-    StepAt (step.Next m) = Scanned depth k s noted (at + n + m)
-    StepAt (step.Inner j m len) =
-        (at + n + m + len ≤ length s)
-        × ((q : Checked) → faultWithin (depth - 1) j (take (at + n + m + len - (at + n + m)) (drop (at + n + m) s)) ≡ q
-        → InnerAt (at + n + m + len) q)
+    gone : (m : ℕ) → at < at + n + m
+    gone m = omega (arith, h .moved)
 
     module _ (free : marked marks (r .slot) ≡ false) where
       -- the fields behind m more bytes decide
@@ -209,7 +216,7 @@ module _ {depth : ℕ} {k : MessageKind} {s : List ℕ} {marks : List Bool} {at 
       inner-at : (m len : ℕ) → m + len ≤ length s - (at + n) → (q p : Checked) → p ≡ q
           → faultOf inner k (i .seen) (drop at s)
           ≡ first p (faultOf inner k (note (ruleFor k (h .f) .slot) (i .seen)) (drop (n + (m + len)) (drop at s)))
-          → InnerAt (at + n + m + len) q
+          → InnerAt (r .slot) (at + n + m + len) q
       inner-at m len g Valid p d e =
           let a : at + n + (m + len) ≡ at + n + m + len = omega arith in
           subst (λ (to : ℕ). Scanned depth k s noted to) a (on-at (m + len) g (e ∙ rw d))
@@ -223,24 +230,25 @@ module _ {depth : ℕ} {k : MessageKind} {s : List ℕ} {marks : List Bool} {at 
           → faultOf inner k (i .seen) (drop at s)
           ≡ first (checkValue inner v (bytes (take len (drop m (drop (at + n) s)))))
           (faultOf inner k (note (ruleFor k (h .f) .slot) (i .seen)) (drop (n + (m + len)) (drop at s)))
-          → StepAt (partStep v m len (take len (drop m (drop (at + n) s))))
-      part-at value.Any m len g e = on-at (m + len) g e
-      part-at value.Number m len g e = on-at (m + len) g e
+          → Says (partStep v m len (take len (drop m (drop (at + n) s))))
+      part-at value.Any m len g e = (gone (m + len), on-at (m + len) g e)
+      part-at value.Number m len g e = (gone (m + len), on-at (m + len) g e)
       part-at value.Text m len g e = go (isUtf8 (take len (drop m (drop (at + n) s)))) e
         where
           go : (t : Bool)
               → faultOf inner k (i .seen) (drop at s)
               ≡ first (cond t Valid (Refused InvalidUtf8))
               (faultOf inner k (note (ruleFor k (h .f) .slot) (i .seen)) (drop (n + (m + len)) (drop at s)))
-              → StepAt (cond t (step.Next (m + len)) (step.Refused InvalidUtf8))
-          go true e = on-at (m + len) g e
+              → Says (cond t (step.Next (m + len)) (step.Refused InvalidUtf8))
+          go true e = (gone (m + len), on-at (m + len) g e)
           go false e = sym (i .stands ∙ e)
       part-at (value.Message j) m len g e = (
+        gone m,
         omega (arith, h .inside),
         λ q d. inner-at m len g q (inner j (take len (drop m (drop (at + n) s)))) (rw (drop-drop m (at + n) s) (same m len j ∙ d)) e,
       )
 
-      step-says : StepAt (stepOf (r .value) (bodyOf w (drop (at + n) s)) (drop (at + n) s))
+      step-says : Says (stepOf (r .value) (bodyOf w (drop (at + n) s)) (drop (at + n) s))
       step-says = go (bodyOf w (drop (at + n) s)) refl
         where
           once : elem (i .seen) (ruleFor k (h .f) .slot) ≡ false
@@ -249,13 +257,17 @@ module _ {depth : ℕ} {k : MessageKind} {s : List ℕ} {marks : List Bool} {at 
           behind : (b : Body) → bodyOf w (drop (at + n) s) ≡ b → bodyOf w (drop n (drop at s)) ≡ b
           behind b e = rw (drop-drop n at s) e
 
-          go : (b : Body) → bodyOf w (drop (at + n) s) ≡ b → StepAt (stepOf (r .value) b (drop (at + n) s))
-          go (body.Number x m) e =
-              on-at m (body-size-after w s (at + n) (body.Number x m) e)
-              (fault-number inner k (i .seen) (drop at s) some (h .f) w n (h .found) (h .fits) once x m (behind (body.Number x m) e))
-          go (body.Fixed m) e =
-              on-at m (body-size-after w s (at + n) (body.Fixed m) e)
-              (fault-fixed inner k (i .seen) (drop at s) some (h .f) w n (h .found) (h .fits) once m (behind (body.Fixed m) e))
+          go : (b : Body) → bodyOf w (drop (at + n) s) ≡ b → Says (stepOf (r .value) b (drop (at + n) s))
+          go (body.Number x m) e = (
+            gone m,
+            on-at m (body-size-after w s (at + n) (body.Number x m) e)
+                (fault-number inner k (i .seen) (drop at s) some (h .f) w n (h .found) (h .fits) once x m (behind (body.Number x m) e)),
+          )
+          go (body.Fixed m) e = (
+            gone m,
+            on-at m (body-size-after w s (at + n) (body.Fixed m) e)
+                (fault-fixed inner k (i .seen) (drop at s) some (h .f) w n (h .found) (h .fits) once m (behind (body.Fixed m) e)),
+          )
           go (body.Part m len) e =
               part-at (r .value) m len (body-size-after w s (at + n) (body.Part m len) e)
               (fault-part inner k (i .seen) (drop at s) some (h .f) w n (h .found) (h .fits) once m len (behind (body.Part m len) e)
@@ -265,7 +277,25 @@ module _ {depth : ℕ} {k : MessageKind} {s : List ℕ} {marks : List Bool} {at 
               (i .stands
               ∙ fault-cut inner k (i .seen) (drop at s) some (h .f) w n (h .found) (h .fits) once (behind body.Broken e))
 
-      pub step-at : (q : Step)
-          → stepOf (r .value) (bodyOf w (take (length s - (at + n)) (drop (at + n) s))) (take (length s - (at + n)) (drop (at + n) s)) ≡ q
-          → StepAt q
-      step-at q e = subst StepAt (ap (λ (l : List ℕ). stepOf (r .value) (bodyOf w l) l) (sym (rest s (at + n))) ∙ e) step-says
+  -- ---- the whole field
+
+  field-says : at < length s → FieldAt (fieldOf marks (headOf k (keyOf (drop at s))) (drop at s))
+  field-says h = go (headOf k (keyOf (drop at s))) (head-says h)
+    where
+      refused : (x : Refusal) → Refused x ≡ faultWithin depth k s → FieldAt (refusedWith x)
+      refused x e = record { low = omega arith; inside = omega (arith, i .within); stands = e }
+
+      by : (n : ℕ) (w : WireType) (r : FieldRule) → Headed k s at n w r → (t : Bool) → marked marks (r .slot) ≡ t
+          → FieldAt
+          (cond t (refusedWith RepeatedField)
+          (record { slot = r .slot; size = n; step = stepOf (r .value) (bodyOf w (drop n (drop at s))) (drop n (drop at s)) }))
+      by n w r g true e = refused RepeatedField (repeat-says g e)
+      by n w r g false e = record { low = g .low; inside = g .inside; stands = rw (drop-drop n at s) (step-says g e) }
+
+      go : (q : Head) → HeadAt q → FieldAt (fieldOf marks q (drop at s))
+      go (head.Refused x) e = refused x e
+      go (head.Field n w r) g = by n w r g (marked marks (r .slot)) refl
+
+  pub field-at : at < length s → (q : FieldStep)
+      → q ≡ fieldOf marks (headOf k (keyOf (take (length s - at) (drop at s)))) (take (length s - at) (drop at s)) → FieldAt q
+  field-at h q e = subst FieldAt (sym (e ∙ ap (λ (l : List ℕ). fieldOf marks (headOf k (keyOf l)) l) (rest s at))) (field-says h)

@@ -3,25 +3,22 @@
 -- measure is the bytes left. Each answer below cites a law of proofs/ScanLaws at the place's numbers. Assumes nothing.
 use Prim.Native.Nat.{ℕ, _-_, _<_}
 use native.Mathlib.Omega.{arith}
-use mathlib.Core.Path.{_≡_, sym, _∙_}
+use mathlib.Core.Path.{_≡_, sym, subst, _∙_}
 use mathlib.Core.Bool.{true, false}
 use lib.ListN.{length}
 use borrow.Author.Needs.{needs}
 use borrow.Fn.Kinds.{In}
 use borrow.Fn.PlainCycle.{Measures, is, falls, and}
 use Rattle.schema.specs.declared.Checked.the-variants.{Valid, Refused}
-use Rattle.messages.specs.declared.Head.{Head}
-use Rattle.messages.specs.declared.Head.the-variants as head
-use Rattle.messages.specs.declared.Step.{Step}
-use Rattle.messages.specs.declared.Step.the-variants as step
-use Rattle.messages.proofs.ScanLaws.{Scanned, scanned-start, HeadAt, head-at, repeat-at, StepAt, step-at, end-at}
+use Rattle.field_step.specs.declared.Step.{Step}
+use Rattle.field_step.specs.declared.Step.the-variants as step
+use Rattle.messages.proofs.ScanLaws.{Scanned, scanned-start, StepAt, FieldAt, field-at, end-at}
 use Rattle.messages.proofs.scan.Reads as scan
 use Rattle.messages.proofs.scan.Kinds as scan-kinds
 use Rattle.messages.proofs.+scan.Lts-scan as scan-lts
+use Rattle.field_step.proofs.read_field.Reads as read-field-reads
 use Rattle.plain.proofs.is_plain.Reads as is-plain-reads
-use Rattle.messages.proofs.read_head.Reads as read-head-reads
 use Rattle.schema.proofs.complete.Reads as complete-reads
-use Rattle.messages.proofs.value_step.Reads as value-step-reads
 use Rattle.messages.proofs.+scan.{statement}
 use Rattle.messages.proofs.+scan.Tie.{close}
 
@@ -45,47 +42,36 @@ module _ (t : ℕ) where
   callees = (
     is-plain-reads.Asked,
     is-plain-reads.Learnt,
-    read-head-reads.Asked,
-    read-head-reads.Learnt,
-    value-step-reads.Asked,
-    value-step-reads.Learnt,
+    read-field-reads.Asked,
+    read-field-reads.Learnt,
     scan-below t,
     scan.Post,
     complete-reads.Asked,
     complete-reads.Learnt,
   )
 
-  -- a field's key is read
-  read-at : (c : scan-lts.After-read-head callees (scan-at t) scan.Post Inv-loop μ-loop) (q : Head) → c .read-head .result ≡ q
-      → HeadAt (c .before .before .before .loop .inv) q
-  read-at c q e = head-at (c .before .before .before .loop .inv) (c .before .before .loop-test .taken) q (sym (c .read-head .ensures) ∙ e)
+  -- a field is read
+  read : (c : scan-lts.After-read-field callees (scan-at t) scan.Post Inv-loop μ-loop)
+      → FieldAt (c .before .before .before .loop .inv) (c .read-field .result)
+  read c = field-at (c .before .before .before .loop .inv) (c .before .before .loop-test .taken) _ (c .read-field .ensures)
 
-  -- it is found
-  headed : (c : scan-lts.After-known-told2 callees (scan-at t) scan.Post Inv-loop μ-loop)
-      → HeadAt (c .before .before .before .before .before .before .loop .inv)
-      (head.Field (c .before .n .given .0 .0) (c .before .n .given .0 .1 .0) (c .before .n .given .0 .1 .1 .0))
-  headed c = read-at (c .before .before .before) (head.Field _ _ _) (c .before .n .given .1)
+  -- what stands behind its key
+  behind : (c : scan-lts.After-read-field callees (scan-at t) scan.Post Inv-loop μ-loop) (q : Step) → c .read-field .result .step ≡ q
+      → StepAt (c .before .before .before .loop .inv) (c .read-field .result .slot) (c .read-field .result .size) q
+  behind c q e = subst (StepAt (c .before .before .before .loop .inv) _ _) e (read c .stands)
 
-  -- what stands behind it is read
-  stepped : (c : scan-lts.After-value-step callees (scan-at t) scan.Post Inv-loop μ-loop) (q : Step) → c .value-step .result ≡ q
-      → StepAt (c .before .before .before .before .before .before .before .before .before .loop .inv) (headed (c .before .before .before)) q
-  stepped c q e =
-      step-at (c .before .before .before .before .before .before .before .before .before .loop .inv) (headed (c .before .before .before))
-      (c .before .before .if3 .left) q (sym (c .value-step .ensures) ∙ e)
+  -- the field is passed over
+  passed : (c : scan-lts.After-known-told2 callees (scan-at t) scan.Post Inv-loop μ-loop)
+      → StepAt (c .before .before .before .before .before .before .before .loop .inv) (c .before .before .before .before .read-field .result .slot)
+      (c .before .before .before .before .read-field .result .size) (step.Next (c .before .step2 .given .0 .0))
+  passed c = behind (c .before .before .before .before) (step.Next _) (c .before .step2 .given .1)
 
-  -- it is passed over
-  passed : (c : scan-lts.After-known-told4 callees (scan-at t) scan.Post Inv-loop μ-loop)
-      → StepAt (c .before .before .before .before .before .before .before .before .before .before .before .before .loop .inv)
-      (headed (c .before .before .before .before .before .before))
-      (step.Next (c .before .m .given .0 .0))
-  passed c = stepped (c .before .before .before) (step.Next _) (c .before .m .given .1)
-
-  -- it is a message
-  nested : (c : scan-lts.After-known-told5 callees (scan-at t) scan.Post Inv-loop μ-loop)
-      → StepAt (c .before .before .before .before .before .before .before .before .before .before .before .before .loop .inv)
-      (headed (c .before .before .before .before .before .before))
-      (step.Inner (c .before .k .given .0 .0) (c .before .k .given .0 .1 .0) (c .before .k .given .0 .1 .1 .0))
-  nested c = stepped (c .before .before .before) (step.Inner _ _ _) (c .before .k .given .1)
+  -- the field is a message
+  nested : (c : scan-lts.After-known-told3 callees (scan-at t) scan.Post Inv-loop μ-loop)
+      → StepAt (c .before .before .before .before .before .before .before .loop .inv) (c .before .before .before .before .read-field .result .slot)
+      (c .before .before .before .before .read-field .result .size)
+      (step.Inner (c .before .step3 .given .0 .0) (c .before .step3 .given .0 .1 .0) (c .before .step3 .given .0 .1 .1 .0))
+  nested c = behind (c .before .before .before .before) (step.Inner _ _ _) (c .before .step3 .given .1)
 
 pub +scan-spec : {M : Type 1} → statement M
 +scan-spec =
@@ -97,68 +83,51 @@ pub +scan-spec : {M : Type 1} → statement M
     (λ c. rw (c .if2 .taken))
     -- loop-holds
     (λ c. scanned-start _ _ _ (c .if2 .left))
-    -- sub-read-head, part-read-head-start, part-read-head-end, read-head-requires, enum-known-x
+    -- sub-read-field, part-read-field-start, part-read-field-end, read-field-requires
     (λ c. search needs)
     (λ c. search needs)
     (λ c. search needs)
     (λ c κs. search needs)
+    -- array-write-seen, add-at
+    (λ c. read t c .low)
+    (λ c. let h = read t (c .before) in omega arith)
+    -- enum-known-step
     (λ c. search needs)
-    -- returns-3: the key is refused
-    (λ c. read-at t (c .before .before .before) (head.Refused _) (c .before .x .given .1))
-    -- enum-known-n
+    -- returns-3: the field is refused
+    (λ c. behind t (c .before .before .before .before) (step.Refused _) (c .before .step .given .1))
+    -- enum-known-step-2
     (λ c. search needs)
-    -- array-read-if2
-    (λ c. headed t c .low)
-    -- returns-4: a repeat
-    (λ c. repeat-at (c .before .before .before .before .before .before .before .loop .inv) (headed t (c .before)) (c .if3 .taken))
-    -- array-write-seen
-    (λ c. headed t (c .before) .low)
-    -- add-at, sub-value-step, part-value-step-start, part-value-step-end
-    (λ c. let h = headed t (c .before) in omega arith)
-    (λ c. let h = headed t (c .before) in omega arith)
-    (λ c. let h = headed t (c .before) in omega arith)
-    (λ c. let h = headed t (c .before) in omega arith)
-    -- value-step-requires, enum-known-x-2
-    (λ c κs. search needs)
-    (λ c. search needs)
-    -- returns-5: the length or the value is refused
-    (λ c. stepped t (c .before .before .before) (step.Refused _) (c .before .x2 .given .1))
-    -- enum-known-m
-    (λ c. search needs)
-    -- add-at-2, loop-less, loop-again
+    -- add-at-2, loop-less, loop-again: the field is passed over
     (λ c. let h = passed t c in omega arith)
-    (λ c. let g = headed t (c .before .before .before .before .before .before) in let h = passed t c in omega arith)
-    (λ c. passed t c)
-    -- enum-known-k
+    (λ c. let h = passed t c in omega arith)
+    (λ c. passed t c .1)
+    -- enum-known-step-3
     (λ c. search needs)
-    -- add-from, add-to, sub-scan, sub-scan-2, part-scan-start, part-scan-end
-    (λ c. let h = nested t c .0 in omega arith)
-    (λ c. let h = nested t c .0 in omega arith)
-    (λ c. let h = nested t c .0 in omega arith)
-    (λ c. let h = nested t c .0 in omega arith)
-    (λ c. let h = nested t c .0 in omega arith)
-    (λ c. let h = nested t c .0 in omega arith)
+    -- add-from, add-at-3, sub-scan, sub-scan-2, part-scan-start, part-scan-end: the field is a message
+    (λ c. let h = nested t c in omega arith)
+    (λ c. let h = nested t c in omega arith)
+    (λ c. search needs)
+    (λ c. let h = nested t c in omega arith)
+    (λ c. let h = nested t c in omega arith)
+    (λ c. let h = nested t c in omega arith)
     -- scan-requires
     (λ c κs.
-    let p = c .before .before .before .before .before .before .before .before .before .before .before .before .before .before in
+    let p = c .before .before .before .before .before .before .before .before .before in
     (omega (arith, p .before .before .before .before .pre .0, p .if2 .left), tt))
-    -- enum-known-x-3
+    -- enum-known-x
     (λ c. search needs)
-    -- returns-6: the message is refused
-    (λ c. nested t (c .before .before .before .before .before) .1 (Refused _)
-    (sym (c .before .before .before .scan .ensures) ∙ c .before .x3 .given .1))
+    -- returns-4: the message is refused
+    (λ c. nested t (c .before .before .before .before .before) .2 (Refused _)
+    (sym (c .before .before .before .scan .ensures) ∙ c .before .x .given .1))
     -- enum-told
     (λ c. search needs)
     -- loop-less-2, loop-again-2
-    (λ c.
-    let g = headed t (c .before .before .before .before .before .before .before .before .before .before) in
-    let h = nested t (c .before .before .before .before) .0 in
-    omega arith)
-    (λ c. nested t (c .before .before .before .before) .1 Valid (sym (c .before .before .scan .ensures) ∙ c .enum-told .given .1))
+    (λ c. let h = nested t (c .before .before .before .before) in omega arith)
+    (λ c. nested t (c .before .before .before .before) .2 Valid (sym (c .before .before .scan .ensures) ∙ c .enum-told .given .1))
     -- complete-requires
     (λ c κs. search needs)
-    -- returns-7, returns-8: the end
+    -- returns-5, returns-6: the end
     (λ c. end-at (c .before .before .before .loop .inv) (c .before .before .loop-test .left) true
-    (sym (c .before .complete .ensures) ∙ c .if4 .taken))
+    (sym (c .before .complete .ensures) ∙ c .if3 .taken))
     (λ c. end-at (c .before .before .before .loop .inv) (c .before .before .loop-test .left) false
-    (sym (c .before .complete .ensures) ∙ c .if4 .left))
+    (sym (c .before .complete .ensures) ∙ c .if3 .left))

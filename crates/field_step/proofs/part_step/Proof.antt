@@ -1,8 +1,8 @@
 -- `part_step` meets its contract: each arm is the case of `partStep` for that value. Assumes nothing.
 use mathlib.Core.Path.{sym, _∙_}
 use borrow.Author.Needs.{needs}
-use Rattle.messages.proofs.part_step.Statement.{statement}
-use Rattle.messages.proofs.part_step.Tie as tie
+use Rattle.field_step.proofs.part_step.Statement.{statement}
+use Rattle.field_step.proofs.part_step.Tie as tie
 
 enum-told : tie.Need-enum-told
 enum-told c = search needs

@@ -6,8 +6,8 @@ use mathlib.Core.Path.{sym, _∙_}
 use borrow.Author.Needs.{needs}
 use Rattle.wire.specs.declared.Body.the-variants as body
 use Rattle.wire.proofs.FieldLaws.{body-size}
-use Rattle.messages.proofs.value_step.Statement.{statement}
-use Rattle.messages.proofs.value_step.Tie as tie
+use Rattle.field_step.proofs.value_step.Statement.{statement}
+use Rattle.field_step.proofs.value_step.Tie as tie
 
 read-body-requires : tie.Need-read-body-requires
 read-body-requires c κs = search needs

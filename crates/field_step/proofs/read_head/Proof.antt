@@ -2,9 +2,9 @@
 use mathlib.Core.Path.{sym, _∙_}
 use mathlib.Core.Bool.{true, false}
 use borrow.Author.Needs.{needs}
-use Rattle.messages.proofs.ScanLaws.{head-found}
-use Rattle.messages.proofs.read_head.Statement.{statement}
-use Rattle.messages.proofs.read_head.Tie as tie
+use Rattle.field_step.proofs.StepLaws.{head-found}
+use Rattle.field_step.proofs.read_head.Statement.{statement}
+use Rattle.field_step.proofs.read_head.Tie as tie
 
 read-key-requires : tie.Need-read-key-requires
 read-key-requires c κs = search needs
