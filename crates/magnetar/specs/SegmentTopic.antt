@@ -13,7 +13,7 @@ use Rattle.types.specs.declared.KeyRangeError.{KeyRangeError}
 use Rattle.types.specs.declared.SegmentId.{SegmentId}
 use Rattle.topic.specs.Parents.{topicScheme}
 use Rattle.topic.specs.Names.{segmentScheme, hex4, decimal}
-use Rattle.segment_source.specs.Digits.{decimalValue, hexValue}
+use Rattle.digits.specs.Digits.{decimalValue, hexValue}
 use Rattle.magnetar.specs.Result.{Result, Ok, Err, _>>=_, map-err, ok-or}
 use Rattle.magnetar.specs.Text.{Text, text-eq, is-empty, strip-prefix, contains-any, ends-with, starts-with, all-bytes, Split, rsplit-once, split, splitn}
 use Rattle.magnetar.specs.Ranges.{KeyRange-new}

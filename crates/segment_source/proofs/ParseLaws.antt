@@ -32,16 +32,16 @@ use Rattle.topic.specs.Parents.{topicScheme, isPath}
 use Rattle.topic.specs.Names.{segmentScheme}
 use Rattle.topic.specs.declared.NameAnswer.the-variants.{Written}
 use Rattle.topic.specs.Build.{outcome, refuse, written}
-use Rattle.segment_source.specs.declared.digits.Number.the-variants.{Is, None}
+use Rattle.digits.specs.declared.Number.the-variants.{Is, None}
 use Rattle.segment_source.specs.declared.Slash.the-variants.{At, Nothing}
 use Rattle.segment_source.specs.declared.Parsed.the-variants.{Name, Refused}
 use Rattle.segment_source.specs.declared.SourceAnswer.the-variants as source
-use Rattle.segment_source.specs.Digits.{decimalValue, hexValue, isSegmentId, hexWord, segmentIdOf}
+use Rattle.digits.specs.Digits.{decimalValue, hexValue, isSegmentId, hexWord, segmentIdOf}
 use Rattle.segment_source.specs.Parse.{hasSlash, beforeLast, lastSlash, startPart, endPart, idPart, isDescriptor}
 use Rattle.segment_source.specs.Parse.{rangeStage, descriptorStage, parentStage, parseSegmentTopic, parseText}
 use Rattle.segment_source.specs.Parse.{sourceStage, segmentSource, parentOutcome, parentTopic}
-use Rattle.segment_source.proofs.TestLaws.{and-both, cond-first}
-use Rattle.segment_source.proofs.DigitLaws.{word-told, word-none, id-empty, id-told, id-none}
+use Rattle.digits.proofs.TestLaws.{and-both, cond-first}
+use Rattle.digits.proofs.DigitLaws.{word-told, word-none, id-empty, id-told, id-none}
 use Rattle.segment_source.proofs.SlashLaws.{slash-told, slash-none, before-last-inside, before-last-take}
 
 -- ---- the descriptor d, behind a path that ends at n

@@ -24,13 +24,13 @@ use Rattle.topic.specs.Parents.{nonEmpty, isPath}
 use Rattle.topic.specs.Names.{segmentScheme, hex4, decimal, descriptor, segmentTopic}
 use Rattle.segment_source.specs.declared.Slash.the-variants.{At}
 use Rattle.segment_source.specs.declared.Parsed.the-variants.{Name}
-use Rattle.segment_source.specs.Digits.{every, allDigits, allHexDigits, decimalValue, hexValue, isHexWord, isSegmentId}
+use Rattle.digits.specs.Digits.{every, allDigits, allHexDigits, decimalValue, hexValue, isHexWord, isSegmentId}
 use Rattle.segment_source.specs.Parse.{hasSlash, beforeLast, lastSlash, startPart, endPart, idPart, isDescriptor}
 use Rattle.segment_source.specs.Parse.{descriptorStage, parseSegmentTopic}
-use Rattle.segment_source.proofs.TestLaws.{and-both}
-use Rattle.segment_source.proofs.ClassLaws.{slash-byte, dash-byte}
-use Rattle.segment_source.proofs.DigitLaws.{word-told, id-told}
-use Rattle.segment_source.proofs.NumeralLaws.{word-written, word-read, id-written, id-read}
+use Rattle.digits.proofs.TestLaws.{and-both}
+use Rattle.digits.proofs.ClassLaws.{slash-byte, dash-byte}
+use Rattle.digits.proofs.DigitLaws.{word-told, id-told}
+use Rattle.digits.proofs.NumeralLaws.{word-written, word-read, id-written, id-read}
 use Rattle.segment_source.proofs.SlashLaws.{before-last-at, before-last-take}
 use Rattle.segment_source.proofs.ParseLaws.{name-descriptor, descriptor-range, range-valid, descriptorOf, name-told}
 

@@ -14,7 +14,7 @@ use borrow.Author.Tests.{eq-eqb, ne-eqb}
 use Rattle.topic.specs.Classes.{classOf, isSlash}
 use Rattle.segment_source.specs.declared.Slash.the-variants.{At, Nothing}
 use Rattle.segment_source.specs.Parse.{hasSlash, beforeLast, lastSlash}
-use Rattle.segment_source.proofs.TestLaws.{cond-first, cond-second}
+use Rattle.digits.proofs.TestLaws.{cond-first, cond-second}
 
 slash-at : (s : List ℕ) (j : ℕ) → j < length s → hasSlash (drop j s) ≡ (isSlash (getD s j 0) || hasSlash (drop (suc j) s))
 unfolding hasSlash

@@ -19,7 +19,7 @@ use Rattle.topic.specs.Classes.{isSlash, isDash}
 use Rattle.topic.specs.Parents.{topicScheme, isPath}
 use Rattle.topic.specs.Names.{segmentScheme}
 use Rattle.topic.specs.Build.{Outcome, refuse, written}
-use Rattle.segment_source.specs.Digits.{decimalValue, hexValue, isHexWord, isSegmentId}
+use Rattle.digits.specs.Digits.{decimalValue, hexValue, isHexWord, isSegmentId}
 use Rattle.segment_source.specs.declared.SourceAnswer.{SourceAnswer}
 use Rattle.segment_source.specs.declared.SourceAnswer.the-variants as source
 use Rattle.segment_source.specs.declared.Slash.{Slash}

@@ -1,8 +1,6 @@
 // Segment names read: the Rust's `SegmentSource::new` and `parent_topic`.
 //
 // A name is `segment://`, a parent's path, '/', and a descriptor `ssss-eeee-id`. Every function takes a part of any length and content.
-mod digits;
-
 ghost use mathlib.Core.Path.{_≡_};
 ghost use Rattle.topic.specs.Build.{outcome};
 ghost use Rattle.segment_source.specs.Parse.{lastSlash, descriptorStage, parseSegmentTopic, parseText, segmentSource, parentTopic};

@@ -8,10 +8,10 @@ use lib.Seq.{length-take-le}
 use borrow.Author.Needs.{needs}
 use Rattle.parts.proofs.PartLaws.{rest}
 use Rattle.types.specs.KeyRanges.{newKeyRange}
-use Rattle.segment_source.specs.declared.digits.Number.the-variants.{Is}
-use Rattle.segment_source.specs.Digits.{hexWord, segmentIdOf}
+use Rattle.digits.specs.declared.Number.the-variants.{Is}
+use Rattle.digits.specs.Digits.{hexWord, segmentIdOf}
 use Rattle.segment_source.specs.Parse.{startPart, endPart, idPart, rangeStage, descriptorStage}
-use Rattle.segment_source.proofs.DigitLaws.{word-told, word-bound}
+use Rattle.digits.proofs.DigitLaws.{word-told, word-bound}
 use Rattle.segment_source.proofs.ParseLaws.{descriptor-short, descriptor-no-dash-4, descriptor-no-dash-9}
 use Rattle.segment_source.proofs.ParseLaws.{descriptor-no-start, descriptor-no-end, descriptor-no-id}
 use Rattle.segment_source.proofs.ParseLaws.{descriptor-range, range-invalid, range-valid}

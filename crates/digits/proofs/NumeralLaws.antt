@@ -18,12 +18,12 @@ use Rattle.topic.specs.Classes.{classOf, isDigit, isHexDigit}
 use Rattle.topic.specs.Parents.{nonEmpty}
 use Rattle.topic.specs.Names.{hexDigit, hex4, decimalWithin, decimal}
 use Rattle.topic.proofs.NameLaws.{decimal-end, digits-fewer, decimal-nonempty}
-use Rattle.segment_source.specs.declared.digits.Number.the-variants.{Is}
-use Rattle.segment_source.specs.Digits.{every, allDigits, allHexDigits, valueFrom, digitValue, hexDigitValue, decimalValue, hexValue}
-use Rattle.segment_source.specs.Digits.{isHexWord, isSegmentId, hexWord, segmentIdOf}
-use Rattle.segment_source.proofs.TestLaws.{and-both}
-use Rattle.segment_source.proofs.ClassLaws.{class-digit, class-letter, digit-bounds, letter-bounds, hex-value-bound}
-use Rattle.segment_source.proofs.DigitLaws.{word-is, id-is}
+use Rattle.digits.specs.declared.Number.the-variants.{Is}
+use Rattle.digits.specs.Digits.{every, allDigits, allHexDigits, valueFrom, digitValue, hexDigitValue, decimalValue, hexValue}
+use Rattle.digits.specs.Digits.{isHexWord, isSegmentId, hexWord, segmentIdOf}
+use Rattle.digits.proofs.TestLaws.{and-both}
+use Rattle.digits.proofs.ClassLaws.{class-digit, class-letter, digit-bounds, letter-bounds, hex-value-bound}
+use Rattle.digits.proofs.DigitLaws.{word-is, id-is}
 
 -- ---- one hexadecimal digit
 

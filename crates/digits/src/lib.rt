@@ -1,6 +1,6 @@
 // Numbers in a descriptor: four hexadecimal digits, or a decimal id.
 ghost use mathlib.Core.Path.{_≡_};
-ghost use Rattle.segment_source.specs.Digits.{hexDigitOf, hexWord, segmentIdOf};
+ghost use Rattle.digits.specs.Digits.{hexDigitOf, hexWord, segmentIdOf};
 use topic::DIGIT;
 use topic::HEX_LETTER;
 use topic::class_of;

@@ -4,9 +4,9 @@ use native.Mathlib.Omega.{arith}
 use mathlib.Core.Path.{_≡_, sym, _∙_}
 use borrow.Author.Needs.{needs}
 use Rattle.topic.specs.Classes.{classOf}
-use Rattle.segment_source.proofs.ClassLaws.{digit-bounds, letter-bounds, hex-digit, hex-letter, hex-other}
-use Rattle.segment_source.proofs.digits.hex_digit_value.Statement.{statement}
-use Rattle.segment_source.proofs.digits.hex_digit_value.Tie as tie
+use Rattle.digits.proofs.ClassLaws.{digit-bounds, letter-bounds, hex-digit, hex-letter, hex-other}
+use Rattle.digits.proofs.hex_digit_value.Statement.{statement}
+use Rattle.digits.proofs.hex_digit_value.Tie as tie
 
 is-digit : (c : tie.Then1) → classOf (c .before .before .args .b) ≡ 1
 is-digit c = sym (c .before .class-of .ensures) ∙ c .if1 .taken

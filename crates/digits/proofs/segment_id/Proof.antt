@@ -9,12 +9,12 @@ use lib.ListN.{length, getD}
 use borrow.Author.Needs.{needs}
 use borrow.Author.Tests.{eq-eqb, ne-eqb}
 use Rattle.topic.specs.Classes.{classOf, isDigit}
-use Rattle.segment_source.specs.Digits.{digitValue}
-use Rattle.segment_source.proofs.ClassLaws.{digit-bounds}
-use Rattle.segment_source.proofs.DigitLaws.{Reading, reading-start, reading-other, reading-next, reading-end}
-use Rattle.segment_source.proofs.DigitLaws.{id-empty, id-leading-zero, id-other, id-large, id-is}
-use Rattle.segment_source.proofs.digits.segment_id.Statement.{statement}
-use Rattle.segment_source.proofs.digits.segment_id.Tie as tie
+use Rattle.digits.specs.Digits.{digitValue}
+use Rattle.digits.proofs.ClassLaws.{digit-bounds}
+use Rattle.digits.proofs.DigitLaws.{Reading, reading-start, reading-other, reading-next, reading-end}
+use Rattle.digits.proofs.DigitLaws.{id-empty, id-leading-zero, id-other, id-large, id-is}
+use Rattle.digits.proofs.segment_id.Statement.{statement}
+use Rattle.digits.proofs.segment_id.Tie as tie
 
 abbrev Inv-loop : tie.InvT-loop
 Inv-loop s v₀ i₀ v i = Reading isDigit 10 digitValue s i v × (v < 2 ^ 64)

@@ -11,8 +11,8 @@ use mathlib.Core.Bool.{Bool, true, false, cond, and-false, true≢false}
 use lib.Dec.{leb, eqb}
 use borrow.Author.Tests.{leb-true, le-leb, lt-leb, eqb-true, ne-eqb}
 use Rattle.topic.specs.Classes.{between, classOf, isHexDigit}
-use Rattle.segment_source.specs.Digits.{hexDigitValue, hexDigitOf}
-use Rattle.segment_source.proofs.TestLaws.{and-both, cond-first, cond-second}
+use Rattle.digits.specs.Digits.{hexDigitValue, hexDigitOf}
+use Rattle.digits.proofs.TestLaws.{and-both, cond-first, cond-second}
 
 -- ---- the bytes of a class
 

@@ -18,11 +18,11 @@ use lib.Seq.{drop-cons}
 use lib.Dec.{eqb}
 use borrow.Author.Tests.{lt-ltb, le-ltb, eq-eqb, eqb-true, ne-eqb}
 use Rattle.topic.specs.Classes.{isDigit, isHexDigit}
-use Rattle.segment_source.specs.declared.digits.Number.the-variants.{Is, None}
-use Rattle.segment_source.specs.Digits.{every, allDigits, allHexDigits, valueFrom, digitValue, hexDigitValue, decimalValue, hexValue}
-use Rattle.segment_source.specs.Digits.{isHexWord, isSegmentId, hexWord, segmentIdOf}
-use Rattle.segment_source.proofs.TestLaws.{and-both, cond-first, cond-second}
-use Rattle.segment_source.proofs.ClassLaws.{hex-value-bound}
+use Rattle.digits.specs.declared.Number.the-variants.{Is, None}
+use Rattle.digits.specs.Digits.{every, allDigits, allHexDigits, valueFrom, digitValue, hexDigitValue, decimalValue, hexValue}
+use Rattle.digits.specs.Digits.{isHexWord, isSegmentId, hexWord, segmentIdOf}
+use Rattle.digits.proofs.TestLaws.{and-both, cond-first, cond-second}
+use Rattle.digits.proofs.ClassLaws.{hex-value-bound}
 
 -- ---- a loop over digits
 

@@ -7,8 +7,8 @@ use lib.ListN.{length, getD}
 use lib.Dec.{ltb, eqb}
 use Rattle.topic.specs.Classes.{isDigit, isHexDigit}
 use Rattle.topic.specs.Parents.{nonEmpty}
-use Rattle.segment_source.specs.declared.digits.Number.{Number}
-use Rattle.segment_source.specs.declared.digits.Number.the-variants as number
+use Rattle.digits.specs.declared.Number.{Number}
+use Rattle.digits.specs.declared.Number.the-variants as number
 
 -- every byte passes the test
 unfoldable pub every : (ℕ → Bool) → List ℕ → Bool

@@ -8,12 +8,12 @@ use mathlib.Core.Bool.{true}
 use lib.ListN.{getD}
 use borrow.Author.Needs.{needs}
 use Rattle.topic.specs.Classes.{isHexDigit}
-use Rattle.segment_source.specs.Digits.{hexDigitValue}
-use Rattle.segment_source.proofs.ClassLaws.{hex-16, hex-not-16}
-use Rattle.segment_source.proofs.DigitLaws.{Reading, reading-start, reading-other, reading-next, reading-end}
-use Rattle.segment_source.proofs.DigitLaws.{word-next, word-length, word-other, word-is}
-use Rattle.segment_source.proofs.digits.hex_word.Statement.{statement}
-use Rattle.segment_source.proofs.digits.hex_word.Tie as tie
+use Rattle.digits.specs.Digits.{hexDigitValue}
+use Rattle.digits.proofs.ClassLaws.{hex-16, hex-not-16}
+use Rattle.digits.proofs.DigitLaws.{Reading, reading-start, reading-other, reading-next, reading-end}
+use Rattle.digits.proofs.DigitLaws.{word-next, word-length, word-other, word-is}
+use Rattle.digits.proofs.hex_word.Statement.{statement}
+use Rattle.digits.proofs.hex_word.Tie as tie
 
 abbrev Inv-loop : tie.InvT-loop
 Inv-loop s v₀ i₀ v i = Reading isHexDigit 16 hexDigitValue s i v × (v < 16 ^ i)

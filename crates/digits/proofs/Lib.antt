@@ -1,0 +1,4 @@
+pub mod TestLaws
+pub mod ClassLaws
+pub mod DigitLaws
+pub mod NumeralLaws
