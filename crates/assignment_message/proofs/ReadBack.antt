@@ -16,7 +16,7 @@ use lib.ListN.{length}
 use lib.Dec.{leb}
 use Rattle.ranges.specs.Meaning.{both-true}
 use Rattle.utf8.specs.Table.{isUtf8}
-use Rattle.topic.specs.Parents.{isParent, pathOf}
+use Rattle.parents.specs.Parents.{isParent, pathOf}
 use Rattle.wire.specs.Fields.{Field, fieldsOf}
 use Rattle.schema.specs.declared.MessageKind.the-variants.{CommandScalableTopicAssignmentUpdate, CommandScalableTopicSubscribeResponse}
 use Rattle.schema.specs.declared.Checked.the-variants.{Valid}

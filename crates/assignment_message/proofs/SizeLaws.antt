@@ -13,7 +13,7 @@ use lib.Dec.{leb}
 use borrow.Author.Tests.{leb-true}
 use Rattle.types.specs.declared.KeyRange.{KeyRange}
 use Rattle.ranges.specs.Meaning.{both-true}
-use Rattle.topic.specs.Parents.{pathOf}
+use Rattle.parents.specs.Parents.{pathOf}
 use Rattle.topic.proofs.NameLaws.{descriptor-short, segmentTopic-length}
 use Rattle.wire_writer.specs.Encode.{varintBytes, numberKey, partKey, numberField, partHead, partField}
 use Rattle.wire_writer.proofs.EncodeLaws.{length-varint-le}

@@ -19,7 +19,7 @@ use Rattle.ranges.specs.Meaning.{both-true}
 use Rattle.utf8.specs.Table.{Span, table, within, fits, sequenceIn, sequenceOf, textAfter, isUtf8}
 use Rattle.utf8.proofs.RowLaws.{lead, lead-row, sequence-le}
 use Rattle.utf8.proofs.TextLaws.{text-end, plain-next}
-use Rattle.topic.specs.Parents.{topicScheme, isPath, isParent, pathOf}
+use Rattle.parents.specs.Parents.{topicScheme, isPath, isParent, pathOf}
 use Rattle.topic.specs.Names.{segmentScheme, hexDigit, hex4, decimalWithin, decimal, descriptor, segmentTopic}
 use Rattle.keyed.proofs.KeyedLaws.{choose}
 use Rattle.content.proofs.EachLaws.{Each, each-append}

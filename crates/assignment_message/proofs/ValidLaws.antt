@@ -9,7 +9,7 @@ use mathlib.Core.Bool.{true, false}
 use mathlib.Core.List.{List, [], _∷_, map}
 use lib.ListN.{length}
 use Rattle.types.specs.declared.KeyRange.{KeyRange}
-use Rattle.topic.specs.Parents.{pathOf}
+use Rattle.parents.specs.Parents.{pathOf}
 use Rattle.schema.specs.declared.MessageKind.{MessageKind}
 use Rattle.schema.specs.declared.MessageKind.the-variants.{ScalableConsumerAssignment, ScalableAssignedSegment, IntRange}
 use Rattle.schema.specs.declared.ValueKind.the-variants as value

@@ -22,7 +22,7 @@ use Rattle.parts.proofs.SameLaws.{same-refl}
 use Rattle.ranges.specs.Meaning.{both-true}
 use Rattle.ranges.specs.Overlap.{anyOverlap}
 use Rattle.utf8.specs.Table.{isUtf8}
-use Rattle.topic.specs.Parents.{isParent, pathOf}
+use Rattle.parents.specs.Parents.{isParent, pathOf}
 use Rattle.topic.specs.Names.{segmentTopic}
 use Rattle.wire.specs.Fields.{Field}
 use Rattle.values.specs.Values.{numbersOf, partsOf}

@@ -24,7 +24,7 @@ use Rattle.refusal.specs.declared.Refusal.{Refusal}
 use Rattle.refusal.specs.declared.Refusal.the-variants.{InvalidBucketRange, OverlappingBucketRanges, InvalidParent, AttachmentMismatch}
 use Rattle.ranges.specs.Overlap.{anyOverlap}
 use Rattle.parts.specs.Same.{sameBytes}
-use Rattle.topic.specs.Parents.{isParent}
+use Rattle.parents.specs.Parents.{isParent}
 use Rattle.readers.specs.declared.IntRange.{IntRange}
 use Rattle.readers.specs.Messages.{WireSegment}
 use Rattle.keyed.specs.Keyed.{orElse}

@@ -19,7 +19,7 @@ use Rattle.refusal.specs.declared.Refusal.the-variants.{InvalidRange, InvalidBu
 use Rattle.refusal.specs.declared.Refusal.the-variants.{InvalidParent, AttachmentMismatch, DuplicateSegment, AssignmentTooLong}
 use Rattle.parts.specs.Same.{sameBytes}
 use Rattle.ranges.specs.Overlap.{anyOverlap}
-use Rattle.topic.specs.Parents.{isParent, pathOf}
+use Rattle.parents.specs.Parents.{isParent, pathOf}
 use Rattle.topic.specs.Names.{segmentTopic}
 use Rattle.readers.specs.declared.IntRange.{IntRange}
 use Rattle.readers.specs.Messages.{WireSegment, WireAssignment}

@@ -9,8 +9,8 @@ use Rattle.refusal.specs.declared.Refusal.the-variants.{InvalidBucketRange, Ove
 use Rattle.refusal.specs.declared.Refusal.the-variants.{DuplicateSegment, AssignmentTooLong}
 use Rattle.ranges.specs.Overlap.{overlapsAny, anyOverlap}
 use Rattle.parts.specs.Same.{sameBytes, startsWith}
-use Rattle.topic.specs.Classes.{classOf}
-use Rattle.topic.specs.Parents.{topicScheme, beforeSlash, behindSlash, clean, isPath, isParent, pathOf}
+use Rattle.parents.specs.Classes.{classOf}
+use Rattle.parents.specs.Parents.{topicScheme, beforeSlash, behindSlash, clean, isPath, isParent, pathOf}
 use Rattle.topic.specs.Names.{hex4, decimalWithin, decimal, descriptor, segmentTopic}
 use Rattle.readers.specs.declared.IntRange.{IntRange}
 use Rattle.readers.specs.Messages.{WireSegment}

@@ -10,7 +10,7 @@ use mathlib.Core.Path.{_≡_, refl}
 use mathlib.Core.Bool.{Bool, true, false, cond, and-false, true≢false}
 use lib.Dec.{leb, eqb}
 use borrow.Author.Tests.{leb-true, le-leb, lt-leb, eqb-true, ne-eqb}
-use Rattle.topic.specs.Classes.{between, classOf, isHexDigit}
+use Rattle.parents.specs.Classes.{between, classOf, isHexDigit}
 use Rattle.digits.specs.Digits.{hexDigitValue, hexDigitOf}
 use Rattle.digits.proofs.TestLaws.{and-both, cond-first, cond-second}
 

@@ -17,7 +17,7 @@ use lib.ListN.{length, drop, getD, drop-of-length-le}
 use lib.Seq.{drop-cons}
 use lib.Dec.{eqb}
 use borrow.Author.Tests.{lt-ltb, le-ltb, eq-eqb, eqb-true, ne-eqb}
-use Rattle.topic.specs.Classes.{isDigit, isHexDigit}
+use Rattle.parents.specs.Classes.{isDigit, isHexDigit}
 use Rattle.digits.specs.declared.Number.the-variants.{Is, None}
 use Rattle.digits.specs.Digits.{every, allDigits, allHexDigits, valueFrom, digitValue, hexDigitValue, decimalValue, hexValue}
 use Rattle.digits.specs.Digits.{isHexWord, isSegmentId, hexWord, segmentIdOf}

@@ -14,8 +14,8 @@ use mathlib.Core.List.{List, [], _∷_, _++_, append-assoc, append-nil}
 use lib.ListN.{length, getD, length-append, List·getD-append}
 use lib.Dec.{ltb, eqb}
 use borrow.Author.Tests.{lt-ltb, le-ltb, ltb-true, ltb-false, eqb-true, eq-eqb, ne-eqb}
-use Rattle.topic.specs.Classes.{classOf, isDigit, isHexDigit}
-use Rattle.topic.specs.Parents.{nonEmpty}
+use Rattle.parents.specs.Classes.{classOf, isDigit, isHexDigit}
+use Rattle.parents.specs.Parents.{nonEmpty}
 use Rattle.topic.specs.Names.{hexDigit, hex4, decimalWithin, decimal}
 use Rattle.topic.proofs.NameLaws.{decimal-end, digits-fewer, decimal-nonempty}
 use Rattle.digits.specs.declared.Number.the-variants.{Is}

@@ -5,8 +5,8 @@ use mathlib.Core.Bool.{Bool, true, cond, not, _&&_, _||_}
 use mathlib.Core.List.{List, [], _∷_}
 use lib.ListN.{length, getD}
 use lib.Dec.{ltb, eqb}
-use Rattle.topic.specs.Classes.{isDigit, isHexDigit}
-use Rattle.topic.specs.Parents.{nonEmpty}
+use Rattle.parents.specs.Classes.{isDigit, isHexDigit}
+use Rattle.parents.specs.Parents.{nonEmpty}
 use Rattle.digits.specs.declared.Number.{Number}
 use Rattle.digits.specs.declared.Number.the-variants as number
 

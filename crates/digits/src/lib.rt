@@ -1,9 +1,9 @@
 // Numbers in a descriptor: four hexadecimal digits, or a decimal id.
 ghost use mathlib.Core.Path.{_≡_};
 ghost use Rattle.digits.specs.Digits.{hexDigitOf, hexWord, segmentIdOf};
-use topic::DIGIT;
-use topic::HEX_LETTER;
-use topic::class_of;
+use parents::DIGIT;
+use parents::HEX_LETTER;
+use parents::class_of;
 
 // What a part of a descriptor is.
 pub enum Number {

@@ -11,7 +11,7 @@ use lib.Dec.{eqb, ltb, leb}
 use Rattle.types.specs.declared.KeyRange.{KeyRange}
 use Rattle.types.specs.declared.KeyRangeError.{KeyRangeError}
 use Rattle.types.specs.declared.SegmentId.{SegmentId}
-use Rattle.topic.specs.Parents.{topicScheme}
+use Rattle.parents.specs.Parents.{topicScheme}
 use Rattle.topic.specs.Names.{segmentScheme, hex4, decimal}
 use Rattle.digits.specs.Digits.{decimalValue, hexValue}
 use Rattle.magnetar.specs.Result.{Result, Ok, Err, _>>=_, map-err, ok-or}

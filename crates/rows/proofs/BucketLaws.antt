@@ -16,8 +16,8 @@ use Rattle.parts.specs.Same.{sameBytes, startsWith}
 use Rattle.parts.proofs.SameLaws.{same-refl}
 use Rattle.ranges.specs.Overlap.{risingFrom, anyOverlap}
 use Rattle.ranges.proofs.OverlapLaws.{rising-apart}
-use Rattle.topic.specs.Classes.{classOf}
-use Rattle.topic.specs.Parents.{beforeSlash, behindSlash, clean, isPath, isParent}
+use Rattle.parents.specs.Classes.{classOf}
+use Rattle.parents.specs.Parents.{beforeSlash, behindSlash, clean, isPath, isParent}
 use Rattle.readers.specs.Messages.{WireSegment, WireAssignment}
 use Rattle.packed.specs.Assignment.{ConsumerAssignment, slotSize, sizeAssignment}
 use Rattle.packed.specs.Rows.{half, ofThree, points, bucketed}

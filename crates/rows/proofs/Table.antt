@@ -6,8 +6,8 @@ use Rattle.types.specs.KeyRanges.{newKeyRange}
 use Rattle.ranges.specs.Overlap.{anyOverlap}
 use Rattle.parts.specs.Same.{sameBytes, startsWith}
 use Rattle.utf8.specs.Table.{table, fits, sequenceIn, sequenceOf, textAfter, isUtf8}
-use Rattle.topic.specs.Classes.{classOf}
-use Rattle.topic.specs.Parents.{beforeSlash, behindSlash, clean, isPath, isParent}
+use Rattle.parents.specs.Classes.{classOf}
+use Rattle.parents.specs.Parents.{beforeSlash, behindSlash, clean, isPath, isParent}
 use Rattle.topic.specs.Names.{hex4, decimalWithin, decimal, descriptor, segmentTopic}
 use Rattle.wire.specs.Varints.{varintOf}
 use Rattle.wire.specs.Field.{keyOf, numberOf, partOf}

@@ -12,7 +12,7 @@ use Rattle.types.specs.declared.ControllerIncarnation.{ControllerIncarnation}
 use Rattle.types.specs.KeyRanges.{keyRange}
 use Rattle.refusal.specs.declared.Refusal.the-variants.{OverlappingBucketRanges, InvalidParent, AssignmentTooLong}
 use Rattle.refusal.specs.declared.Refusal.the-variants.{StaleEpoch, PreBaselineBufferFull}
-use Rattle.topic.specs.Parents.{topicScheme, isParent}
+use Rattle.parents.specs.Parents.{topicScheme, isParent}
 use Rattle.schema.specs.declared.MessageKind.the-variants.{CommandScalableTopicAssignmentUpdate}
 use Rattle.schema.specs.declared.Checked.the-variants.{Valid}
 use Rattle.schema.specs.FirstFault.{firstFault}

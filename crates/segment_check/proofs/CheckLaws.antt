@@ -21,7 +21,7 @@ use Rattle.refusal.specs.declared.Refusal.{Refusal}
 use Rattle.refusal.specs.declared.Refusal.the-variants.{InvalidRange, InvalidBucketRange, OverlappingBucketRanges}
 use Rattle.refusal.specs.declared.Refusal.the-variants.{InvalidParent, AttachmentMismatch}
 use Rattle.ranges.specs.Overlap.{anyOverlap}
-use Rattle.topic.specs.Parents.{isParent}
+use Rattle.parents.specs.Parents.{isParent}
 use Rattle.topic.specs.Names.{segmentTopic}
 use Rattle.keyed.specs.Keyed.{orElse}
 use Rattle.readers.specs.declared.SegmentHead.{SegmentHead}

@@ -2,7 +2,7 @@
 //
 // The segment comes with the walk over it (segment_scan), which has tested its buckets one by one; `good` says that the parent is one.
 ghost use mathlib.Core.Path.{_≡_};
-ghost use Rattle.topic.specs.Parents.{isParent};
+ghost use Rattle.parents.specs.Parents.{isParent};
 ghost use Rattle.keyed.specs.Keyed.{orElse};
 ghost use Rattle.readers.specs.Messages.{segmentOf};
 ghost use Rattle.readers.specs.Places.{SegmentIs};

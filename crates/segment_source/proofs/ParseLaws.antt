@@ -27,8 +27,8 @@ use Rattle.parts.proofs.SameLaws.{starts-long}
 use Rattle.packed_int.specs.Put.{put}
 use Rattle.packed_int.proofs.PutLaws.{put-after}
 use Rattle.utf8.specs.Table.{isUtf8}
-use Rattle.topic.specs.Classes.{classOf}
-use Rattle.topic.specs.Parents.{topicScheme, isPath}
+use Rattle.parents.specs.Classes.{classOf}
+use Rattle.parents.specs.Parents.{topicScheme, isPath}
 use Rattle.topic.specs.Names.{segmentScheme}
 use Rattle.topic.specs.declared.NameAnswer.the-variants.{Written}
 use Rattle.topic.specs.Build.{outcome, refuse, written}

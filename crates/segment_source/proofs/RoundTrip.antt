@@ -19,8 +19,8 @@ use Rattle.types.specs.KeyRanges.{maxHash, keyRange}
 use Rattle.types.proofs.KeyRangeLaws.{new-valid, valid-new}
 use Rattle.parts.specs.Same.{startsWith}
 use Rattle.parts.proofs.SameLaws.{same-refl, same-eq}
-use Rattle.topic.specs.Classes.{classOf, isSlash, isDash, isDigit, isHexDigit}
-use Rattle.topic.specs.Parents.{nonEmpty, isPath}
+use Rattle.parents.specs.Classes.{classOf, isSlash, isDash, isDigit, isHexDigit}
+use Rattle.parents.specs.Parents.{nonEmpty, isPath}
 use Rattle.topic.specs.Names.{segmentScheme, hex4, decimal, descriptor, segmentTopic}
 use Rattle.segment_source.specs.declared.Slash.the-variants.{At}
 use Rattle.segment_source.specs.declared.Parsed.the-variants.{Name}

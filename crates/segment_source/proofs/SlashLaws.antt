@@ -11,7 +11,7 @@ use mathlib.Core.List.{List, [], _∷_}
 use lib.ListN.{length, take, drop, getD}
 use lib.Seq.{drop-cons, drop-length, length-take-le}
 use borrow.Author.Tests.{eq-eqb, ne-eqb}
-use Rattle.topic.specs.Classes.{classOf, isSlash}
+use Rattle.parents.specs.Classes.{classOf, isSlash}
 use Rattle.segment_source.specs.declared.Slash.the-variants.{At, Nothing}
 use Rattle.segment_source.specs.Parse.{hasSlash, beforeLast, lastSlash}
 use Rattle.digits.proofs.TestLaws.{cond-first, cond-second}

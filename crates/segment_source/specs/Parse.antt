@@ -15,8 +15,8 @@ use Rattle.types.specs.KeyRanges.{newKeyRange}
 use Rattle.refusal.specs.declared.Refusal.the-variants.{InvalidUtf8, InvalidKeyRange, InvalidParent, InvalidSegment, SegmentIdMismatch}
 use Rattle.parts.specs.Same.{startsWith}
 use Rattle.utf8.specs.Table.{isUtf8}
-use Rattle.topic.specs.Classes.{isSlash, isDash}
-use Rattle.topic.specs.Parents.{topicScheme, isPath}
+use Rattle.parents.specs.Classes.{isSlash, isDash}
+use Rattle.parents.specs.Parents.{topicScheme, isPath}
 use Rattle.topic.specs.Names.{segmentScheme}
 use Rattle.topic.specs.Build.{Outcome, refuse, written}
 use Rattle.digits.specs.Digits.{decimalValue, hexValue, isHexWord, isSegmentId}

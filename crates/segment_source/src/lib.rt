@@ -7,11 +7,11 @@ ghost use Rattle.segment_source.specs.Parse.{lastSlash, descriptorStage,
 use digits::Number;
 use digits::hex_word;
 use digits::segment_id;
+use parents::DASH;
+use parents::SLASH;
+use parents::class_of;
 use refusal::Refusal;
-use topic::DASH;
 use topic::NameAnswer;
-use topic::SLASH;
-use topic::class_of;
 use types::KeyRange;
 use types::RangeResult;
 use types::SegmentId;
@@ -92,7 +92,7 @@ fn parse_segment_topic(t: &[u8]) -> Parsed
         return Parsed::Refused(Refusal::InvalidSegment);
     };
     let path_end = 10 + n;
-    if !topic::is_path(&t[10..path_end]) {
+    if !parents::is_path(&t[10..path_end]) {
         return Parsed::Refused(Refusal::InvalidParent);
     }
     parse_descriptor(&t[path_end + 1..], path_end)

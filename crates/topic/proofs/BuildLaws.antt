@@ -20,7 +20,7 @@ use Rattle.packed_int.specs.Put.{put}
 use Rattle.packed_int.proofs.PutLaws.{put-after}
 use Rattle.utf8.specs.Table.{isUtf8}
 use Rattle.topic.specs.declared.NameAnswer.the-variants.{Written}
-use Rattle.topic.specs.Parents.{isParent, pathOf}
+use Rattle.parents.specs.Parents.{isParent, pathOf}
 use Rattle.topic.specs.Names.{segmentScheme, descriptor, segmentTopic}
 use Rattle.topic.specs.Build.{outcome, refuse, written, buildName, canonicalSegmentTopic}
 use Rattle.topic.proofs.NameLaws.{segmentTopic-length}

@@ -1,5 +1,3 @@
-mod Table
-pub mod PathLaws
 pub mod NameLaws
 mod TailLaws
 mod BuildLaws

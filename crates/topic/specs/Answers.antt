@@ -1,21 +1,13 @@
--- What the helpers of src/ answer: a place in a text, and the end of a name in an array.
+-- What the helpers of src/ answer: the end of a name in an array.
 -- Assumes nothing.
-use Prim.Native.Nat.{ℕ, _+_, _-_, _≤_}
+use Prim.Native.Nat.{ℕ, _+_, _≤_}
 use mathlib.Core.Path.{_≡_}
 use mathlib.Core.List.{List, _++_}
 use lib.ListN.{length, drop}
 use Rattle.types.specs.declared.KeyRange.{KeyRange}
 use Rattle.types.specs.declared.SegmentId.{SegmentId}
-use Rattle.topic.specs.Parents.{beforeSlash, behindSlash}
 use Rattle.topic.specs.Names.{decimal, descriptor}
 use Rattle.topic.specs.declared.descriptor.Tail.{Tail}
-
--- r is the place of the first '/' from the place from on, or the end
-pub record SlashAt (s : List ℕ) (from r : ℕ) : Type 0 where
-  pub low : from ≤ r
-  pub high : r ≤ length s
-  pub before : length (beforeSlash (drop from s)) ≡ r - from
-  pub after : behindSlash (drop from s) ≡ drop (r + 1) s
 
 -- the bytes that the array ends with
 abbrev pub tailOf : Tail → List ℕ

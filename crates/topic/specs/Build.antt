@@ -17,7 +17,7 @@ use Rattle.packed_int.specs.Put.{put}
 use Rattle.utf8.specs.Table.{isUtf8}
 use Rattle.topic.specs.declared.NameAnswer.{NameAnswer}
 use Rattle.topic.specs.declared.NameAnswer.the-variants.{Written, Refused}
-use Rattle.topic.specs.Parents.{isParent, pathOf}
+use Rattle.parents.specs.Parents.{isParent, pathOf}
 use Rattle.topic.specs.Names.{segmentTopic}
 
 pub record Outcome : Type 0 where

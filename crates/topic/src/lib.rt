@@ -1,21 +1,13 @@
-// The names of scalable topics and of their segments: parents, and the name of a segment built or compared.
+// The names of segments, built or compared.
 //
-// A name's bytes are sorted into classes by a table. Nothing here owns a text: a name is built into a lent output, or compared piece by piece.
-mod class;
+// Nothing here owns a text: a name is built into a lent output, or compared piece by piece.
 mod descriptor;
-mod parent;
 
 ghost use mathlib.Core.Path.{_≡_};
 ghost use Rattle.parts.specs.Same.{sameBytes};
 ghost use Rattle.topic.specs.Names.{segmentTopic};
 ghost use Rattle.topic.specs.Build.{outcome, written, canonicalSegmentTopic};
-pub use class::DASH;
-pub use class::DIGIT;
-pub use class::HEX_LETTER;
-pub use class::SLASH;
-pub use class::class_of;
-pub use parent::is_parent;
-pub use parent::is_path;
+pub use parents::is_parent;
 use refusal::Refusal;
 use types::KeyRange;
 use types::RangeResult;
@@ -89,7 +81,7 @@ pub fn canonical_segment_topic(
     match KeyRange::new(start, end) {
         RangeResult::Invalid(source) => NameAnswer::Refused(Refusal::InvalidKeyRange { source }),
         RangeResult::Valid(range) => {
-            if parent::is_parent(parent) {
+            if is_parent(parent) {
                 write_segment_topic(&parent[8..], range, id, out)
             } else {
                 NameAnswer::Refused(Refusal::InvalidParent)

@@ -20,7 +20,7 @@ use Rattle.ranges.specs.Meaning.{both-true}
 use Rattle.packed_int.specs.Be.{beAt}
 use Rattle.packed_int.specs.Put.{put}
 use Rattle.topic.specs.Build as build
-use Rattle.topic.specs.Parents.{isParent, pathOf}
+use Rattle.parents.specs.Parents.{isParent, pathOf}
 use Rattle.topic.specs.declared.NameAnswer.{NameAnswer}
 use Rattle.topic.specs.declared.NameAnswer.the-variants as name
 use Rattle.output.specs.declared.WriteAnswer.the-variants.{Written}

@@ -7,7 +7,7 @@ use lib.ListN.{length}
 use lib.Dec.{leb}
 use Rattle.refusal.specs.declared.Refusal.the-variants.{MalformedInput, InvalidUtf8, InvalidParent}
 use Rattle.utf8.specs.Table.{isUtf8}
-use Rattle.topic.specs.Parents.{isParent, pathOf}
+use Rattle.parents.specs.Parents.{isParent, pathOf}
 use Rattle.output.specs.Output.{Outcome, refuse, written}
 use Rattle.packed.specs.Assignment.{AssignedSegment, ConsumerAssignment, assignmentOf, isAssignment}
 use Rattle.assignment_message.specs.Message.{segmentFields, assignmentMessage}

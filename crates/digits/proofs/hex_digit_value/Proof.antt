@@ -3,7 +3,7 @@
 use native.Mathlib.Omega.{arith}
 use mathlib.Core.Path.{_≡_, sym, _∙_}
 use borrow.Author.Needs.{needs}
-use Rattle.topic.specs.Classes.{classOf}
+use Rattle.parents.specs.Classes.{classOf}
 use Rattle.digits.proofs.ClassLaws.{digit-bounds, letter-bounds, hex-digit, hex-letter, hex-other}
 use Rattle.digits.proofs.hex_digit_value.Statement.{statement}
 use Rattle.digits.proofs.hex_digit_value.Tie as tie

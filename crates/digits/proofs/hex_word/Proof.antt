@@ -7,7 +7,7 @@ use mathlib.Core.Path.{_≡_, sym, _∙_}
 use mathlib.Core.Bool.{true}
 use lib.ListN.{getD}
 use borrow.Author.Needs.{needs}
-use Rattle.topic.specs.Classes.{isHexDigit}
+use Rattle.parents.specs.Classes.{isHexDigit}
 use Rattle.digits.specs.Digits.{hexDigitValue}
 use Rattle.digits.proofs.ClassLaws.{hex-16, hex-not-16}
 use Rattle.digits.proofs.DigitLaws.{Reading, reading-start, reading-other, reading-next, reading-end}

@@ -8,7 +8,7 @@ use mathlib.Core.Path.{_≡_, refl, sym, _∙_}
 use lib.ListN.{length, getD}
 use borrow.Author.Needs.{needs}
 use borrow.Author.Tests.{eq-eqb, ne-eqb}
-use Rattle.topic.specs.Classes.{classOf, isDigit}
+use Rattle.parents.specs.Classes.{classOf, isDigit}
 use Rattle.digits.specs.Digits.{digitValue}
 use Rattle.digits.proofs.ClassLaws.{digit-bounds}
 use Rattle.digits.proofs.DigitLaws.{Reading, reading-start, reading-other, reading-next, reading-end}

@@ -6,8 +6,8 @@ use lib.ListN.{length}
 use Prim.Native.Nat.{_≤_}
 use borrow.Author.Tests.{not-true, not-false}
 use borrow.Author.Needs.{needs}
-use Rattle.topic.specs.Parents.{isParent}
-use Rattle.topic.proofs.PathLaws.{parent-long}
+use Rattle.parents.specs.Parents.{isParent}
+use Rattle.parents.proofs.PathLaws.{parent-long}
 use Rattle.topic.proofs.is_segment_topic.Reads as is-segment-topic-reads
 use Rattle.segment_check.proofs.check_name.Reads as reads
 use Rattle.segment_check.proofs.check_name.Lts as lts

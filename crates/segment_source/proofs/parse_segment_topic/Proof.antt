@@ -12,7 +12,7 @@ use Rattle.parts.specs.Same.{startsWith}
 use Rattle.parts.proofs.PartLaws.{rest}
 use Rattle.parts.proofs.SameLaws.{starts-long}
 use Rattle.topic.specs.Names.{segmentScheme}
-use Rattle.topic.specs.Parents.{isPath}
+use Rattle.parents.specs.Parents.{isPath}
 use Rattle.segment_source.specs.declared.Slash.the-variants.{At}
 use Rattle.segment_source.specs.Parse.{lastSlash, descriptorStage}
 use Rattle.segment_source.proofs.ParseLaws.{name-no-scheme, name-no-slash, name-inside, name-no-path, name-descriptor}

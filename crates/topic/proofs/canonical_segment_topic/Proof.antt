@@ -9,7 +9,7 @@ use Rattle.parts.proofs.PartLaws.{rest}
 use Rattle.types.specs.KeyRanges.{newKeyRange}
 use Rattle.types.specs.declared.RangeResult.the-variants.{Valid}
 use Rattle.utf8.specs.Table.{isUtf8}
-use Rattle.topic.proofs.PathLaws.{parent-long}
+use Rattle.parents.proofs.PathLaws.{parent-long}
 use Rattle.topic.proofs.BuildLaws.{canonical-not-utf8, canonical-no-range, canonical-no-parent, canonical-written}
 use Rattle.topic.proofs.canonical_segment_topic.Statement.{statement}
 use Rattle.topic.proofs.canonical_segment_topic.Tie as tie

@@ -7,8 +7,8 @@ use borrow.Author.Needs.{needs}
 use borrow.Author.Tests.{not-true, not-false}
 use Rattle.parts.proofs.PartLaws.{rest}
 use Rattle.utf8.specs.Table.{isUtf8}
-use Rattle.topic.specs.Parents.{isParent}
-use Rattle.topic.proofs.PathLaws.{parent-long}
+use Rattle.parents.specs.Parents.{isParent}
+use Rattle.parents.proofs.PathLaws.{parent-long}
 use Rattle.packed.proofs.AssignmentLaws.{Rest}
 use Rattle.writer.proofs.OutcomeLaws.{Whole, whole-is, whole-rest}
 use Rattle.writer.proofs.OutcomeLaws.{write-malformed, write-empty, write-not-utf8, write-no-parent, write-below}

@@ -6,10 +6,10 @@ use native.Mathlib.Omega.{arith}
 use mathlib.Core.Path.{_≡_, sym, _∙_}
 use lib.ListN.{length}
 use borrow.Author.Needs.{needs}
-use Rattle.topic.specs.Answers.{SlashAt}
-use Rattle.topic.proofs.PathLaws.{slash-here, slash-next, slash-end}
-use Rattle.topic.proofs.parent.slash_from.Statement.{statement}
-use Rattle.topic.proofs.parent.slash_from.Tie as tie
+use Rattle.parents.specs.Parents.{SlashAt}
+use Rattle.parents.proofs.PathLaws.{slash-here, slash-next, slash-end}
+use Rattle.parents.proofs.slash_from.Statement.{statement}
+use Rattle.parents.proofs.slash_from.Tie as tie
 
 abbrev Inv-loop : tie.InvT-loop
 Inv-loop s from i₀ i = (from ≤ i) × (i ≤ length s) × ((r : ℕ) → SlashAt s i r → SlashAt s from r)

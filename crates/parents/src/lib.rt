@@ -1,13 +1,17 @@
-// Parents: `topic://` and a path of tenant, namespace and local name.
+// Parents of names: `topic://` and a path of tenant, namespace and local name. A name's bytes are sorted into classes by a table.
+mod class;
+
 ghost use mathlib.Core.Path.{_≡_};
 ghost use Prim.Native.Nat.{_≤_};
 ghost use lib.ListN.{length, drop};
-ghost use Rattle.topic.specs.Parents.{clean, isPath, isParent};
-ghost use Rattle.topic.specs.Answers.{SlashAt};
-use crate::class::HASH;
-use crate::class::QUESTION;
-use crate::class::SLASH;
-use crate::class::class_of;
+ghost use Rattle.parents.specs.Parents.{clean, isPath, isParent, SlashAt};
+pub use class::DASH;
+pub use class::DIGIT;
+use class::HASH;
+pub use class::HEX_LETTER;
+use class::QUESTION;
+pub use class::SLASH;
+pub use class::class_of;
 
 // The place of the first '/' from a place on, or the end.
 fn slash_from(s: &[u8], from: usize) -> usize

@@ -1,6 +1,6 @@
 // The classes of a name's bytes.
 ghost use mathlib.Core.Path.{_≡_};
-ghost use Rattle.topic.specs.Classes.{classOf};
+ghost use Rattle.parents.specs.Classes.{classOf};
 
 pub const OTHER: u8 = 0;
 

@@ -1,13 +1,14 @@
 -- Parents (01, Names): `topic://` and a path of tenant, namespace and rest, "split at the first two `/`". "All three are non-empty; the rest
 -- does not end in `/` and has no `?` or `#`."
 -- Assumes nothing.
-use Prim.Native.Nat.{ℕ, _-_}
+use Prim.Native.Nat.{ℕ, _+_, _-_, _≤_}
+use mathlib.Core.Path.{_≡_}
 use mathlib.Core.Bool.{Bool, true, cond, not, _&&_}
 use mathlib.Core.List.{List, [], _∷_}
 use lib.ListN.{length, drop, getD}
 use lib.Dec.{ltb}
 use Rattle.parts.specs.Same.{startsWith}
-use Rattle.topic.specs.Classes.{isSlash, isMark}
+use Rattle.parents.specs.Classes.{isSlash, isMark}
 
 -- "topic://"
 abbrev pub topicScheme : List ℕ
@@ -55,3 +56,12 @@ isParent s = startsWith topicScheme s && isPath (drop 8 s)
 -- the path of a parent
 abbrev pub pathOf : List ℕ → List ℕ
 pathOf s = drop 8 s
+
+-- ---- what a helper of src/ answers
+
+-- r is the place of the first '/' from the place from on, or the end
+pub record SlashAt (s : List ℕ) (from r : ℕ) : Type 0 where
+  pub low : from ≤ r
+  pub high : r ≤ length s
+  pub before : length (beforeSlash (drop from s)) ≡ r - from
+  pub after : behindSlash (drop from s) ≡ drop (r + 1) s

@@ -1,10 +1,10 @@
 -- `class_of` meets its contract: the table's 256 entries are the values of `classOf`, which antt computes.
 -- Assumes nothing.
 use borrow.Author.Needs.{needs}
-use Rattle.topic.specs.Classes.{classOf}
-use Rattle.topic.proofs.Table.{values-at}
-use Rattle.topic.proofs.class.class_of.Statement.{statement}
-use Rattle.topic.proofs.class.class_of.Tie as tie
+use Rattle.parents.specs.Classes.{classOf}
+use Rattle.parents.proofs.Table.{values-at}
+use Rattle.parents.proofs.class.class_of.Statement.{statement}
+use Rattle.parents.proofs.class.class_of.Tie as tie
 
 array-read-result : tie.Need-array-read-result
 array-read-result c = search needs

@@ -6,10 +6,10 @@ use mathlib.Core.Logic.{inl, inr}
 use mathlib.Core.Path.{_≡_, refl, sym, _∙_}
 use lib.ListN.{length, drop}
 use borrow.Author.Needs.{needs}
-use Rattle.topic.specs.Parents.{clean}
-use Rattle.topic.proofs.PathLaws.{clean-mark, clean-next, clean-end}
-use Rattle.topic.proofs.parent.is_clean.Statement.{statement}
-use Rattle.topic.proofs.parent.is_clean.Tie as tie
+use Rattle.parents.specs.Parents.{clean}
+use Rattle.parents.proofs.PathLaws.{clean-mark, clean-next, clean-end}
+use Rattle.parents.proofs.is_clean.Statement.{statement}
+use Rattle.parents.proofs.is_clean.Tie as tie
 
 abbrev Inv-loop : tie.InvT-loop
 Inv-loop s from i₀ i = clean (drop from s) ≡ clean (drop i s)

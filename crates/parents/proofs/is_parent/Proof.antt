@@ -7,10 +7,10 @@ use borrow.Author.Needs.{needs}
 use Rattle.parts.specs.Same.{startsWith}
 use Rattle.parts.proofs.PartLaws.{rest}
 use Rattle.parts.proofs.SameLaws.{starts-long}
-use Rattle.topic.specs.Parents.{topicScheme, isPath}
-use Rattle.topic.proofs.PathLaws.{parent-is, parent-not}
-use Rattle.topic.proofs.parent.is_parent.Statement.{statement}
-use Rattle.topic.proofs.parent.is_parent.Tie as tie
+use Rattle.parents.specs.Parents.{topicScheme, isPath}
+use Rattle.parents.proofs.PathLaws.{parent-is, parent-not}
+use Rattle.parents.proofs.is_parent.Statement.{statement}
+use Rattle.parents.proofs.is_parent.Tie as tie
 
 has-scheme : (c : tie.Then1) → startsWith topicScheme (c .before .before .before .before .args .s .now) ≡ true
 has-scheme c = sym (c .before .starts-with .ensures) ∙ c .if1 .taken

@@ -3,10 +3,10 @@
 use native.Mathlib.Omega.{arith}
 use mathlib.Core.Path.{sym, _∙_}
 use borrow.Author.Needs.{needs}
-use Rattle.topic.proofs.PathLaws.{path-no-tenant, path-no-slash, path-no-namespace}
-use Rattle.topic.proofs.PathLaws.{path-no-local-name, path-ends-in-slash, path-clean}
-use Rattle.topic.proofs.parent.is_path.Statement.{statement}
-use Rattle.topic.proofs.parent.is_path.Tie as tie
+use Rattle.parents.proofs.PathLaws.{path-no-tenant, path-no-slash, path-no-namespace}
+use Rattle.parents.proofs.PathLaws.{path-no-local-name, path-ends-in-slash, path-clean}
+use Rattle.parents.proofs.is_path.Statement.{statement}
+use Rattle.parents.proofs.is_path.Tie as tie
 
 slash-from-requires : tie.Need-slash-from-requires
 slash-from-requires c κs = search needs

@@ -17,9 +17,9 @@ use lib.Dec.{ltb}
 use borrow.Author.Tests.{eq-eqb, ne-eqb, lt-ltb, le-ltb}
 use Rattle.parts.specs.Same.{startsWith}
 use Rattle.parts.proofs.SameLaws.{starts-long}
-use Rattle.topic.specs.Classes.{classOf, isSlash, isMark}
-use Rattle.topic.specs.Parents.{beforeSlash, behindSlash, clean, nonEmpty, tenant, isLocalName, isPath, isParent, topicScheme}
-use Rattle.topic.specs.Answers.{SlashAt}
+use Rattle.parents.specs.Classes.{classOf, isSlash, isMark}
+use Rattle.parents.specs.Parents.{beforeSlash, behindSlash, clean, nonEmpty, tenant, isLocalName, isPath, isParent, topicScheme}
+use Rattle.parents.specs.Parents.{SlashAt}
 
 -- ---- a loop over a text, at the place i
 
