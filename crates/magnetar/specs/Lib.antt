@@ -3,3 +3,6 @@ pub mod Text
 pub mod Ranges
 pub mod ConsumerType
 pub mod SegmentTopic
+pub mod Collections
+pub mod Assignment
+pub mod Session

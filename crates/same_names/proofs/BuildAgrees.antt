@@ -11,7 +11,7 @@ use Rattle.types.specs.declared.RangeResult.{RangeResult}
 use Rattle.types.specs.declared.RangeResult.the-variants.{Valid, Invalid}
 use Rattle.types.specs.KeyRanges.{newKeyRange}
 use Rattle.refusal.specs.declared.Refusal.the-variants as refusal
-use Rattle.topic.specs.Parents.{isParent, pathOf}
+use Rattle.parents.specs.Parents.{isParent, pathOf}
 use Rattle.topic.specs.Names.{segmentTopic}
 use Rattle.topic.specs.Build.{Outcome, refuse, written, buildName, canonicalSegmentTopic}
 use Rattle.magnetar.specs.Result.{Result, Ok, Err, _>>=_, map-err}

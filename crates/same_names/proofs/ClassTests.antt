@@ -5,7 +5,7 @@ use mathlib.Core.Path.{_≡_, refl}
 use mathlib.Core.Bool.{Bool, true, false, cond, _||_}
 use lib.Dec.{eqb}
 use borrow.Author.Tests.{eqb-true}
-use Rattle.topic.specs.Classes.{between, classOf, isDigit, isHexDigit, isSlash, isDash, isMark}
+use Rattle.parents.specs.Classes.{between, classOf, isDigit, isHexDigit, isSlash, isDash, isMark}
 use Rattle.magnetar.specs.SegmentTopic.{slash, dash, question, hash, is-ascii-digit, is-hex-byte}
 
 -- the class by the six tests, in their order

@@ -13,11 +13,11 @@ use lib.ListN.{length, take, drop, getD, length-drop, take-append-drop}
 use lib.Seq.{take-at, drop-append-add, getD-at, getD-drop, drop-cons, drop-drop}
 use lib.Dec.{eqb, ltb}
 use borrow.Author.Tests.{eqb-true, ltb-true, ne-eqb, lt-ltb}
-use Rattle.topic.specs.Classes.{classOf, isDash, isDigit, isHexDigit}
-use Rattle.topic.specs.Parents.{nonEmpty}
-use Rattle.segment_source.specs.Digits.{every, allDigits, allHexDigits, decimalValue, hexValue, isHexWord, isSegmentId}
+use Rattle.parents.specs.Classes.{classOf, isDash, isDigit, isHexDigit}
+use Rattle.parents.specs.Parents.{nonEmpty}
+use Rattle.digits.specs.Digits.{every, allDigits, allHexDigits, decimalValue, hexValue, isHexWord, isSegmentId}
 use Rattle.segment_source.specs.Parse.{startPart, endPart, idPart, isDescriptor}
-use Rattle.segment_source.proofs.TestLaws.{and-both}
+use Rattle.digits.proofs.TestLaws.{and-both}
 use Rattle.magnetar.specs.Result.{Result, Ok, Err, _>>=_, ok-or}
 use Rattle.magnetar.specs.Text.{Text, text-eq, contains, starts-with, all-bytes, head-longer, split}
 use Rattle.magnetar.specs.SegmentTopic.{dash, is-ascii-digit, is-hex-byte, parse-canonical-hex-word, is-canonical-decimal, parse-u64}

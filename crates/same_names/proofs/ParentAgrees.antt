@@ -13,8 +13,8 @@ use lib.ListN.{length, take, drop}
 use lib.Dec.{eqb}
 use borrow.Author.Tests.{eq-eqb, ne-eqb, eqb-true, eqb-false, lt-ltb}
 use Rattle.parts.specs.Same.{sameBytes, startsWith}
-use Rattle.topic.specs.Classes.{classOf, isSlash}
-use Rattle.topic.specs.Parents.{topicScheme, beforeSlash, behindSlash, clean, nonEmpty, endsInSlash, isLocalName, isPath, isParent, pathOf}
+use Rattle.parents.specs.Classes.{classOf, isSlash}
+use Rattle.parents.specs.Parents.{topicScheme, beforeSlash, behindSlash, clean, nonEmpty, endsInSlash, isLocalName, isPath, isParent, pathOf}
 use Rattle.topic.specs.Names.{segmentScheme, hex4, decimal, descriptor, segmentTopic}
 use Rattle.segment_source.specs.Parse.{hasSlash}
 use Rattle.magnetar.specs.Result.{Result, Ok, Err, _>>=_, ok-or}

@@ -18,10 +18,10 @@ use Rattle.types.specs.declared.RangeResult.the-variants.{Valid, Invalid}
 use Rattle.types.specs.KeyRanges.{newKeyRange}
 use Rattle.refusal.specs.declared.Refusal.the-variants as refusal
 use Rattle.parts.specs.Same.{sameBytes, startsWith}
-use Rattle.topic.specs.Parents.{topicScheme, isPath, isParent}
+use Rattle.parents.specs.Parents.{topicScheme, isPath, isParent}
 use Rattle.topic.specs.Names.{segmentScheme}
 use Rattle.segment_source.specs.declared.Parsed.the-variants as parsed
-use Rattle.segment_source.specs.Digits.{decimalValue, hexValue, isHexWord, isSegmentId}
+use Rattle.digits.specs.Digits.{decimalValue, hexValue, isHexWord, isSegmentId}
 use Rattle.segment_source.specs.Parse.{hasSlash, beforeLast, startPart, endPart, idPart, isDescriptor}
 use Rattle.segment_source.specs.Parse.{rangeStage, descriptorStage, parentStage, parseSegmentTopic}
 use Rattle.segment_source.proofs.SlashLaws.{before-last-take}

@@ -18,7 +18,7 @@ use Rattle.refusal.specs.declared.Refusal.{Refusal}
 use Rattle.refusal.specs.declared.Refusal.the-variants as refusal
 use Rattle.parts.specs.Same.{startsWith}
 use Rattle.parts.proofs.SameLaws.{same-eq}
-use Rattle.topic.specs.Parents.{topicScheme}
+use Rattle.parents.specs.Parents.{topicScheme}
 use Rattle.topic.specs.Names.{segmentScheme}
 use Rattle.topic.specs.Build.{written}
 use Rattle.segment_source.specs.declared.Parsed.{Parsed}

@@ -30,7 +30,7 @@ use Rattle.key_range.specs.Calls.{lengthOf, containsOf, containsRangeOf, isAdja
 use Rattle.packed_int.specs.Put.{put}
 use Rattle.utf8.specs.Table.{isUtf8}
 use Rattle.topic.specs.declared.NameAnswer.the-variants.{Written}
-use Rattle.topic.specs.Parents.{topicScheme, isParent, pathOf}
+use Rattle.parents.specs.Parents.{topicScheme, isParent, pathOf}
 use Rattle.topic.specs.Names.{segmentTopic}
 use Rattle.topic.specs.Build.{Outcome, outcome, refuse, canonicalSegmentTopic}
 use Rattle.segment_source.specs.declared.Parsed.{Parsed}

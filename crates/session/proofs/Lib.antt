@@ -1,5 +1,5 @@
 pub mod Model
-mod QueueLaws
+pub mod QueueLaws
 pub mod CallLaws
 mod KeptLaws
 pub mod ValueClaim

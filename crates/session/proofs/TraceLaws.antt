@@ -230,7 +230,7 @@ handed-is (replayed place d) out f = ap some (delta-back d out f)
 -- ---- one call
 
 -- the output that a call is lent
-abbrev outOf : Call → List ℕ
+abbrev pub outOf : Call → List ℕ
 outOf (update message incarnation out) = out
 outOf (response message incarnation) = []
 outOf (drain out) = out

@@ -1,0 +1,4 @@
+pub mod Paper
+pub mod Values
+pub mod Demand
+pub mod Runs
