@@ -1,0 +1,155 @@
+/* The exported calls of the port, for C on x86-64 Linux. Link target/staticlib/libexport.a.
+ *
+ * Every call takes any bytes and any numbers. A refusal changes nothing. docs/EXPORTS.md has the tables of answers, refusals and sizes.
+ * A slice is a pointer and a length in bytes; a slice of length 0 still needs a pointer that is not NULL. Slices that are written may not overlap others.
+ */
+#ifndef CUDDREWYN_H
+#define CUDDREWYN_H
+
+#include <stdbool.h>
+#include <stddef.h>
+#include <stdint.h>
+
+#ifdef __cplusplus
+extern "C" {
+#endif
+
+/* Sizes to lend. */
+#define CUDDREWYN_SLOT 2048
+#define CUDDREWYN_MIN_STORE 6144
+#define CUDDREWYN_FULL_STORE 2103296
+#define CUDDREWYN_MIN_OUTPUT 3210
+/* Where the baseline and the list held stand in the store. */
+#define CUDDREWYN_BASELINE 2048
+#define CUDDREWYN_LIST 4096
+
+/* Which answer a reply is. */
+enum {
+    CUDDREWYN_REFUSED = 0,
+    CUDDREWYN_ACCEPTED = 1,
+    CUDDREWYN_UNCHANGED = 2,
+    CUDDREWYN_DELTA = 3,
+    CUDDREWYN_REPLAY = 4,
+    CUDDREWYN_WRITTEN = 5,
+    CUDDREWYN_YES = 6,
+    CUDDREWYN_NO = 7,
+    CUDDREWYN_FOUND = 8
+};
+
+/* A session's own numbers. epoch_floor is 0 where has_floor is false. */
+typedef struct {
+    uint64_t consumer_id;
+    uint64_t incarnation;
+    uint64_t epoch_floor;
+    size_t queue_count;
+    size_t drain_position;
+    bool has_floor;
+    bool registered;
+    bool invalidated;
+} cuddrewyn_record;
+
+/* An answer: which it is, the number of a refusal (0: none), how many values come with it, and these. A value that can be negative is a two's complement. */
+typedef struct {
+    uint8_t answer;
+    uint8_t number;
+    uint8_t count;
+    uint64_t first;
+    uint64_t second;
+    uint64_t third;
+    uint64_t fourth;
+} cuddrewyn_reply;
+
+/* The record behind a call, and the call's answer. Keep state in place of the record that you gave. */
+typedef struct {
+    cuddrewyn_record state;
+    cuddrewyn_reply reply;
+} cuddrewyn_session_reply;
+
+/* A part of a message. */
+typedef struct {
+    size_t start;
+    size_t length;
+} cuddrewyn_part;
+
+/* Opens a session over the store: writes the identity to its first slot. kind is the wire's integer: 1 checkpoint, all else stream.
+ * ACCEPTED; refuses 1 (store below 6,144 bytes), 7 (a text is not UTF-8), 8 (texts above 2,041 bytes together). */
+cuddrewyn_session_reply cuddrewyn_open(uint64_t consumer_id, uint64_t incarnation, const uint8_t *topic, size_t topic_len, const uint8_t *subscription,
+                                       size_t subscription_len, const uint8_t *consumer_name, size_t consumer_name_len, int32_t kind, uint8_t *store,
+                                       size_t store_len);
+
+/* A new link to the controller. Touches no store. ACCEPTED; refuses 25 (not above the old incarnation). */
+cuddrewyn_session_reply cuddrewyn_begin(cuddrewyn_record r, uint64_t incarnation);
+
+/* The controller is not to be trusted any more. Touches no store. ACCEPTED. */
+cuddrewyn_session_reply cuddrewyn_invalidate(cuddrewyn_record r);
+
+/* A push of the controller (CommandScalableTopicAssignmentUpdate). Lend an output of at least 3,210 bytes.
+ * DELTA: first is the delta's length in out; the list held stands in the store at CUDDREWYN_LIST. UNCHANGED: it was queued, or is the list held.
+ * Refuses 1, 2, 22, 3 to 7, 23, 24, 9 to 15, then 26, 28 or 27. */
+cuddrewyn_session_reply cuddrewyn_update(cuddrewyn_record r, uint8_t *store, size_t store_len, const uint8_t *message, size_t message_len,
+                                         uint64_t incarnation, uint8_t *out, size_t out_len);
+
+/* The answer to a registration (CommandScalableTopicSubscribeResponse).
+ * ACCEPTED: the baseline stands in the store at CUDDREWYN_BASELINE; drain until UNCHANGED. Refuses 1, 22, 3 to 7, 23, 16 or 17, 9 to 15, 26, 27. */
+cuddrewyn_session_reply cuddrewyn_response(cuddrewyn_record r, uint8_t *store, size_t store_len, const uint8_t *message, size_t message_len,
+                                           uint64_t incarnation);
+
+/* The next push of the queue that differs from the one before. Lend an output of at least 3,210 bytes.
+ * REPLAY: first is the byte place of the list in the store, second the delta's length in out. UNCHANGED: none is left. Refuses 1, 2, 22. */
+cuddrewyn_session_reply cuddrewyn_drain(cuddrewyn_record r, const uint8_t *store, size_t store_len, uint8_t *out, size_t out_len);
+
+/* Whether the store was opened with these texts and this kind. YES or NO; refuses 1, 22 (the identity slot is malformed). */
+cuddrewyn_reply cuddrewyn_matches_registration(const uint8_t *store, size_t store_len, const uint8_t *topic, size_t topic_len,
+                                               const uint8_t *subscription, size_t subscription_len, const uint8_t *consumer_name,
+                                               size_t consumer_name_len, int32_t kind);
+
+/* Where the broker's text stands in a response that was refused with 16; length 0 where there is none. */
+cuddrewyn_part cuddrewyn_response_text(const uint8_t *message, size_t message_len);
+
+/* The list that a delta makes of a list. WRITTEN: first is its length in out. Refuses 20 (list or delta malformed), 15 (above 2,048 bytes), 21 (out too short). */
+cuddrewyn_reply cuddrewyn_apply(const uint8_t *assignment, size_t assignment_len, const uint8_t *delta, size_t delta_len, uint8_t *out, size_t out_len);
+
+/* The delta with the effect of d, then e. WRITTEN: first is its length in out. Refuses 20, 21. */
+cuddrewyn_reply cuddrewyn_join(const uint8_t *d, size_t d_len, const uint8_t *e, size_t e_len, uint8_t *out, size_t out_len);
+
+/* A list as the message ScalableConsumerAssignment. WRITTEN: first is its length in out. Refuses 20; with a segment 7 and 12 (parent); 21. */
+cuddrewyn_reply cuddrewyn_to_pb(const uint8_t *assignment, size_t assignment_len, const uint8_t *parent, size_t parent_len, uint8_t *out, size_t out_len);
+
+/* The name of a segment. WRITTEN: first is its length in out. Refuses 7, 9, 12, 21. */
+cuddrewyn_reply cuddrewyn_segment_topic(const uint8_t *parent, size_t parent_len, uint32_t start, uint32_t end, uint64_t segment_id, uint8_t *out,
+                                        size_t out_len);
+
+/* The range in a segment's name. FOUND: first is the start, second the end. Refuses 7, 18, 12, 18, 9, 19. */
+cuddrewyn_reply cuddrewyn_segment_source(uint64_t segment_id, const uint8_t *topic, size_t topic_len);
+
+/* The parent of a segment's name. WRITTEN: first is its length in out. Refuses as cuddrewyn_segment_source without 19, then 21. */
+cuddrewyn_reply cuddrewyn_parent_topic(const uint8_t *topic, size_t topic_len, uint8_t *out, size_t out_len);
+
+/* How many values a range has. FOUND: first is their number. Refuses 9. */
+cuddrewyn_reply cuddrewyn_range_len(uint32_t start, uint32_t end);
+
+/* Whether a range has a value. YES or NO; refuses 9. */
+cuddrewyn_reply cuddrewyn_range_contains(uint32_t start, uint32_t end, uint32_t hash);
+
+/* Whether a range has every value of another. YES or NO; refuses 9, the first range before the second. */
+cuddrewyn_reply cuddrewyn_range_contains_range(uint32_t start, uint32_t end, uint32_t other_start, uint32_t other_end);
+
+/* Whether one range ends right before the other starts. YES or NO; refuses 9, the first range before the second. */
+cuddrewyn_reply cuddrewyn_range_is_adjacent_to(uint32_t start, uint32_t end, uint32_t other_start, uint32_t other_end);
+
+/* The kind that a wire integer is read as: 1 checkpoint, 0 stream. */
+int32_t cuddrewyn_consumer_type(int32_t value);
+
+/* An update of the topics watch (CommandWatchScalableTopicsUpdate): the set stands in the first `used` bytes of buffer.
+ * WRITTEN: first is the length of the new set, second that of the output. Refuses 30, 3 to 7, 29, 16, 17, 31, 21. */
+cuddrewyn_reply cuddrewyn_watch(uint64_t watch_id, uint8_t *buffer, size_t buffer_len, size_t used, const uint8_t *message, size_t message_len,
+                                uint8_t *out, size_t out_len);
+
+/* Where the broker's text stands in a watch update that was refused with 16; length 0 where there is none. */
+cuddrewyn_part cuddrewyn_watch_text(const uint8_t *message, size_t message_len);
+
+#ifdef __cplusplus
+}
+#endif
+
+#endif

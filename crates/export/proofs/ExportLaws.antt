@@ -1,0 +1,61 @@
+-- What an exported call gives, from what the call under it gives and its answer in numbers: with an output, with a record, an opening, a kind.
+-- Assumes nothing.
+use Prim.Native.Nat.{ℕ}
+use native.Mathlib.Omega.{arith}
+use mathlib.Core.Path.{_≡_, ap, _∙_}
+use mathlib.Core.List.{List}
+use lib.IntN.{ℤ}
+use mir.Syntax.{w32}
+use mir.Val.{SFits, toZ, ofZ}
+use mir.Facts.{toZ-ofZ}
+use Rattle.types.specs.declared.ScalableConsumerType.{ScalableConsumerType}
+use Rattle.types.specs.declared.ScalableConsumerType.the-variants.{Stream, Checkpoint}
+use Rattle.types.specs.ConsumerTypes.{toWire}
+use Rattle.types.specs.declared.ControllerIncarnation.{ControllerIncarnation}
+use Rattle.topic.specs.declared.NameAnswer.{NameAnswer}
+use Rattle.topic.specs.Build as build
+use Rattle.output.specs.declared.WriteAnswer.{WriteAnswer}
+use Rattle.output.specs.Output as output
+use Rattle.session.specs.declared.SessionRecord.{SessionRecord}
+use Rattle.session.specs.declared.Answer.{Answer}
+use Rattle.session.specs.declared.Opened.{Opened}
+use Rattle.session.specs.Calls.{Outcome, OpenOutcome, outcome}
+use Rattle.reply.specs.declared.Reply.{Reply}
+use Rattle.export.specs.declared.SessionReply.{SessionReply}
+use Rattle.export.specs.Exports.{Output, Exported, Opening, writeReply, writeOf, nameReply, nameOf, sessionReply, exportOf, openReply, openOf}
+
+abbrev pub outputs : Reply → List ℕ → Output
+outputs x out = record { reply = x; out = out }
+
+abbrev pub exported : SessionReply → List ℕ → List ℕ → Exported
+exported x store out = record { call = x; store = store; out = out }
+
+abbrev pub opening : SessionReply → List ℕ → Opening
+opening x store = record { call = x; store = store }
+
+pub write-call :
+    {x : Reply} {a : WriteAnswer} {out : List ℕ} {o : output.Outcome} → x ≡ writeReply a → output.outcome a out ≡ o → outputs x out ≡ writeOf o
+write-call {out = out} e f = ap (λ (y : Reply). outputs y out) e ∙ ap writeOf f
+
+pub name-call :
+    {x : Reply} {a : NameAnswer} {out : List ℕ} {o : build.Outcome} → x ≡ nameReply a → build.outcome a out ≡ o → outputs x out ≡ nameOf o
+name-call {out = out} e f = ap (λ (y : Reply). outputs y out) e ∙ ap nameOf f
+
+pub session-call :
+    {x : SessionReply} {a : Answer} {r : SessionRecord} {store out : List ℕ} {o : Outcome} →
+    x ≡ sessionReply a r → outcome a r store out ≡ o → exported x store out ≡ exportOf o
+session-call {store = store} {out = out} e f = ap (λ (y : SessionReply). exported y store out) e ∙ ap exportOf f
+
+pub open-call :
+    (consumer : ℕ) (link : ControllerIncarnation) {x : SessionReply} {a : Opened} {store : List ℕ} {o : OpenOutcome} →
+    x ≡ openReply consumer link a → record { answer = a; store = store } ≡ o → opening x store ≡ openOf consumer link o
+open-call consumer link {store = store} e f = ap (λ (y : SessionReply). opening y store) e ∙ ap (openOf consumer link) f
+
+-- the integer of a kind, as its 32 bits read back
+wire-fits : (k : ScalableConsumerType) → SFits w32 (toWire k)
+unfolding toWire
+wire-fits Stream = record { sfits = omega arith }
+wire-fits Checkpoint = record { sfits = omega arith }
+
+pub kind-call : {z : ℤ} (k : ScalableConsumerType) → z ≡ toWire k → toZ w32 (ofZ w32 z) ≡ toWire k
+kind-call k e = ap (λ (z : ℤ). toZ w32 (ofZ w32 z)) e ∙ toZ-ofZ (wire-fits k)

@@ -1,0 +1,23 @@
+-- `cuddrewyn_consumer_type` meets its contract.
+-- Assumes nothing.
+use mathlib.Core.Path.{ap, _∙_}
+use mir.Facts.{toZ-ofZ}
+use Rattle.types.specs.ConsumerTypes.{toWire, fromWire}
+use Rattle.export.proofs.ExportLaws.{kind-call}
+use borrow.Author.Needs.{needs}
+use Rattle.export.proofs.range_calls.cuddrewyn_consumer_type.Statement.{statement}
+use Rattle.export.proofs.range_calls.cuddrewyn_consumer_type.Tie as tie
+
+from-pb-i32-requires : tie.Need-from-pb-i32-requires
+from-pb-i32-requires c κs = search needs
+
+to-pb-i32-requires : tie.Need-to-pb-i32-requires
+to-pb-i32-requires c κs = search needs
+
+returns : tie.Need-returns
+returns c =
+    let s = c .before .before in
+    kind-call (fromWire (s .args .value)) (c .to-pb-i32 .ensures ∙ ap toWire (rw (toZ-ofZ (s .fits .value)) at (c .before .from-pb-i32 .ensures)))
+
+pub cuddrewyn-consumer-type-spec : {M : Type 1} → statement M
+cuddrewyn-consumer-type-spec = tie.close (tie.spec from-pb-i32-requires to-pb-i32-requires returns)

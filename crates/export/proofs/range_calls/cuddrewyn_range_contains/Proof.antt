@@ -1,0 +1,19 @@
+-- `cuddrewyn_range_contains` meets its contract.
+-- Assumes nothing.
+use mathlib.Core.Path.{ap, _∙_}
+use Rattle.export.specs.Exports.{toldReply}
+use borrow.Author.Needs.{needs}
+use Rattle.export.proofs.range_calls.cuddrewyn_range_contains.Statement.{statement}
+use Rattle.export.proofs.range_calls.cuddrewyn_range_contains.Tie as tie
+
+contains-requires : tie.Need-contains-requires
+contains-requires c κs = search needs
+
+told-reply-requires : tie.Need-told-reply-requires
+told-reply-requires c κs = search needs
+
+returns : tie.Need-returns
+returns c = c .told-reply .ensures ∙ ap toldReply (c .before .contains .ensures)
+
+pub cuddrewyn-range-contains-spec : {M : Type 1} → statement M
+cuddrewyn-range-contains-spec = tie.close (tie.spec contains-requires told-reply-requires returns)

@@ -1,0 +1,32 @@
+-- `told_reply` meets its contract.
+-- Assumes nothing.
+use mathlib.Core.Path.{ap, sym, _∙_}
+use Rattle.export.specs.Exports.{toldReply}
+use borrow.Author.Needs.{needs}
+use Rattle.export.proofs.range_calls.told_reply.Statement.{statement}
+use Rattle.export.proofs.range_calls.told_reply.Tie as tie
+
+enum-known-a : tie.Need-enum-known-a
+enum-known-a c = search needs
+
+test-requires : tie.Need-test-requires
+test-requires c κs = search needs
+
+enum-known-a-2 : tie.Need-enum-known-a-2
+enum-known-a-2 c = search needs
+
+refused-requires : tie.Need-refused-requires
+refused-requires c κs = search needs
+
+returns : tie.Need-returns
+unfolding toldReply
+returns c = c .test .ensures ∙ sym (ap toldReply (c .before .before .a .given .1))
+
+returns-2 : tie.Need-returns-2
+unfolding toldReply
+returns-2 c = c .refused .ensures ∙ sym (ap toldReply (c .before .before .a2 .given .1))
+
+pub told-reply-spec : {M : Type 1} → statement M
+told-reply-spec =
+    tie.close
+    (tie.spec enum-known-a test-requires enum-known-a-2 refused-requires returns returns-2)

@@ -1,0 +1,77 @@
+-- `answer_reply` meets its contract.
+-- Assumes nothing.
+use mathlib.Core.Path.{ap, sym, _∙_}
+use Rattle.export.specs.Exports.{answerReply}
+use borrow.Author.Needs.{needs}
+use Rattle.export.proofs.session_calls.answer_reply.Statement.{statement}
+use Rattle.export.proofs.session_calls.answer_reply.Tie as tie
+
+enum-known-a : tie.Need-enum-known-a
+enum-known-a c = search needs
+
+refused-requires : tie.Need-refused-requires
+refused-requires c κs = search needs
+
+enum-told : tie.Need-enum-told
+enum-told c = search needs
+
+plain-requires : tie.Need-plain-requires
+plain-requires c κs = search needs
+
+enum-told-2 : tie.Need-enum-told-2
+enum-told-2 c = search needs
+
+plain-requires-2 : tie.Need-plain-requires-2
+plain-requires-2 c κs = search needs
+
+enum-known-a-2 : tie.Need-enum-known-a-2
+enum-known-a-2 c = search needs
+
+one-requires : tie.Need-one-requires
+one-requires c κs = search needs
+
+enum-known-a-3 : tie.Need-enum-known-a-3
+enum-known-a-3 c = search needs
+
+two-requires : tie.Need-two-requires
+two-requires c κs = search needs
+
+returns : tie.Need-returns
+unfolding answerReply
+returns c = c .refused .ensures ∙ sym (ap answerReply (c .before .before .a .given .1))
+
+returns-2 : tie.Need-returns-2
+unfolding answerReply
+returns-2 c = c .plain .ensures ∙ sym (ap answerReply (c .before .enum-told .given .1))
+
+returns-3 : tie.Need-returns-3
+unfolding answerReply
+returns-3 c = c .plain2 .ensures ∙ sym (ap answerReply (c .before .enum-told2 .given .1))
+
+returns-4 : tie.Need-returns-4
+unfolding answerReply
+returns-4 c = c .one .ensures ∙ sym (ap answerReply (c .before .before .a2 .given .1))
+
+returns-5 : tie.Need-returns-5
+unfolding answerReply
+returns-5 c = c .two .ensures ∙ sym (ap answerReply (c .before .before .a3 .given .1))
+
+pub answer-reply-spec : {M : Type 1} → statement M
+answer-reply-spec =
+    tie.close
+    (tie.spec
+    enum-known-a
+    refused-requires
+    enum-told
+    plain-requires
+    enum-told-2
+    plain-requires-2
+    enum-known-a-2
+    one-requires
+    enum-known-a-3
+    two-requires
+    returns
+    returns-2
+    returns-3
+    returns-4
+    returns-5)

@@ -1,0 +1,17 @@
+-- `floor_of` meets its contract.
+-- Assumes nothing.
+use mathlib.Core.Path.{ap, sym}
+use mathlib.Core.Bool.{Bool}
+use Rattle.export.specs.Exports.{floorOf}
+use borrow.Author.Needs.{needs}
+use Rattle.export.proofs.session_calls.floor_of.Statement.{statement}
+use Rattle.export.proofs.session_calls.floor_of.Tie as tie
+
+returns : tie.Need-returns
+returns c = ap (λ (b : Bool). floorOf b (c .before .args .floor)) (sym (c .if1 .taken))
+
+returns-2 : tie.Need-returns-2
+returns-2 c = search needs
+
+pub floor-of-spec : {M : Type 1} → statement M
+floor-of-spec = tie.close (tie.spec returns returns-2)

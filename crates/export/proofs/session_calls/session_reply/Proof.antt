@@ -1,0 +1,17 @@
+-- `session_reply` meets its contract.
+-- Assumes nothing.
+use borrow.Author.Needs.{needs}
+use Rattle.export.proofs.session_calls.session_reply.Statement.{statement}
+use Rattle.export.proofs.session_calls.session_reply.Tie as tie
+
+export-record-requires : tie.Need-export-record-requires
+export-record-requires c κs = search needs
+
+answer-reply-requires : tie.Need-answer-reply-requires
+answer-reply-requires c κs = search needs
+
+returns : tie.Need-returns
+returns c = cc
+
+pub session-reply-spec : {M : Type 1} → statement M
+session-reply-spec = tie.close (tie.spec export-record-requires answer-reply-requires returns)

@@ -1,0 +1,72 @@
+// `KeyRange` calls, and the consumer's kind.
+ghost use mathlib.Core.Path.{_≡_};
+ghost use Rattle.types.specs.ConsumerTypes.{fromWire, toWire};
+ghost use Rattle.key_range.specs.Calls.{lengthOf, containsOf, containsRangeOf, isAdjacentOf};
+ghost use Rattle.export.specs.Exports.{lengthReply, toldReply};
+use key_range::LengthAnswer;
+use key_range::TestAnswer;
+use reply::Reply;
+use types::ScalableConsumerType;
+
+fn told_reply(a: TestAnswer) -> Reply
+    ensures { λ x. ⌜ x ≡ toldReply a ⌝ }
+{
+    match a {
+        TestAnswer::Told(b) => reply::test(b),
+        TestAnswer::Refused(x) => reply::refused(x),
+    }
+}
+
+// How many values a range has: `KeyRange::len`.
+#[no_mangle]
+pub extern "C" fn cuddrewyn_range_len(start: u32, end: u32) -> Reply
+    ensures { λ x. ⌜ x ≡ lengthReply (lengthOf start end) ⌝ }
+{
+    match key_range::len(start, end) {
+        LengthAnswer::Length(n) => reply::one(reply::FOUND, n as u64),
+        LengthAnswer::Refused(x) => reply::refused(x),
+    }
+}
+
+// Whether a range has a value: `KeyRange::contains`.
+#[no_mangle]
+pub extern "C" fn cuddrewyn_range_contains(start: u32, end: u32, hash: u32) -> Reply
+    ensures { λ x. ⌜ x ≡ toldReply (containsOf start end hash) ⌝ }
+{
+    told_reply(key_range::contains(start, end, hash))
+}
+
+// Whether a range has every value of another: `KeyRange::contains_range`.
+#[no_mangle]
+pub extern "C" fn cuddrewyn_range_contains_range(
+    start: u32,
+    end: u32,
+    other_start: u32,
+    other_end: u32,
+) -> Reply
+    ensures { λ x. ⌜ x ≡ toldReply (containsRangeOf start end «other_start» «other_end») ⌝ }
+{
+    told_reply(key_range::contains_range(start, end, other_start, other_end))
+}
+
+// Whether one range ends right before the other starts: `KeyRange::is_adjacent_to`.
+#[no_mangle]
+pub extern "C" fn cuddrewyn_range_is_adjacent_to(
+    start: u32,
+    end: u32,
+    other_start: u32,
+    other_end: u32,
+) -> Reply
+    ensures { λ x. ⌜ x ≡ toldReply (isAdjacentOf start end «other_start» «other_end») ⌝ }
+{
+    told_reply(key_range::is_adjacent_to(start, end, other_start, other_end))
+}
+
+// The kind of an integer of the wire, as the integer of a known kind: `ScalableConsumerType::from_pb_i32`, then `to_pb_i32`.
+#[no_mangle]
+pub extern "C" fn cuddrewyn_consumer_type(value: i32) -> i32
+    ensures { λ x. ⌜ x ≡ toWire (fromWire value) ⌝ }
+{
+    let kind = ScalableConsumerType::from_pb_i32(value);
+    kind.to_pb_i32()
+}

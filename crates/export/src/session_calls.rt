@@ -1,0 +1,275 @@
+// The calls of a session.
+ghost use mathlib.Core.Path.{_≡_};
+ghost use mathlib.Core.List.{List};
+ghost use Prim.Native.Nat.{ℕ};
+ghost use Rattle.types.specs.ConsumerTypes.{fromWire};
+ghost use Rattle.readers.specs.Messages.{responseOf};
+ghost use Rattle.session.specs.Link.{beginOf, invalidateOf};
+ghost use Rattle.session.specs.Calls.{updateOutcome, responseOutcome, drainOutcome, openOutcome, matchOf};
+ghost use Rattle.values.specs.Values.{lastPart, partsOf};
+ghost use Rattle.wire.specs.Fields.{fieldsOf};
+ghost use Rattle.export.specs.Exports.{floorOf, hasFloor, recordOf, exportRecord, answerReply, matchReply, sessionReply, changedReply};
+ghost use Rattle.export.specs.Exports.{exportOf, openReply, openOf, PartIs};
+use crate::Part;
+use crate::Record;
+use crate::SessionReply;
+use reply::Reply;
+use session::Answer;
+use session::Floor;
+use session::Match;
+use session::Opened;
+use session::SessionRecord;
+use types::ControllerIncarnation;
+use types::ScalableConsumerType;
+use values::PartStep;
+
+fn floor_of(any: bool, floor: u64) -> Floor
+    ensures { λ x. ⌜ x ≡ floorOf any floor ⌝ }
+{
+    if any { Floor::At(floor) } else { Floor::Unset }
+}
+
+fn record_of(r: Record) -> SessionRecord
+    ensures { λ x. ⌜ x ≡ recordOf r ⌝ }
+{
+    let epoch_floor = floor_of(r.has_floor, r.epoch_floor);
+    SessionRecord {
+        consumer_id: r.consumer_id,
+        incarnation: ControllerIncarnation(r.incarnation),
+        registered: r.registered,
+        invalidated: r.invalidated,
+        epoch_floor,
+        queue_count: r.queue_count,
+        drain_position: r.drain_position,
+    }
+}
+
+fn has_floor(floor: Floor) -> bool
+    ensures { λ x. ⌜ x ≡ hasFloor floor ⌝ }
+{
+    match floor {
+        Floor::Unset => false,
+        Floor::At(_) => true,
+    }
+}
+
+fn export_record(r: SessionRecord) -> Record
+    ensures { λ x. ⌜ x ≡ exportRecord r ⌝ }
+{
+    let link = r.incarnation;
+    let floor = r.epoch_floor;
+    Record {
+        consumer_id: r.consumer_id,
+        incarnation: link.0,
+        epoch_floor: session_record::floor_value(floor),
+        queue_count: r.queue_count,
+        drain_position: r.drain_position,
+        has_floor: has_floor(floor),
+        registered: r.registered,
+        invalidated: r.invalidated,
+    }
+}
+
+fn answer_reply(a: Answer) -> Reply
+    ensures { λ x. ⌜ x ≡ answerReply a ⌝ }
+{
+    match a {
+        Answer::Refused(x) => reply::refused(x),
+        Answer::Accepted => reply::plain(reply::ACCEPTED),
+        Answer::Unchanged => reply::plain(reply::UNCHANGED),
+        Answer::Delta(n) => reply::one(reply::DELTA, n as u64),
+        Answer::Replay(place, n) => reply::two(reply::REPLAY, place as u64, n as u64),
+    }
+}
+
+fn session_reply(a: Answer, next: SessionRecord) -> SessionReply
+    ensures { λ x. ⌜ x ≡ sessionReply a next ⌝ }
+{
+    let state = export_record(next);
+    let reply = answer_reply(a);
+    SessionReply { state, reply }
+}
+
+// Opens a session over the store: `ScalableConsumerSession::new`. The kind is the integer of the wire.
+#[no_mangle]
+pub extern "C" fn cuddrewyn_open(
+    consumer_id: u64,
+    incarnation: u64,
+    topic: &[u8],
+    subscription: &[u8],
+    consumer_name: &[u8],
+    kind: i32,
+    store: &mut [u8],
+) -> SessionReply
+    ensures { λ x. ⌜ record { call = x; store = now (store .exit) } ≡ openOf «consumer_id» (record { 0 = incarnation })
+        (openOutcome «consumer_id» (record { 0 = incarnation })
+        (record {
+          topic = now (topic .entry);
+          subscription = now (subscription .entry);
+          consumerName = now («consumer_name» .entry);
+          consumerType = fromWire kind;
+        }) (now (store .entry))) ⌝ }
+{
+    let link = ControllerIncarnation(incarnation);
+    let kind = ScalableConsumerType::from_pb_i32(kind);
+    let o = session_open::open(
+        consumer_id,
+        link,
+        topic,
+        subscription,
+        consumer_name,
+        kind,
+        store,
+    );
+    open_reply(consumer_id, link, o)
+}
+
+fn open_reply(consumer_id: u64, incarnation: ControllerIncarnation, o: Opened) -> SessionReply
+    ensures { λ x. ⌜ x ≡ openReply «consumer_id» incarnation o ⌝ }
+{
+    match o {
+        Opened::Session(r) => session_reply(Answer::Accepted, r),
+        Opened::Refused(x) => session_reply(
+            Answer::Refused(x),
+            SessionRecord {
+                consumer_id,
+                incarnation,
+                registered: false,
+                invalidated: false,
+                epoch_floor: Floor::Unset,
+                queue_count: 0,
+                drain_position: 0,
+            },
+        ),
+    }
+}
+
+// A new link to the controller: `begin_incarnation`.
+#[no_mangle]
+pub extern "C" fn cuddrewyn_begin(r: Record, incarnation: u64) -> SessionReply
+    ensures { λ x. ⌜ x ≡ changedReply (beginOf (recordOf r) (record { 0 = incarnation })) ⌝ }
+{
+    let old = record_of(r);
+    let begun = session_link::begun(old, ControllerIncarnation(incarnation));
+    let answer = begun.answer;
+    session_reply(answer, begun.next)
+}
+
+// The controller is not to be trusted any more: `invalidate_authority`.
+#[no_mangle]
+pub extern "C" fn cuddrewyn_invalidate(r: Record) -> SessionReply
+    ensures { λ x. ⌜ x ≡ changedReply (invalidateOf (recordOf r)) ⌝ }
+{
+    let invalidated = session_link::invalidated(record_of(r));
+    let answer = invalidated.answer;
+    session_reply(answer, invalidated.next)
+}
+
+// A push of the controller: `handle_assignment_update_for`.
+#[no_mangle]
+pub extern "C" fn cuddrewyn_update(
+    r: Record,
+    store: &mut [u8],
+    message: &[u8],
+    incarnation: u64,
+    out: &mut [u8],
+) -> SessionReply
+    ensures { λ x. ⌜ record { call = x; store = now (store .exit); out = now (out .exit) }
+        ≡ exportOf (updateOutcome (recordOf r) (now (store .entry)) (now (message .entry)) (record { 0 = incarnation }) (now (out .entry))) ⌝ }
+{
+    let updated = session_update::updated(
+        record_of(r),
+        store,
+        message,
+        ControllerIncarnation(incarnation),
+        out,
+    );
+    let answer = updated.answer;
+    session_reply(answer, updated.next)
+}
+
+// The answer to a registration: `handle_subscribe_response_for`.
+#[no_mangle]
+pub extern "C" fn cuddrewyn_response(
+    r: Record,
+    store: &mut [u8],
+    message: &[u8],
+    incarnation: u64,
+) -> SessionReply
+    ensures { λ x. ⌜ ((out : List ℕ) → record { call = x; store = now (store .exit); out = out }
+        ≡ exportOf (responseOutcome (recordOf r) (now (store .entry)) (now (message .entry)) (record { 0 = incarnation }) out)) ⌝ }
+{
+    let responded = session_response::responded(
+        record_of(r),
+        store,
+        message,
+        ControllerIncarnation(incarnation),
+    );
+    let answer = responded.answer;
+    session_reply(answer, responded.next)
+}
+
+// The next push of the queue that differs from its predecessor: `take_replayed_updates`, one per call.
+#[no_mangle]
+pub extern "C" fn cuddrewyn_drain(r: Record, store: &[u8], out: &mut [u8]) -> SessionReply
+    ensures { λ x. ⌜ record { call = x; store = now (store .entry); out = now (out .exit) }
+        ≡ exportOf (drainOutcome (recordOf r) (now (store .entry)) (now (out .entry))) ⌝ }
+{
+    let drained = session_drain::drained(record_of(r), store, out);
+    let answer = drained.answer;
+    session_reply(answer, drained.next)
+}
+
+// Whether the store was opened with these texts and this kind: `matches_registration`.
+#[no_mangle]
+pub extern "C" fn cuddrewyn_matches_registration(
+    store: &[u8],
+    topic: &[u8],
+    subscription: &[u8],
+    consumer_name: &[u8],
+    kind: i32,
+) -> Reply
+    ensures { λ x. ⌜ x ≡ matchReply (matchOf (now (store .entry))
+        (record {
+          topic = now (topic .entry);
+          subscription = now (subscription .entry);
+          consumerName = now («consumer_name» .entry);
+          consumerType = fromWire kind;
+        })) ⌝ }
+{
+    let kind = ScalableConsumerType::from_pb_i32(kind);
+    match session_open::matches_registration(store, topic, subscription, consumer_name, kind) {
+        Match::Same => reply::plain(reply::YES),
+        Match::Other => reply::plain(reply::NO),
+        Match::Refused(x) => reply::refused(x),
+    }
+}
+
+// The last part of field n.
+fn last_part(message: &[u8], n: u64) -> Part
+    ensures { λ x. ⌜ PartIs (now (message .entry)) (lastPart (partsOf n (fieldsOf (now (message .entry))))) x ⌝ }
+{
+    let mut at: usize = 0;
+    let mut start: usize = 0;
+    let mut length: usize = 0;
+    loop {
+        match values::next_part(message, at, n) {
+            PartStep::Absent => {
+                return Part { start, length };
+            }
+            PartStep::Found(from, len, next) => {
+                start = from;
+                length = len;
+                at = next;
+            }
+        }
+    }
+}
+
+// Where the broker's text stands in a response that was refused with 16.
+#[no_mangle]
+pub extern "C" fn cuddrewyn_response_text(message: &[u8]) -> Part
+    ensures { λ x. ⌜ PartIs (now (message .entry)) (responseOf (now (message .entry)) .message) x ⌝ }
+{
+    last_part(message, 3)
+}

@@ -1,0 +1,85 @@
+-- The reply of a refusal from its number and its values, and that the refusals which the program answers by one arm have no values.
+-- Assumes nothing.
+use Prim.Native.Nat.{ℕ, _^_, _<_}
+use mathlib.Core.Path.{_≡_, refl, sym, ap, ap₂, _∙_}
+use mathlib.Core.List.{List, [], _∷_}
+use lib.IntN.{ℤ, pos}
+use lib.Signed.{mag}
+use mir.Syntax.{w32}
+use mir.Val.{toZ, ofZ}
+use mir.Facts.{toZ-ofZ}
+use types.Run.{OneOf, miss}
+use denote.Enum.Declared.{tagOf}
+use Rattle.types.specs.declared.SegmentId.{SegmentId}
+use Rattle.refusal.specs.declared.Refusal.{Refusal}
+use Rattle.refusal.proofs.Refusal.{the-type}
+use Rattle.refusal.specs.declared.Refusal.the-variants as refusal
+use Rattle.refusal.specs.Refusals.{numberOf, valuesOf}
+use Rattle.reply.specs.declared.Reply.{Reply}
+use Rattle.reply.specs.Replies.{wordOf, wordAt, replyWith, refusedReply}
+
+-- a refusal's reply, part by part
+abbrev pub plainReply : ℕ → ℕ → ℕ → ℕ → ℕ → ℕ → Reply
+plainReply n count a b d e = record { answer = 0; number = n; count = count; first = a; second = b; third = d; fourth = e }
+
+pub refused-reply : (x : Refusal) {n : ℕ} {vs : List ℤ} → n ≡ numberOf x → valuesOf x ≡ vs → replyWith 0 n vs ≡ refusedReply x
+unfolding refusedReply
+refused-reply x e f = ap₂ (replyWith 0) e (sym f)
+
+-- the word of an integer that the program handed over as its 32 bits
+word-back : {w : ℕ} (v : ℤ) → mag v < 2 ^ 31 → w ≡ wordOf (toZ w32 (ofZ w32 v)) → w ≡ wordOf v
+word-back v h e = e ∙ ap wordOf (toZ-ofZ (record { sfits = h }))
+
+pub broker-reply :
+    {x : Refusal} {n w : ℕ} {code : ℤ} → n ≡ numberOf x → x ≡ refusal.Broker code → mag code < 2 ^ 31 → w ≡ wordOf (toZ w32 (ofZ w32 code)) →
+    plainReply n 1 w 0 0 0 ≡ refusedReply x
+unfolding replyWith wordAt
+broker-reply {x = x} {n = n} {code = code} e f h p =
+    ap (λ (w : ℕ). plainReply n 1 w 0 0 0) (word-back code h p) ∙ refused-reply x e (ap valuesOf f)
+
+pub bucket-reply :
+    {x : Refusal} {n s e index : ℕ} {id : SegmentId} {start end : ℤ} → n ≡ numberOf x → x ≡ refusal.InvalidBucketRange id index start end →
+    mag start < 2 ^ 31 → mag end < 2 ^ 31 → s ≡ wordOf (toZ w32 (ofZ w32 start)) → e ≡ wordOf (toZ w32 (ofZ w32 end)) →
+    plainReply n 4 (id .0) index s e ≡ refusedReply x
+unfolding replyWith wordAt wordOf
+bucket-reply {x = x} {n = n} {index = index} {id = id} {start = start} {end = end} e f h k p q =
+    ap₂ (plainReply n 4 (id .0) index) (word-back start h p) (word-back end k q) ∙ refused-reply x e (ap valuesOf f)
+
+-- the tags of the variants without values
+abbrev bare : List ℕ
+bare = 0 ∷ 1 ∷ 2 ∷ 3 ∷ 4 ∷ 5 ∷ 6 ∷ 7 ∷ 12 ∷ 15 ∷ 19 ∷ 21 ∷ 22 ∷ 23 ∷ 31 ∷ 32 ∷ []
+
+pub no-values : (x : Refusal) → OneOf bare (tagOf the-type x) → valuesOf x ≡ []
+no-values refusal.StoreTooShort h = refl
+no-values refusal.OutputTooShort h = refl
+no-values refusal.InvalidWireFormat h = refl
+no-values refusal.WrongWireType h = refl
+no-values refusal.RepeatedField h = refl
+no-values refusal.MissingField h = refl
+no-values refusal.InvalidUtf8 h = refl
+no-values refusal.IdentityTooLong h = refl
+no-values (refusal.InvalidRange a b) h = absurd (miss bare 8 tt h)
+no-values (refusal.InvalidKeyRange a) h = absurd (miss bare 9 tt h)
+no-values (refusal.InvalidBucketRange a b d e) h = absurd (miss bare 10 tt h)
+no-values (refusal.OverlappingBucketRanges a) h = absurd (miss bare 11 tt h)
+no-values refusal.InvalidParent h = refl
+no-values (refusal.AttachmentMismatch a) h = absurd (miss bare 13 tt h)
+no-values (refusal.DuplicateSegment a) h = absurd (miss bare 14 tt h)
+no-values refusal.AssignmentTooLong h = refl
+no-values (refusal.Broker a) h = absurd (miss bare 16 tt h)
+no-values (refusal.Empty a) h = absurd (miss bare 17 tt h)
+no-values (refusal.EmptyUpdate a) h = absurd (miss bare 18 tt h)
+no-values refusal.InvalidSegment h = refl
+no-values (refusal.SegmentIdMismatch a b) h = absurd (miss bare 20 tt h)
+no-values refusal.MalformedInput h = refl
+no-values refusal.ResultTooLong h = refl
+no-values refusal.MalformedStore h = refl
+no-values (refusal.IncarnationMismatch a b) h = absurd (miss bare 24 tt h)
+no-values (refusal.ConsumerMismatch a b) h = absurd (miss bare 25 tt h)
+no-values (refusal.NonAdvancingIncarnation a b) h = absurd (miss bare 26 tt h)
+no-values (refusal.CrossIncarnationEpochRegression a b) h = absurd (miss bare 27 tt h)
+no-values (refusal.StaleEpoch a b) h = absurd (miss bare 28 tt h)
+no-values (refusal.PreBaselineBufferFull a) h = absurd (miss bare 29 tt h)
+no-values (refusal.WatchMismatch a b) h = absurd (miss bare 30 tt h)
+no-values refusal.MalformedSet h = refl
+no-values refusal.SetTooLong h = refl

@@ -1,0 +1,16 @@
+-- `reply::plain` meets its contract.
+-- Assumes nothing.
+use Rattle.reply.specs.Replies.{replyWith, wordAt}
+use borrow.Author.Needs.{needs}
+use Rattle.reply.proofs.plain.Statement.{statement}
+use Rattle.reply.proofs.plain.Tie as tie
+
+values-requires : tie.Need-values-requires
+values-requires c κs = search needs
+
+returns : tie.Need-returns
+unfolding replyWith wordAt
+returns c = c .values .ensures
+
+pub plain-spec : {M : Type 1} → statement M
+plain-spec = tie.close (tie.spec values-requires returns)

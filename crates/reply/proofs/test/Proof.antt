@@ -1,0 +1,24 @@
+-- `reply::test` meets its contract.
+-- Assumes nothing.
+use mathlib.Core.Path.{ap, sym, _∙_}
+use Rattle.reply.specs.Replies.{testReply}
+use borrow.Author.Needs.{needs}
+use Rattle.reply.proofs.test.Statement.{statement}
+use Rattle.reply.proofs.test.Tie as tie
+
+plain-requires : tie.Need-plain-requires
+plain-requires c κs = search needs
+
+plain-requires-2 : tie.Need-plain-requires-2
+plain-requires-2 c κs = search needs
+
+returns : tie.Need-returns
+unfolding testReply
+returns c = c .plain .ensures ∙ sym (ap testReply (c .before .if1 .taken))
+
+returns-2 : tie.Need-returns-2
+unfolding testReply
+returns-2 c = c .plain2 .ensures ∙ sym (ap testReply (c .before .if1 .left))
+
+pub test-spec : {M : Type 1} → statement M
+test-spec = tie.close (tie.spec plain-requires plain-requires-2 returns returns-2)
