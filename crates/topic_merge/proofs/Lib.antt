@@ -1,0 +1,3 @@
+pub mod MoveLaws
+pub mod TakeLaws
+pub mod MergeLaws

@@ -1,0 +1,66 @@
+-- `topic_merge::move_down` meets its contract. The invariant is `Lowered` of proofs/MoveLaws; the measure is what is left to move.
+-- Assumes nothing.
+use Prim.Native.Nat.{_-_}
+use native.Mathlib.Omega.{arith}
+use Rattle.topic_merge.proofs.MoveLaws.{Lowered, down-start, down-turn, down-end}
+use Rattle.topic_merge.proofs.move_down.Statement.{statement}
+use Rattle.topic_merge.proofs.move_down.Tie as tie
+
+abbrev Inv-loop : tie.InvT-loop
+Inv-loop b₀ from to z i₀ b i = Lowered b₀ from to z b i
+
+abbrev μ-loop : tie.MeasureT-loop
+μ-loop b₀ from to z i₀ b i = z - i
+
+loop-holds : tie.Need-loop-holds Inv-loop μ-loop
+loop-holds c = let a = c .args in down-start (a .b .now) (a .from) (a .to) (a .z)
+
+add-v : tie.Need-add-v Inv-loop μ-loop
+add-v c = omega arith
+
+slice-read-v : tie.Need-slice-read-v Inv-loop μ-loop
+slice-read-v c = omega arith
+
+add-b : tie.Need-add-b Inv-loop μ-loop
+add-b c = omega arith
+
+slice-write-b : tie.Need-slice-write-b Inv-loop μ-loop
+slice-write-b c = omega arith
+
+add-i : tie.Need-add-i Inv-loop μ-loop
+add-i c = omega arith
+
+loop-less : tie.Need-loop-less Inv-loop μ-loop
+loop-less c = omega arith
+
+loop-again : tie.Need-loop-again Inv-loop μ-loop
+loop-again c =
+    let l = c .before .before in
+    let a = l .before .args in
+    down-turn (a .b .now) (a .from) (a .to) (a .z) (l .loop .b) (l .loop .i) (l .loop .inv) (omega arith) (omega arith) (omega arith)
+
+same-length : tie.Need-same-length Inv-loop μ-loop
+same-length c = c .before .loop .inv .long
+
+returns : tie.Need-returns Inv-loop μ-loop
+returns c =
+    let l = c .before in
+    let a = l .before .args in
+    down-end (a .b .now) (a .from) (a .to) (a .z) (l .loop .b) (l .loop .i) (l .loop .inv) (omega arith)
+
+pub move-down-spec : {M : Type 1} → statement M
+move-down-spec =
+    tie.close
+    (tie.spec
+    Inv-loop
+    μ-loop
+    loop-holds
+    add-v
+    slice-read-v
+    add-b
+    slice-write-b
+    add-i
+    loop-less
+    loop-again
+    same-length
+    returns)

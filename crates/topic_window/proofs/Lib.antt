@@ -1,0 +1,10 @@
+mod SeatLaws
+mod PlacedLaws
+mod LowestLaws
+mod WindowLaws
+mod OfferLaws
+mod BoundLaws
+mod FillLaws
+mod MarkLaws
+mod SiftLaws
+mod BatchLaws

@@ -1,0 +1,3 @@
+pub mod Window
+pub mod Lists
+pub mod Steps

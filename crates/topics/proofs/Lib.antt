@@ -1,0 +1,6 @@
+pub mod OrderLaws
+pub mod SetLaws
+pub mod EachLaws
+pub mod PackedLaws
+pub mod PlaceLaws
+pub mod WalkLaws

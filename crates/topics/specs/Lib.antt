@@ -1,0 +1,3 @@
+pub mod Topics
+pub mod Alike
+pub mod Packed

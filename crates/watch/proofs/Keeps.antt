@@ -1,0 +1,225 @@
+-- An accepted update leaves a set: the bytes of the answered length at the front of the buffer are a packed set again.
+--
+-- In order: a rising list of short UTF-8 topics is a set (`set-of`); what a message without a fault says of its topics (`named-utf8`) and of its event
+-- (`event-valid`); the law (`leaves-a-set`).
+-- Assumes nothing.
+use Prim.Native.Nat.{ℕ, _^_}
+use native.Mathlib.Omega.{arith}
+use mathlib.Core.Path.{_≡_, refl, sym, ap, _∙_, subst}
+use mathlib.Core.Bool.{Bool, true, false, cond, not, _&&_}
+use mathlib.Core.List.{List, [], _∷_}
+use lib.ListN.{length, take}
+use lib.Dec.{leb, ltb, eqb}
+use borrow.Author.Tests.{eqb-true}
+use Rattle.parts.proofs.PartLaws.{Bytes, Bytes-take}
+use Rattle.refusal.specs.declared.Refusal.{Refusal}
+use Rattle.refusal.specs.declared.Refusal.the-variants.{InvalidWireFormat, WrongWireType, RepeatedField, InvalidUtf8, MalformedSet, WatchMismatch, SetTooLong, ResultTooLong}
+use Rattle.packed_int.specs.Put.{put}
+use Rattle.utf8.specs.Table.{isUtf8}
+use Rattle.wire.specs.declared.WireType.{WireType}
+use Rattle.wire.specs.Fields.{Content, number, bytes, fixed, cut, Field, badKey, field, fieldsOf}
+use Rattle.schema.specs.declared.MessageKind.{MessageKind}
+use Rattle.schema.specs.declared.MessageKind.the-variants.{CommandWatchScalableTopicsUpdate, ScalableTopicsSnapshot, ScalableTopicsDiff}
+use Rattle.schema.specs.declared.ValueKind.{ValueKind}
+use Rattle.schema.specs.declared.ValueKind.the-variants as value
+use Rattle.schema.specs.declared.FieldRule.{FieldRule}
+use Rattle.schema.specs.declared.Checked.{Checked}
+use Rattle.schema.specs.declared.Checked.the-variants.{Valid, Refused}
+use Rattle.schema.specs.Schema.{ruleFor, fitsWire}
+use Rattle.schema.specs.FirstFault.{elem, note, first, checkValue, checkField, checkFields, faultWithin, firstFault}
+use Rattle.values.specs.Values.{partsOf}
+use Rattle.readers.specs.Messages.{WireEvent, none, snapshot, diff, eventBy, eventAfter, eventOf, WireWatchUpdate, watchUpdateOf}
+use Rattle.keyed.proofs.KeyedLaws.{choose}
+use Rattle.topics.specs.Topics.{has, rising, allShort}
+use Rattle.topics.specs.Packed.{topicsOf, isWhole, allUtf8, encodeTopics, sizeTopics, isSet}
+use Rattle.topics.proofs.SetLaws.{both-true, both, rising-insertAll, rising-sorted}
+use Rattle.topics.proofs.EachLaws.{short-insertAll, short-parts, utf8-insertAll, utf8-filter}
+use Rattle.topics.proofs.PackedLaws.{length-encode, read-back, whole-back, read-short}
+use Rattle.topic_window.specs.Lists.{namedIn, kept}
+use Rattle.watch.specs.declared.WatchAnswer.the-variants as answer
+use Rattle.watch.specs.Watch.{Change, Outcome, snapshotChange, snapshotIn, diffChange, diffIn, noEvent, refuse, settle, byEvent, forWatch, whenChecked, handleUpdate}
+use Rattle.watch.proofs.ListLaws.{rising-kept, short-kept}
+use Rattle.watch.proofs.SettleLaws.{set-whole}
+use Rattle.watch.proofs.WriteLaws.{take-front}
+
+-- ---- a list that is a set
+
+set-of : (l : List (List ℕ)) → rising l ≡ true → allUtf8 l ≡ true → allShort l ≡ true → isSet (encodeTopics l) ≡ true
+unfolding isSet
+set-of l r u s = rw (whole-back l s, read-back l s) (both (allUtf8 l) (rising l) u r)
+
+set-utf8 : (l : List ℕ) → isSet l ≡ true → allUtf8 (topicsOf l) ≡ true
+unfolding isSet
+set-utf8 l g =
+    both-true (allUtf8 (topicsOf l)) (rising (topicsOf l)) (both-true (isWhole l) (allUtf8 (topicsOf l) && rising (topicsOf l)) g .1) .0
+
+utf8-kept : (old removed : List (List ℕ)) → allUtf8 old ≡ true → allUtf8 (kept old removed) ≡ true
+unfolding kept
+utf8-kept old removed u = utf8-filter (λ t. not (has t removed)) old u
+
+-- ---- a message without a fault
+
+abbrev update : MessageKind
+update = CommandWatchScalableTopicsUpdate
+
+refused-valid : (x : Refusal) → Refused x ≡ Valid → ⊥
+refused-valid x e = let z : _≡_ {A = ℕ} 0 1 = cc in omega arith
+
+first-left : (a b : Checked) → first a b ≡ Valid → a ≡ Valid
+first-left Valid b e = refl
+first-left (Refused x) b e = absurd (refused-valid x e)
+
+first-right : (a b : Checked) → first a b ≡ Valid → b ≡ Valid
+first-right Valid b e = e
+first-right (Refused x) b e = absurd (refused-valid x e)
+
+module _ (inner : MessageKind → List ℕ → Checked) where
+  value-valid : (r : FieldRule) (seen : List ℕ) (w : WireType) (c : Content) → checkField inner r seen w c ≡ Valid → checkValue inner (r .value) c ≡ Valid
+  value-valid r seen w c e = go (fitsWire (r .value) w) (elem seen (r .slot)) e
+    where
+      go : (a b : Bool) → cond a (cond b (Refused RepeatedField) (checkValue inner (r .value) c)) (Refused WrongWireType) ≡ Valid
+          → checkValue inner (r .value) c ≡ Valid
+      go true true f = absurd (refused-valid RepeatedField f)
+      go true false f = f
+      go false b f = absurd (refused-valid WrongWireType f)
+
+  text-valid : (l : List ℕ) → checkValue inner value.Text (bytes l) ≡ Valid → isUtf8 l ≡ true
+  text-valid l e = go (isUtf8 l) e
+    where
+      go : (b : Bool) → cond b Valid (Refused InvalidUtf8) ≡ Valid → b ≡ true
+      go true f = refl
+      go false f = absurd (refused-valid InvalidUtf8 f)
+
+  module _ (k : MessageKind) where
+    -- the field at the front has no fault, and neither have those behind it
+    head-valid : (seen : List ℕ) (f : ℕ) (w : WireType) (c : Content) (fs : List Field)
+        → checkFields inner k seen (field f w c ∷ fs) ≡ Valid → checkValue inner (ruleFor k f .value) c ≡ Valid
+    head-valid seen f w c fs e = value-valid (ruleFor k f) seen w c (first-left (checkField inner (ruleFor k f) seen w c) _ e)
+
+    tail-valid : (seen : List ℕ) (f : ℕ) (w : WireType) (c : Content) (fs : List Field)
+        → checkFields inner k seen (field f w c ∷ fs) ≡ Valid → checkFields inner k (note (ruleFor k f .slot) seen) fs ≡ Valid
+    tail-valid seen f w c fs e = first-right (checkField inner (ruleFor k f) seen w c) _ e
+
+    -- a part of field n has no fault by the rule of that field
+    rule-valid : (n : ℕ) (v : ValueKind) → ruleFor k n .value ≡ v → (seen : List ℕ) (f : ℕ) (w : WireType) (l : List ℕ) (fs : List Field)
+        → eqb f n ≡ true → checkFields inner k seen (field f w (bytes l) ∷ fs) ≡ Valid → checkValue inner v (bytes l) ≡ Valid
+    rule-valid n v t seen f w l fs q e =
+        subst (λ (x : ValueKind). checkValue inner x (bytes l) ≡ Valid) (ap (λ (m : ℕ). ruleFor k m .value) (eqb-true f n q) ∙ t)
+        (head-valid seen f w (bytes l) fs e)
+
+    -- the parts of a field whose values are texts
+    parts-utf8 : (n : ℕ) → ruleFor k n .value ≡ value.Text → (seen : List ℕ) (fs : List Field) → checkFields inner k seen fs ≡ Valid
+        → allUtf8 (partsOf n fs) ≡ true
+    unfolding allUtf8
+    parts-utf8 n t seen [] e = refl
+    parts-utf8 n t seen (badKey ∷ fs) e = absurd (refused-valid InvalidWireFormat e)
+    parts-utf8 n t seen (field f w (number v) ∷ fs) e = parts-utf8 n t (note (ruleFor k f .slot) seen) fs (tail-valid seen f w (number v) fs e)
+    parts-utf8 n t seen (field f w fixed ∷ fs) e = parts-utf8 n t (note (ruleFor k f .slot) seen) fs (tail-valid seen f w fixed fs e)
+    parts-utf8 n t seen (field f w cut ∷ fs) e = parts-utf8 n t (note (ruleFor k f .slot) seen) fs (tail-valid seen f w cut fs e)
+    parts-utf8 n t seen (field f w (bytes l) ∷ fs) e =
+        let i = parts-utf8 n t (note (ruleFor k f .slot) seen) fs (tail-valid seen f w (bytes l) fs e) in
+        choose (λ (x : List (List ℕ)). allUtf8 x ≡ true) (eqb f n) {x = l ∷ partsOf n fs} {y = partsOf n fs}
+        (λ q. both (isUtf8 l) (allUtf8 (partsOf n fs)) (text-valid l (rule-valid n value.Text t seen f w l fs q e)) i) (λ q. i)
+
+-- ---- the topics of an event
+
+abbrev EventValid : WireEvent → Type 0
+EventValid none = Unit {0}
+EventValid (snapshot p) = faultWithin 1 ScalableTopicsSnapshot p ≡ Valid
+EventValid (diff p) = faultWithin 1 ScalableTopicsDiff p ≡ Valid
+
+event-valid : (e : WireEvent) (seen : List ℕ) (fs : List Field) → EventValid e
+    → checkFields (faultWithin 1) CommandWatchScalableTopicsUpdate seen fs ≡ Valid → EventValid (eventAfter e fs)
+unfolding ruleFor
+event-valid e seen [] h q = h
+event-valid e seen (badKey ∷ fs) h q = absurd (refused-valid InvalidWireFormat q)
+event-valid e seen (field f w (number v) ∷ fs) h q = event-valid e _ fs h (tail-valid (faultWithin 1) update seen f w (number v) fs q)
+event-valid e seen (field f w fixed ∷ fs) h q = event-valid e _ fs h (tail-valid (faultWithin 1) update seen f w fixed fs q)
+event-valid e seen (field f w cut ∷ fs) h q = event-valid e _ fs h (tail-valid (faultWithin 1) update seen f w cut fs q)
+event-valid e seen (field f w (bytes p) ∷ fs) h q =
+    event-valid (eventBy e f p) _ fs
+    (choose EventValid (eqb f 2) (λ i. rule-valid (faultWithin 1) update 2 (value.Message ScalableTopicsSnapshot) refl seen f w p fs i q)
+    (λ _. choose EventValid (eqb f 3) (λ i. rule-valid (faultWithin 1) update 3 (value.Message ScalableTopicsDiff) refl seen f w p fs i q) (λ _. h)))
+    (tail-valid (faultWithin 1) update seen f w (bytes p) fs q)
+
+snapshot-utf8 : (p : List ℕ) → EventValid (snapshot p) → allUtf8 (namedIn 1 p) ≡ true
+unfolding ruleFor
+snapshot-utf8 p e = parts-utf8 (faultWithin 0) ScalableTopicsSnapshot 1 refl [] (fieldsOf p) e
+
+diff-utf8 : (p : List ℕ) → EventValid (diff p) → allUtf8 (namedIn 1 p) ≡ true
+unfolding ruleFor
+diff-utf8 p e = parts-utf8 (faultWithin 0) ScalableTopicsDiff 1 refl [] (fieldsOf p) e
+
+-- ---- the law
+
+-- where the outcome is a change, the new set's bytes are a set
+abbrev Leaves : Outcome → Type 0
+Leaves o = (a b : ℕ) → o .answer ≡ answer.Changed a b → isSet (take a (o .buffer)) ≡ true
+
+module _ (buffer out : List ℕ) where
+  refused : (x : Refusal) → Leaves (refuse buffer out x)
+  refused x a b e = let z : _≡_ {A = ℕ} 0 1 = cc in absurd (omega arith)
+
+  settled : (c : Change) → rising (c .topics) ≡ true → allUtf8 (c .topics) ≡ true → (allShort (c .named) ≡ true → allShort (c .topics) ≡ true)
+      → Leaves (settle buffer out c)
+  unfolding settle
+  settled c r u s =
+      choose Leaves (allShort (c .named) && leb (sizeTopics (c .topics)) (length buffer))
+      (λ e. choose Leaves (ltb (c .added) (2 ^ 32) && leb (length (c .output)) (length out))
+      (λ f a b g. set a b g (s (both-true (allShort (c .named)) (leb (sizeTopics (c .topics)) (length buffer)) e .0)))
+      (λ f. refused ResultTooLong))
+      (λ e. refused SetTooLong)
+    where
+      set : (a b : ℕ) → answer.Changed (sizeTopics (c .topics)) (length (c .output)) ≡ answer.Changed a b → allShort (c .topics) ≡ true
+          → isSet (take a (put buffer 0 (encodeTopics (c .topics)))) ≡ true
+      set a b g t =
+          let h : sizeTopics (c .topics) ≡ a = cc in
+          ap isSet (take-front buffer (encodeTopics (c .topics)) a (sym h ∙ sym (length-encode (c .topics)))) ∙ set-of (c .topics) r u t
+
+  snapshot-leaves : (p : List ℕ) → EventValid (snapshot p) → Leaves (settle buffer out (snapshotIn p))
+  unfolding snapshotChange allUtf8 allShort
+  snapshot-leaves p e =
+      let ts = namedIn 1 p in
+      settled (snapshotIn p) (rising-sorted ts) (utf8-insertAll ts [] (snapshot-utf8 p e) refl) (λ s. short-insertAll ts [] s refl)
+
+  module _ (used : ℕ) (b : Bytes buffer) (g : isSet (take used buffer) ≡ true) where
+    abbrev old : List (List ℕ)
+    old = topicsOf (take used buffer)
+
+    diff-leaves : (p : List ℕ) → EventValid (diff p) → Leaves (settle buffer out (diffIn old p))
+    unfolding diffChange
+    diff-leaves p e =
+        let adds = namedIn 1 p in
+        let removes = namedIn 2 p in
+        let k = kept old removes in
+        let q = set-whole (take used buffer) g in
+        settled (diffIn old p) (rising-insertAll adds k (rising-kept old removes adds (q .1)))
+        (utf8-insertAll adds k (diff-utf8 p e) (utf8-kept old removes (set-utf8 (take used buffer) g)))
+        (λ s. short-insertAll adds k (short-parts adds removes s .0)
+        (short-kept old removes adds (read-short (take used buffer) (Bytes-take used buffer b) (q .0))))
+
+    event-leaves : (u : WireWatchUpdate) (e : WireEvent) → EventValid e → Leaves (byEvent buffer out old u e)
+    unfolding byEvent
+    event-leaves u (snapshot p) h = snapshot-leaves p h
+    event-leaves u (diff p) h = diff-leaves p h
+    event-leaves u none h = refused (noEvent (u .watchId) (u .error))
+
+    valid-leaves : (id : ℕ) (m : List ℕ) → firstFault update m ≡ Valid → Leaves (forWatch buffer out id old (watchUpdateOf m))
+    unfolding firstFault forWatch watchUpdateOf eventOf
+    valid-leaves id m e =
+        let u = watchUpdateOf m in
+        choose Leaves (not (eqb (u .watchId) id)) (λ _. refused (WatchMismatch (u .watchId) id))
+        (λ _. event-leaves u (u .event) (event-valid none [] (fieldsOf m) tt e))
+
+    checked-leaves : (id : ℕ) (m : List ℕ) (c : Checked) → firstFault update m ≡ c → Leaves (whenChecked buffer out id old m c)
+    checked-leaves id m (Refused x) e = refused x
+    checked-leaves id m Valid e = valid-leaves id m e
+
+  -- an accepted update leaves a set
+  pub leaves-a-set : (id used : ℕ) (message : List ℕ) → Bytes buffer → (a b : ℕ) → handleUpdate buffer out id used message .answer ≡ answer.Changed a b
+      → isSet (take a (handleUpdate buffer out id used message .buffer)) ≡ true
+  unfolding handleUpdate
+  leaves-a-set id used message b =
+      choose Leaves (leb used (length buffer) && isSet (take used buffer))
+      (λ e. checked-leaves used b (both-true (leb used (length buffer)) (isSet (take used buffer)) e .1) id message (firstFault update message) refl)
+      (λ e. refused MalformedSet)

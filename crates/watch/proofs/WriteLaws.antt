@@ -1,0 +1,133 @@
+-- What the writes come to, over plain bytes: a snapshot's output, a diff's lists in the output, and its set in the buffer.
+--
+-- In order: a part that is written whole (`put-mid`, `put-prefix`); one list over another (`put-over`); a snapshot (`snapshot-written`); the four writes of a
+-- diff's output (`lists-..`), and the lists read back from it (`output-..`).
+-- Assumes nothing.
+use Prim.Native.Nat.{ℕ, _+_, _-_, _≤_}
+use native.Mathlib.Omega.{arith}
+use mathlib.Core.Path.{_≡_, refl, sym, ap, ap₂, _∙_}
+use mathlib.Core.List.{List, [], _∷_, _++_, append-assoc, append-nil}
+use lib.ListN.{length, take, drop, set, length-append, length-take, length-drop, take-append-drop, drop-of-length-le}
+use lib.Seq.{length-take-le, take-at, drop-at, drop-drop, drop-append-le}
+use borrow.Rule.Slice.PartMut.{putMid}
+use Rattle.packed_int.specs.Be.{bytesOf}
+use Rattle.packed_int.specs.Put.{put}
+use Rattle.packed_int.proofs.BeLaws.{length-bytesOf}
+use Rattle.packed_int.proofs.PutLaws.{length-put, put-one, put-after, put-before, take-put}
+
+-- ---- a part of a slice
+
+-- the n elements from a on, written whole
+pub put-mid : (s : List ℕ) (a n : ℕ) (vs w : List ℕ) → a + n ≤ length s → length vs ≡ n → w ≡ put (take n (drop a s)) 0 vs → putMid a n s w ≡ put s a vs
+unfolding put
+put-mid s a n vs w h e ew =
+    let l : length (take n (drop a s)) ≡ n = length-take-le n (drop a s) (rw length-drop (omega arith)) in
+    let x : drop (0 + length vs) (take n (drop a s)) ≡ [] = drop-of-length-le (take n (drop a s)) {i = 0 + length vs} (omega arith) in
+    let y : w ≡ vs = ew ∙ ap (λ (r : List ℕ). vs ++ r) x ∙ append-nil vs in
+    ap₂ (λ (u r : List ℕ). take a s ++ (u ++ r)) y (drop-drop n a s ∙ ap (λ (i : ℕ). drop (a + i) s) (sym e))
+
+-- the front of a slice is written, up to n elements of it
+pub put-prefix : (b : List ℕ) (n : ℕ) (vs r : List ℕ) → length vs ≤ n → n ≤ length b → r ≡ put (take n b) 0 vs → r ++ drop n b ≡ put b 0 vs
+unfolding put
+put-prefix b n vs r h k er =
+    let i : ℕ = 0 + length vs in
+    let l : length (take n b) ≡ n = length-take-le n b k in
+    let d : drop i (take n b) ++ drop n b ≡ drop i b =
+    sym (drop-append-le i (take n b) (drop n b) (omega arith)) ∙ ap (drop i) (take-append-drop n b) in
+    ap (λ (x : List ℕ). x ++ drop n b) er ∙ append-assoc vs (drop i (take n b)) (drop n b) ∙ ap (λ (x : List ℕ). vs ++ x) d
+
+-- a longer list over a shorter one
+pub put-over : (b A B : List ℕ) → length A ≤ length B → put (put b 0 A) 0 B ≡ put b 0 B
+unfolding put
+put-over b A B h =
+    let a : ℕ = length A in
+    let n : ℕ = length B in
+    let e : 0 + n ≡ a + (n - a) = omega arith in
+    let f : 0 + a + (n - a) ≡ 0 + n = omega arith in
+    ap (λ (r : List ℕ). B ++ r) (
+    ap (λ (i : ℕ). drop i (A ++ drop (0 + a) b)) e ∙ sym (drop-drop (n - a) a (A ++ drop (0 + a) b))
+    ∙ ap (drop (n - a)) (drop-at A (drop (0 + a) b) a refl) ∙ drop-drop (n - a) (0 + a) b ∙ ap (λ (i : ℕ). drop i b) f
+    )
+
+-- the bytes at the front
+pub take-front : (b A : List ℕ) (n : ℕ) → n ≡ length A → take n (put b 0 A) ≡ A
+take-front b A n e = ap (λ (i : ℕ). take i (put b 0 A)) e ∙ take-put b 0 A (omega arith)
+
+-- ---- a snapshot
+
+-- a byte in front of what was written
+front-byte : (o E : List ℕ) (b : ℕ) → 1 + length E ≤ length o → set (put o 1 E) 0 b ≡ put o 0 (b ∷ E)
+front-byte o E b h =
+    let k : length (put o 1 E) ≡ length o = length-put o 1 E h in
+    put-one (put o 1 E) 0 b (omega arith) ∙ put-before o 0 1 (b ∷ []) E (omega arith) h
+
+pub snapshot-written : (buffer out E b w : List ℕ) (n : ℕ) → n ≡ length E → 1 + n ≤ length out → b ≡ put buffer 0 E → w ≡ put out 1 (take n b)
+    → set w 0 0 ≡ put out 0 (0 ∷ E)
+snapshot-written buffer out E b w n en h eb ew =
+    ap (λ (s : List ℕ). set s 0 0) (ew ∙ ap (put out 1) (ap (take n) eb ∙ take-front buffer E n en)) ∙ front-byte out E 0 (omega arith)
+
+-- ---- the output of a diff
+
+module _ (o A R : List ℕ) (z g : ℕ) (ez : z ≡ length A) (eg : g ≡ length R) (h : 5 + z + g ≤ length o) where
+  abbrev at : ℕ
+  at = 5 + z
+
+  pub lists-room : z ≤ length (take (at - 5) (drop 5 o))
+  lists-room = rw (length-take, length-drop) (omega arith)
+
+  module _ (x : List ℕ) (ex : x ≡ put (take (at - 5) (drop 5 o)) 0 A) where
+    abbrev o1 : List ℕ
+    o1 = putMid 5 (at - 5) o x
+
+    first-is : o1 ≡ put o 5 A
+    first-is = put-mid o 5 (at - 5) A x (omega arith) (omega arith) ex
+
+    first-long : length o1 ≡ length o
+    first-long = ap length first-is ∙ length-put o 5 A (omega arith)
+
+    pub lists-room-removed : g ≤ length (take (at + g - at) (drop at o1))
+    lists-room-removed = rw (length-take, length-drop, first-long) (omega arith)
+
+    module _ (y : List ℕ) (ey : y ≡ put (take (at + g - at) (drop at o1)) 0 R) (w : List ℕ) (ew : w ≡ put (putMid at (at + g - at) o1 y) 1 (bytesOf 4 z)) where
+      second-is : putMid at (at + g - at) o1 y ≡ put o 5 (A ++ R)
+      second-is =
+          put-mid o1 at (at + g - at) R y (omega (arith, first-long)) (omega arith) ey
+          ∙ ap₂ (λ (s : List ℕ) (i : ℕ). put s (5 + i) R) first-is ez ∙ put-after o 5 A R (omega arith)
+
+      pub lists-written : set w 0 1 ≡ put o 0 (1 ∷ (bytesOf 4 z ++ (A ++ R)))
+      lists-written =
+          let B : List ℕ = bytesOf 4 z in
+          let lb : length B ≡ 4 = length-bytesOf 4 z in
+          let la : length (A ++ R) ≡ length A + length R = length-append A R in
+          let lc : length (B ++ (A ++ R)) ≡ length B + length (A ++ R) = length-append B (A ++ R) in
+          ap (λ (s : List ℕ). set s 0 1) (ew ∙ ap (λ (s : List ℕ). put s 1 B) second-is ∙ put-before o 1 5 B (A ++ R) (omega arith) (omega arith))
+          ∙ front-byte o (B ++ (A ++ R)) 1 (omega arith)
+
+      pub lists-long : length (set w 0 1) ≡ length o
+      lists-long =
+          let B : List ℕ = bytesOf 4 z in
+          ap length lists-written
+          ∙ length-put o 0 (1 ∷ (B ++ (A ++ R))) (omega (arith, length-bytesOf 4 z, length-append A R, length-append B (A ++ R)))
+
+  -- the lists, read back from the output
+  module _ (w : List ℕ) (ew : w ≡ put o 0 (1 ∷ (bytesOf 4 z ++ (A ++ R)))) where
+    rest-is : drop 5 w ≡ A ++ (R ++ drop (at + g) o)
+    unfolding put
+    rest-is =
+        let B : List ℕ = bytesOf 4 z in
+        let D : List ℕ = drop (0 + length (1 ∷ (B ++ (A ++ R)))) o in
+        let n : 0 + length (1 ∷ (B ++ (A ++ R))) ≡ at + g =
+        omega (arith, length-bytesOf 4 z, length-append A R, length-append B (A ++ R)) in
+        ap (drop 5) ew
+        ∙ ap (drop 4) (append-assoc B (A ++ R) D)
+        ∙ drop-at B ((A ++ R) ++ D) 4 (length-bytesOf 4 z)
+        ∙ append-assoc A R D
+        ∙ ap (λ (i : ℕ). A ++ (R ++ drop i o)) n
+
+    pub output-added : take (at - 5) (drop 5 w) ≡ A
+    output-added = ap (take (at - 5)) rest-is ∙ take-at A (R ++ drop (at + g) o) (at - 5) (omega arith)
+
+    pub output-removed : take (at + g - at) (drop at w) ≡ R
+    output-removed =
+        ap (take (at + g - at)) (sym (drop-drop z 5 w) ∙ ap (drop z) rest-is ∙ drop-at A (R ++ drop (at + g) o) z (sym ez))
+        ∙ take-at R (drop (at + g) o) (at + g - at) (omega arith)

@@ -1,0 +1,109 @@
+-- `watch::handle_update` meets its contract: each return is a case of `handleUpdate`.
+-- Assumes nothing.
+use mathlib.Core.Bool.{true}
+use mathlib.Core.Path.{_≡_, sym, _∙_}
+use lib.Seq.{length-take-le}
+use lib.ListN.{take}
+use borrow.Author.Tests.{not-true, not-false}
+use borrow.Author.Needs.{needs}
+use Rattle.topics.specs.Packed.{isSet}
+use Rattle.watch.proofs.UpdateLaws.{set-over, set-bad, checked}
+use Rattle.watch.proofs.SettleLaws.{tell, tell-as}
+use Rattle.watch.proofs.handle_update.Statement.{statement}
+use Rattle.watch.proofs.handle_update.Tie as tie
+use Rattle.watch.proofs.handle_update.Reads as reads
+use Rattle.watch.proofs.handle_update.Lts as lts
+use Rattle.watch.proofs.update.Reads as update-reads
+use Rattle.messages.proofs.first_fault.Reads as first-fault-reads
+use Rattle.topics.proofs.is_set.Reads as is-set-reads
+
+returns : tie.Need-returns
+returns c = tell _ _ _ _ (set-over _ _ _ _ _ (c .if1 .taken))
+
+abbrev claims : lts.Claims
+claims = (
+  is-set-reads.Asked,
+  is-set-reads.Learnt,
+  first-fault-reads.Asked,
+  first-fault-reads.Learnt,
+  update-reads.Asked,
+  update-reads.Learnt,
+)
+
+-- where the set was found well formed
+abbrev Formed : Type 0
+Formed = lts.Else2 claims reads.Pre reads.Post
+
+abbrev start : Formed → lts.Start claims reads.Pre reads.Post
+start c = c .before .before .before .before .before .before .before
+
+good : (c : Formed) → let a = start c .args in isSet (take (a .used) (a .buffer .now)) ≡ true
+good c = sym (c .before .is-set .ensures) ∙ not-false _ (c .if2 .left)
+
+slice-reshare-prefix-is-set : tie.Need-slice-reshare-prefix-is-set
+slice-reshare-prefix-is-set c = search needs
+
+slice-aggregate-is-set : tie.Need-slice-aggregate-is-set
+slice-aggregate-is-set c = sym (length-take-le _ _ (c .before .if1 .left))
+
+is-set-requires : tie.Need-is-set-requires
+is-set-requires c κs = search needs
+
+same-length : tie.Need-same-length
+same-length c = search needs
+
+returns-2 : tie.Need-returns-2
+returns-2 c = tell _ _ _ _ (set-bad _ _ _ _ _ (sym (c .before .is-set .ensures) ∙ not-true _ (c .if2 .taken)))
+
+first-fault-requires : tie.Need-first-fault-requires
+first-fault-requires c κs = search needs
+
+enum-known-x : tie.Need-enum-known-x
+enum-known-x c = search needs
+
+enum-told : tie.Need-enum-told
+enum-told c = search needs
+
+update-requires : tie.Need-update-requires
+update-requires c κs = let f = c .before .before .before .before .before in (f .before .before .before .if1 .left, good f)
+
+same-length-2 : tie.Need-same-length-2
+same-length-2 c = search needs
+
+returns-3 : tie.Need-returns-3
+returns-3 c = 
+    let f = c .before .before .before .before in
+    let e = sym (c .before .x .given .1) ∙ c .before .before .before .first-fault .ensures in
+    tell _ _ _ _ (checked _ _ _ _ _ (f .before .before .before .if1 .left) (good f) _ e)
+
+same-length-3 : tie.Need-same-length-3
+same-length-3 c = search needs
+
+same-length-4 : tie.Need-same-length-4
+same-length-4 c = search needs
+
+returns-4 : tie.Need-returns-4
+returns-4 c = 
+    let f = c .before .before .before .before .before .before .before .before .before .before in
+    let e = sym (c .before .before .before .before .before .before .before .enum-told .given .1) ∙ c .before .before .before .before .before .before .before .before .before .first-fault .ensures in
+    tell-as _ _ _ _ _ (checked _ _ _ _ _ (f .before .before .before .if1 .left) (good f) _ e) (c .before .before .before .before .update .ensures)
+
+pub handle-update-spec : {M : Type 1} → statement M
+handle-update-spec =
+    tie.close
+    (tie.spec
+    returns
+    slice-reshare-prefix-is-set
+    slice-aggregate-is-set
+    is-set-requires
+    same-length
+    returns-2
+    first-fault-requires
+    enum-known-x
+    enum-told
+    update-requires
+    same-length-2
+    returns-3
+    same-length-3
+    same-length-4
+    returns-4)

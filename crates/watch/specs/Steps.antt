@@ -1,0 +1,21 @@
+-- What is known of a diff where its set and its output are written.
+-- Assumes nothing.
+use Prim.Native.Nat.{ℕ, _+_, _^_, _≤_, _<_}
+use mathlib.Core.Path.{_≡_}
+use mathlib.Core.Bool.{true}
+use mathlib.Core.List.{List}
+use Rattle.topics.specs.Topics.{allShort}
+use Rattle.topics.specs.Packed.{sizeTopics}
+use Rattle.topic_window.specs.declared.Orders.{Orders}
+use Rattle.topic_window.specs.Lists.{namedIn, addedOf, removedOf}
+use Rattle.topic_window.specs.Window.{OrdersOf}
+use Rattle.watch.specs.Watch.{diffIn}
+
+-- the diff of the part p against the set old: its topics are short, its lists take z and gone bytes, and the new set and the output fit the bytes there are for them
+pub record DiffFits (old : List (List ℕ)) (p : List ℕ) (orders : Orders) (z gone setRoom outRoom : ℕ) : Type 0 where
+  pub told : OrdersOf p orders
+  pub shorts : (allShort (namedIn 1 p) ≡ true) × (allShort (namedIn 2 p) ≡ true)
+  pub added : z ≡ sizeTopics (addedOf old (namedIn 2 p) (namedIn 1 p))
+  pub removed : gone ≡ sizeTopics (removedOf old (namedIn 2 p))
+  pub set-fits : sizeTopics (diffIn old p .topics) ≤ setRoom
+  pub out-fits : (z < 2 ^ 32) × (5 + z + gone ≤ outRoom)

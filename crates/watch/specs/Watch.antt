@@ -1,0 +1,116 @@
+-- The topics watch (01, Watch): `ScalableTopicsWatch::handle_update` on a lent set.
+--
+-- "a lent set at the front of its buffer, its byte length given and answered ... A snapshot replaces; a diff removes, then adds." Refused in order: 30, 3 to 7, 29, 16, 17,
+-- 31, 21; a refusal changes nothing.
+-- Assumes nothing.
+use Prim.Native.Nat.{ℕ, _+_, _^_}
+use mathlib.Core.Bool.{Bool, true, cond, not, _&&_}
+use mathlib.Core.List.{List, [], _∷_, _++_}
+use lib.ListN.{length, take}
+use lib.Dec.{leb, ltb, eqb}
+use Rattle.refusal.specs.declared.Refusal.{Refusal}
+use Rattle.refusal.specs.declared.Refusal.the-variants.{MalformedSet, WatchMismatch, Broker, EmptyUpdate, SetTooLong, ResultTooLong}
+use Rattle.packed_int.specs.Be.{bytesOf}
+use Rattle.packed_int.specs.Put.{put}
+use Rattle.schema.specs.declared.MessageKind.the-variants.{CommandWatchScalableTopicsUpdate}
+use Rattle.schema.specs.declared.Checked.{Checked}
+use Rattle.schema.specs.declared.Checked.the-variants.{Valid, Refused}
+use Rattle.schema.specs.FirstFault.{firstFault}
+use Rattle.readers.specs.declared.ErrorCode.{ErrorCode}
+use Rattle.readers.specs.declared.ErrorCode.the-variants.{Given, Absent}
+use Rattle.readers.specs.Messages.{WireEvent, none, snapshot, diff, WireWatchUpdate, watchUpdateOf}
+use Rattle.topics.specs.Topics.{insertAll, sorted, allShort}
+use Rattle.topics.specs.Packed.{topicsOf, encodeTopics, sizeTopics, isSet}
+use Rattle.topic_window.specs.Lists.{namedIn, kept, addedOf, removedOf}
+use Rattle.watch.specs.declared.WatchAnswer.{WatchAnswer}
+use Rattle.watch.specs.declared.WatchAnswer.the-variants as answer
+
+-- ---- what an event asks for, over lists of topics
+
+-- the topics that it names, the set behind it, the packed length of its added list, and the output
+pub record Change : Type 0 where
+  pub named : List (List ℕ)
+  pub topics : List (List ℕ)
+  pub added : ℕ
+  pub output : List ℕ
+
+-- "A snapshot replaces ... Output: byte 0, then the set"
+unfoldable pub snapshotChange : List (List ℕ) → Change
+snapshotChange topics = record { named = topics; topics = sorted topics; added = 0; output = 0 ∷ encodeTopics (sorted topics) }
+
+-- "byte 1, 32-bit byte length of the added list, added, removed, each entry packed as in the set"
+abbrev pub diffOutput : List (List ℕ) → List (List ℕ) → List ℕ
+diffOutput added removed = 1 ∷ (bytesOf 4 (sizeTopics added) ++ (encodeTopics added ++ encodeTopics removed))
+
+-- "a diff removes, then adds ... Removed lists, once each, topics that were in the set; added lists those not in it after the removals."
+unfoldable pub diffChange : List (List ℕ) → List (List ℕ) → List (List ℕ) → Change
+diffChange old added removed =
+    record {
+      named = added ++ removed;
+      topics = insertAll added (kept old removed);
+      added = sizeTopics (addedOf old removed added);
+      output = diffOutput (addedOf old removed added) (removedOf old removed);
+    }
+
+-- field 1 of an event's part are the topics of a snapshot, or those added; field 2 those removed
+abbrev pub snapshotIn : List ℕ → Change
+snapshotIn p = snapshotChange (namedIn 1 p)
+
+abbrev pub diffIn : List (List ℕ) → List ℕ → Change
+diffIn old p = diffChange old (namedIn 1 p) (namedIn 2 p)
+
+-- ---- the call
+
+-- the answer, and the bytes of the set's buffer and of the output behind it
+pub record Outcome : Type 0 where
+  pub answer : WatchAnswer
+  pub buffer : List ℕ
+  pub out : List ℕ
+
+-- 16 where there is an error code, else 17
+abbrev pub noEvent : ℕ → ErrorCode → Refusal
+noEvent id (Given code) = Broker code
+noEvent id Absent = EmptyUpdate id
+
+module _ (buffer out : List ℕ) where
+  abbrev pub refuse : Refusal → Outcome
+  refuse x = record { answer = answer.Refused x; buffer = buffer; out = out }
+
+  -- the new set and the output are written, each from its first byte, and their lengths answered
+  abbrev pub done : Change → Outcome
+  done c =
+      record {
+        answer = answer.Changed (sizeTopics (c .topics)) (length (c .output));
+        buffer = put buffer 0 (encodeTopics (c .topics));
+        out = put out 0 (c .output);
+      }
+
+  -- 31: "new set longer than its buffer, or any topic in the message's event above 65,535 bytes"; 21: "result longer than the output ... or an added list of 2^32 bytes
+  -- or more"
+  unfoldable pub settle : Change → Outcome
+  settle c =
+      cond (allShort (c .named) && leb (sizeTopics (c .topics)) (length buffer))
+      (cond (ltb (c .added) (2 ^ 32) && leb (length (c .output)) (length out)) (done c) (refuse ResultTooLong))
+      (refuse SetTooLong)
+
+  -- 16 or 17 where there is no event
+  unfoldable pub byEvent : List (List ℕ) → WireWatchUpdate → WireEvent → Outcome
+  byEvent old u (snapshot p) = settle (snapshotIn p)
+  byEvent old u (diff p) = settle (diffIn old p)
+  byEvent old u none = refuse (noEvent (u .watchId) (u .error))
+
+  -- 29
+  unfoldable pub forWatch : ℕ → List (List ℕ) → WireWatchUpdate → Outcome
+  forWatch id old u = cond (not (eqb (u .watchId) id)) (refuse (WatchMismatch (u .watchId) id)) (byEvent old u (u .event))
+
+  -- 3 to 7
+  abbrev pub whenChecked : ℕ → List (List ℕ) → List ℕ → Checked → Outcome
+  whenChecked id old message (Refused x) = refuse x
+  whenChecked id old message Valid = forWatch id old (watchUpdateOf message)
+
+  -- 30
+  unfoldable pub handleUpdate : ℕ → ℕ → List ℕ → Outcome
+  handleUpdate id used message =
+      cond (leb used (length buffer) && isSet (take used buffer))
+      (whenChecked id (topicsOf (take used buffer)) message (firstFault CommandWatchScalableTopicsUpdate message))
+      (refuse MalformedSet)

@@ -1,0 +1,238 @@
+// The topics watch: takes an update to a lent set of topics, and says what changed. `ScalableTopicsWatch::handle_update`.
+ghost use mathlib.Core.Path.{_≡_};
+ghost use mathlib.Core.Bool.{true, _&&_};
+ghost use Prim.Native.Nat.{_+_, _^_, _≤_, _<_};
+ghost use lib.ListN.{length, take};
+ghost use lib.Dec.{leb, ltb};
+ghost use Rattle.packed_int.specs.Put.{put};
+ghost use Rattle.readers.specs.Messages.{watchUpdateOf};
+ghost use Rattle.topics.specs.Topics.{insertAll, sorted, allShort};
+ghost use Rattle.topics.specs.Packed.{topicsOf, encodeTopics, sizeTopics, isSet};
+ghost use Rattle.topic_window.specs.Lists.{namedIn, kept, addedOf, removedOf};
+ghost use Rattle.topic_window.specs.Window.{OrdersOf};
+ghost use Rattle.topic_merge.specs.Merge.{without, Apart, Rises};
+ghost use Rattle.watch.specs.Watch.{snapshotIn, diffIn, done, settle, noEvent, forWatch, handleUpdate};
+ghost use Rattle.watch.specs.Steps.{DiffFits};
+use schema::Checked;
+use schema::MessageKind;
+use readers::ErrorCode;
+use readers::Event;
+use refusal::Refusal;
+use topic_window::Listing;
+use topic_window::Orders;
+
+pub enum WatchAnswer {
+    // The byte lengths of the new set and of the output.
+    Changed(usize, usize),
+    // Nothing was changed.
+    Refused(Refusal),
+}
+
+// The topics of a snapshot, as the set at the front of buffer and as the output.
+fn write_snapshot(buffer: &mut [u8], orders: Orders, p: &[u8], out: &mut [u8])
+    requires { ⌜ OrdersOf (now p) orders ⌝ }
+    requires { ⌜ allShort (namedIn 1 (now p)) ≡ true ⌝ }
+    requires { ⌜ sizeTopics (sorted (namedIn 1 (now p))) ≤ length (now buffer) ⌝ }
+    requires { ⌜ sizeTopics (sorted (namedIn 1 (now p))) < length (now out) ⌝ }
+    ensures { λ _. ⌜ (now (buffer .exit) ≡ put (now (buffer .entry)) 0 (encodeTopics (sorted (namedIn 1 (now (p .entry))))))
+        × (now (out .exit) ≡ put (now (out .entry)) 0 (snapshotIn (now (p .entry)) .output)) ⌝ }
+{
+    let n = topic_lists::write_list(Listing::Added, orders, &p[..0], p, buffer);
+    packed_int::put_bytes(out, 1, &buffer[..n]);
+    out[0] = 0;
+}
+
+fn snapshot(buffer: &mut [u8], p: &[u8], out: &mut [u8]) -> WatchAnswer
+    ensures { λ r. ⌜ (r ≡ settle (now (buffer .entry)) (now (out .entry)) (snapshotIn (now (p .entry))) .answer)
+        × (now (buffer .exit) ≡ settle (now (buffer .entry)) (now (out .entry)) (snapshotIn (now (p .entry))) .buffer)
+        × (now (out .exit) ≡ settle (now (buffer .entry)) (now (out .entry)) (snapshotIn (now (p .entry))) .out) ⌝ }
+{
+    let s = topic_lists::survey(p, 1);
+    if !s.short {
+        return WatchAnswer::Refused(Refusal::SetTooLong);
+    }
+    let orders = Orders {
+        added: s.rises,
+        removed: false,
+    };
+    let z = topic_lists::measure(Listing::Added, orders, &p[..0], p);
+    if buffer.len() < z {
+        return WatchAnswer::Refused(Refusal::SetTooLong);
+    }
+    if out.len() <= z {
+        return WatchAnswer::Refused(Refusal::ResultTooLong);
+    }
+    write_snapshot(buffer, orders, p, out);
+    WatchAnswer::Changed(z, 1 + z)
+}
+
+// The output of a diff whose added list has z bytes and whose removed list has gone.
+fn write_lists(set: &[u8], orders: Orders, p: &[u8], z: usize, gone: usize, out: &mut [u8])
+    requires { ⌜ isSet (now set) ≡ true ⌝ }
+    requires { ⌜ OrdersOf (now p) orders ⌝ }
+    requires { ⌜ (allShort (namedIn 1 (now p)) ≡ true) × (allShort (namedIn 2 (now p)) ≡ true) ⌝ }
+    requires { ⌜ z ≡ sizeTopics (addedOf (topicsOf (now set)) (namedIn 2 (now p)) (namedIn 1 (now p))) ⌝ }
+    requires { ⌜ gone ≡ sizeTopics (removedOf (topicsOf (now set)) (namedIn 2 (now p))) ⌝ }
+    requires { ⌜ (z < 4294967296) × (5 + z + gone ≤ length (now out)) ⌝ }
+    ensures { λ _. ⌜ now (out .exit) ≡ put (now (out .entry)) 0 (diffIn (topicsOf (now (set .entry))) (now (p .entry)) .output) ⌝ }
+{
+    let at = 5 + z;
+    topic_lists::write_list(Listing::Added, orders, set, p, &mut out[5..at]);
+    topic_lists::write_list(Listing::Removed, orders, set, p, &mut out[at..at + gone]);
+    packed_int::write_u32(out, 1, z as u32);
+    out[0] = 1;
+}
+
+// The set at the front of buffer after a diff, whose lists stand packed in `added` and `removed`. Answers its length.
+fn write_set(buffer: &mut [u8], used: usize, added: &[u8], removed: &[u8]) -> usize
+    requires { ⌜ used ≤ length (now buffer) ⌝ }
+    requires { ⌜ isSet (take used (now buffer)) ≡ true ⌝ }
+    requires { ⌜ Rises (now added) × Rises (now removed) ⌝ }
+    requires { ⌜ Apart (topicsOf (now added)) (without (topicsOf (take used (now buffer))) (topicsOf (now removed))) ⌝ }
+    requires { ⌜ sizeTopics (without (topicsOf (take used (now buffer))) (topicsOf (now removed))) + length (now added) ≤ length (now buffer) ⌝ }
+    ensures { λ r. ⌜ (r ≡ sizeTopics (without (topicsOf (take used (now (buffer .entry)))) (topicsOf (now (removed .entry)))) + length (now (added .entry)))
+        × (now (buffer .exit) ≡ put (now (buffer .entry)) 0
+        (encodeTopics (insertAll (topicsOf (now (added .entry))) (without (topicsOf (take used (now (buffer .entry)))) (topicsOf (now (removed .entry))))))) ⌝ }
+{
+    let k = topic_merge::take_out(&mut buffer[..used], removed);
+    topic_merge::merge(buffer, k, added)
+}
+
+// The output of a diff fits: its added list has z bytes, its removed list gone.
+fn fits(z: usize, gone: usize, room: usize) -> bool
+    ensures { λ r. ⌜ r ≡ (ltb z (2 ^ 32) && leb (5 + z + gone) room) ⌝ }
+{
+    if 4294967295 < z {
+        return false;
+    }
+    if room < 5 {
+        return false;
+    }
+    if room - 5 < z {
+        return false;
+    }
+    gone <= room - 5 - z
+}
+
+// The set and the output of a diff, both of which fit.
+fn write_diff(
+    buffer: &mut [u8],
+    used: usize,
+    orders: Orders,
+    p: &[u8],
+    z: usize,
+    gone: usize,
+    out: &mut [u8],
+) -> WatchAnswer
+    requires { ⌜ used ≤ length (now buffer) ⌝ }
+    requires { ⌜ isSet (take used (now buffer)) ≡ true ⌝ }
+    requires { ⌜ DiffFits (topicsOf (take used (now buffer))) (now p) orders z gone (length (now buffer)) (length (now out)) ⌝ }
+    ensures { λ r. ⌜ (r ≡ done (now (buffer .entry)) (now (out .entry)) (diffIn (topicsOf (take used (now (buffer .entry)))) (now (p .entry))) .answer)
+        × (now (buffer .exit) ≡ done (now (buffer .entry)) (now (out .entry)) (diffIn (topicsOf (take used (now (buffer .entry)))) (now (p .entry))) .buffer)
+        × (now (out .exit) ≡ done (now (buffer .entry)) (now (out .entry)) (diffIn (topicsOf (take used (now (buffer .entry)))) (now (p .entry))) .out) ⌝ }
+{
+    write_lists(&buffer[..used], orders, p, z, gone, out);
+    let at = 5 + z;
+    let n = write_set(buffer, used, &out[5..at], &out[at..at + gone]);
+    WatchAnswer::Changed(n, at + gone)
+}
+
+fn diff(buffer: &mut [u8], used: usize, p: &[u8], out: &mut [u8]) -> WatchAnswer
+    requires { ⌜ used ≤ length (now buffer) ⌝ }
+    requires { ⌜ isSet (take used (now buffer)) ≡ true ⌝ }
+    ensures { λ r. ⌜ (r ≡ settle (now (buffer .entry)) (now (out .entry)) (diffIn (topicsOf (take used (now (buffer .entry)))) (now (p .entry))) .answer)
+        × (now (buffer .exit) ≡ settle (now (buffer .entry)) (now (out .entry)) (diffIn (topicsOf (take used (now (buffer .entry)))) (now (p .entry))) .buffer)
+        × (now (out .exit) ≡ settle (now (buffer .entry)) (now (out .entry)) (diffIn (topicsOf (take used (now (buffer .entry)))) (now (p .entry))) .out) ⌝ }
+{
+    let a = topic_lists::survey(p, 1);
+    if !a.short {
+        return WatchAnswer::Refused(Refusal::SetTooLong);
+    }
+    let r = topic_lists::survey(p, 2);
+    if !r.short {
+        return WatchAnswer::Refused(Refusal::SetTooLong);
+    }
+    let orders = Orders {
+        added: a.rises,
+        removed: r.rises,
+    };
+    let gone = topic_lists::measure(Listing::Removed, orders, &buffer[..used], p);
+    let z = topic_lists::measure(Listing::Added, orders, &buffer[..used], p);
+    if buffer.len() - (used - gone) < z {
+        return WatchAnswer::Refused(Refusal::SetTooLong);
+    }
+    if !fits(z, gone, out.len()) {
+        return WatchAnswer::Refused(Refusal::ResultTooLong);
+    }
+    write_diff(buffer, used, orders, p, z, gone, out)
+}
+
+fn no_event(id: u64, error: ErrorCode) -> Refusal
+    ensures { λ r. ⌜ r ≡ noEvent id error ⌝ }
+{
+    match error {
+        ErrorCode::Given(code) => Refusal::Broker { code },
+        ErrorCode::Absent => Refusal::EmptyUpdate { watch_id: id },
+    }
+}
+
+// The update of a message without a fault.
+fn update(id: u64, buffer: &mut [u8], used: usize, message: &[u8], out: &mut [u8]) -> WatchAnswer
+    requires { ⌜ used ≤ length (now buffer) ⌝ }
+    requires { ⌜ isSet (take used (now buffer)) ≡ true ⌝ }
+    ensures { λ r. ⌜ (r ≡ forWatch (now (buffer .entry)) (now (out .entry)) id (topicsOf (take used (now (buffer .entry)))) (watchUpdateOf (now (message .entry))) .answer)
+        × (now (buffer .exit) ≡ forWatch (now (buffer .entry)) (now (out .entry)) id (topicsOf (take used (now (buffer .entry)))) (watchUpdateOf (now (message .entry))) .buffer)
+        × (now (out .exit) ≡ forWatch (now (buffer .entry)) (now (out .entry)) id (topicsOf (take used (now (buffer .entry)))) (watchUpdateOf (now (message .entry))) .out) ⌝ }
+{
+    let head = readers::read_watch_update(message);
+    let got = head.watch_id;
+    if got != id {
+        return WatchAnswer::Refused(Refusal::WatchMismatch { got, expected: id });
+    }
+    let event = head.event;
+    match event {
+        Event::Snapshot(start, len) => {
+            let end = start + len;
+            snapshot(buffer, &message[start..end], out)
+        }
+        Event::Diff(start, len) => {
+            let end = start + len;
+            diff(buffer, used, &message[start..end], out)
+        }
+        Event::Nothing => {
+            let error = head.error;
+            WatchAnswer::Refused(no_event(got, error))
+        }
+    }
+}
+
+// Takes an update to the set of `used` bytes at the front of buffer.
+pub fn handle_update(
+    watch_id: u64,
+    buffer: &mut [u8],
+    used: usize,
+    message: &[u8],
+    out: &mut [u8],
+) -> WatchAnswer
+    ensures { λ r. ⌜ (r ≡ handleUpdate (now (buffer .entry)) (now (out .entry)) «watch_id» used (now (message .entry)) .answer)
+        × (now (buffer .exit) ≡ handleUpdate (now (buffer .entry)) (now (out .entry)) «watch_id» used (now (message .entry)) .buffer)
+        × (now (out .exit) ≡ handleUpdate (now (buffer .entry)) (now (out .entry)) «watch_id» used (now (message .entry)) .out) ⌝ }
+{
+    if buffer.len() < used {
+        return WatchAnswer::Refused(Refusal::MalformedSet);
+    }
+    if !topics::is_set(&buffer[..used]) {
+        return WatchAnswer::Refused(Refusal::MalformedSet);
+    }
+    match messages::first_fault(MessageKind::CommandWatchScalableTopicsUpdate, message) {
+        Checked::Refused(x) => WatchAnswer::Refused(x),
+        Checked::Valid => update(watch_id, buffer, used, message, out),
+    }
+}
+
+// The broker's text of a message that `handle_update` refused with `Broker`: a part of the message, never of the set.
+pub fn broker_text<'m, 's>(message: &'m [u8], set: &'s [u8]) -> &'m [u8]
+    ensures { λ r. ⌜ now r ≡ watchUpdateOf (now (message .entry)) .message ⌝ }
+{
+    readers::watch_text(message, set)
+}
