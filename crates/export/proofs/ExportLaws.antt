@@ -20,9 +20,12 @@ use Rattle.session.specs.declared.SessionRecord.{SessionRecord}
 use Rattle.session.specs.declared.Answer.{Answer}
 use Rattle.session.specs.declared.Opened.{Opened}
 use Rattle.session.specs.Calls.{Outcome, OpenOutcome, outcome}
+use Rattle.watch.specs.declared.WatchAnswer.{WatchAnswer}
+use Rattle.watch.specs.Watch as watch
 use Rattle.reply.specs.declared.Reply.{Reply}
 use Rattle.export.specs.declared.SessionReply.{SessionReply}
 use Rattle.export.specs.Exports.{Output, Exported, Opening, writeReply, writeOf, nameReply, nameOf, sessionReply, exportOf, openReply, openOf}
+use Rattle.export.specs.Exports.{Watched, watchReply, watchOf}
 
 abbrev pub outputs : Reply → List ℕ → Output
 outputs x out = record { reply = x; out = out }
@@ -50,6 +53,17 @@ pub open-call :
     (consumer : ℕ) (link : ControllerIncarnation) {x : SessionReply} {a : Opened} {store : List ℕ} {o : OpenOutcome} →
     x ≡ openReply consumer link a → record { answer = a; store = store } ≡ o → opening x store ≡ openOf consumer link o
 open-call consumer link {store = store} e f = ap (λ (y : SessionReply). opening y store) e ∙ ap (openOf consumer link) f
+
+abbrev pub watched : Reply → List ℕ → List ℕ → Watched
+watched x buffer out = record { reply = x; buffer = buffer; out = out }
+
+pub watch-call :
+    {x : Reply} {a : WatchAnswer} {buffer out : List ℕ} {o : watch.Outcome} →
+    x ≡ watchReply a → (a ≡ o .answer) × (buffer ≡ o .buffer) × (out ≡ o .out) → watched x buffer out ≡ watchOf o
+watch-call {buffer = buffer} {out = out} {o = o} e f =
+    ap (λ (y : Reply). watched y buffer out) (e ∙ ap watchReply (f .0))
+    ∙ ap (λ (b : List ℕ). watched (watchReply (o .answer)) b out) (f .1)
+    ∙ ap (λ (l : List ℕ). watched (watchReply (o .answer)) (o .buffer) l) (f .2)
 
 -- the integer of a kind, as its 32 bits read back
 wire-fits : (k : ScalableConsumerType) → SFits w32 (toWire k)

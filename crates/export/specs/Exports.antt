@@ -31,6 +31,9 @@ use Rattle.session.specs.declared.Match.{Match}
 use Rattle.session.specs.declared.Match.the-variants as match′
 use Rattle.session.specs.Calls.{Outcome, OpenOutcome, freshRecord}
 use Rattle.session_record.specs.Floors.{floorValue}
+use Rattle.watch.specs.declared.WatchAnswer.{WatchAnswer}
+use Rattle.watch.specs.declared.WatchAnswer.the-variants as change
+use Rattle.watch.specs.Watch as watch
 use Rattle.reply.specs.declared.Reply.{Reply}
 use Rattle.reply.specs.Replies.{accepted, unchanged, delta, replay, written, yes, no, found, refusedReply, takenReply, testReply}
 use Rattle.export.specs.declared.Record.{Record}
@@ -106,6 +109,10 @@ matchReply match′.Same = takenReply yes []
 matchReply match′.Other = takenReply no []
 matchReply (match′.Refused x) = refusedReply x
 
+unfoldable pub watchReply : WatchAnswer → Reply
+watchReply (change.Changed set out) = takenReply written (pos set ∷ pos out ∷ [])
+watchReply (change.Refused x) = refusedReply x
+
 -- ---- what a call leaves
 
 -- reply, record, store, output
@@ -145,6 +152,15 @@ writeOf o = record { reply = writeReply (o .answer); out = o .out }
 
 abbrev pub nameOf : build.Outcome → Output
 nameOf o = record { reply = nameReply (o .answer); out = o .out }
+
+-- reply, the set's buffer, output
+pub record Watched : Type 0 where
+  pub reply : Reply
+  pub buffer : List ℕ
+  pub out : List ℕ
+
+abbrev pub watchOf : watch.Outcome → Watched
+watchOf o = record { reply = watchReply (o .answer); buffer = o .buffer; out = o .out }
 
 -- reply and store
 pub record Opening : Type 0 where

@@ -6,6 +6,7 @@ mod list_calls;
 mod name_calls;
 mod range_calls;
 mod session_calls;
+mod watch_calls;
 
 use reply::Reply;
 

@@ -246,7 +246,7 @@ pub extern "C" fn cuddrewyn_matches_registration(
 }
 
 // The last part of field n.
-fn last_part(message: &[u8], n: u64) -> Part
+pub fn last_part(message: &[u8], n: u64) -> Part
     ensures { λ x. ⌜ PartIs (now (message .entry)) (lastPart (partsOf n (fieldsOf (now (message .entry))))) x ⌝ }
 {
     let mut at: usize = 0;

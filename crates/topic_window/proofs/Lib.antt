@@ -4,6 +4,7 @@ mod LowestLaws
 mod WindowLaws
 mod OfferLaws
 mod BoundLaws
+mod ReadLaws
 mod FillLaws
 mod MarkLaws
 mod SiftLaws

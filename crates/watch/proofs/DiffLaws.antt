@@ -1,7 +1,7 @@
 -- The set of a diff in its buffer: the removed topics are taken out, then the added ones are merged in, both read from the output.
 --
--- In order: a packed list written in the output (`Rises` of it, `back-..`); the buffer between the two steps (`taken-..`) and behind them (`merged`); the
--- lists of a diff (`diff-..`).
+-- In order: a packed list read back (`back-..`); the buffer between the two steps (`taken-..`) and behind them (`merged`); the lists of a
+-- diff (`diff-..`).
 -- Assumes nothing.
 use Prim.Native.Nat.{ℕ, _+_, _-_, _≤_}
 use native.Mathlib.Omega.{arith}
@@ -25,7 +25,8 @@ use Rattle.topic_merge.specs.Merge.{without, Apart, Rises}
 use Rattle.watch.specs.declared.WatchAnswer.the-variants.{Changed}
 use Rattle.watch.specs.Watch.{diffChange, diffIn, done}
 use Rattle.watch.specs.Steps.{DiffFits}
-use Rattle.watch.proofs.ListLaws.{rising-removed, rising-added, short-removed, short-added, without-removed, added-apart, insert-added, size-apart, size-diff}
+use Rattle.watch.proofs.ListLaws.{rising-removed, rising-added, short-removed, short-added}
+use Rattle.watch.proofs.ListLaws.{without-removed, added-apart, insert-added, size-apart, size-diff}
 use Rattle.watch.proofs.SettleLaws.{diff-length, set-whole, set-rising, set-size, set-short}
 use Rattle.watch.proofs.WriteLaws.{put-prefix, put-over, take-front, output-added, output-removed}
 
@@ -43,7 +44,8 @@ set-rises l g = let q = set-whole l g in record { whole = q .0; rises = q .1 }
 
 -- ---- the buffer
 
-module _ (buffer : List ℕ) (used : ℕ) (hu : used ≤ length buffer) (b : Bytes buffer) (g : isSet (take used buffer) ≡ true) (removed : List ℕ) where
+module _ (buffer : List ℕ) (used : ℕ) (hu : used ≤ length buffer) (b : Bytes buffer) (g : isSet (take used buffer) ≡ true)
+    (removed : List ℕ) where
   abbrev old : List (List ℕ)
   old = topicsOf (take used buffer)
 
@@ -99,8 +101,8 @@ module _ (buffer : List ℕ) (used : ℕ) (hu : used ≤ length buffer) (b : Byt
 
 -- ---- the lists of a diff
 
-module _ (buffer out p : List ℕ) (used z gone : ℕ) (orders : Orders) (hu : used ≤ length buffer) (b : Bytes buffer) (g : isSet (take used buffer) ≡ true)
-    (f : DiffFits (topicsOf (take used buffer)) p orders z gone (length buffer) (length out)) where
+module _ (buffer out p : List ℕ) (used z gone : ℕ) (orders : Orders) (hu : used ≤ length buffer) (b : Bytes buffer)
+    (g : isSet (take used buffer) ≡ true) (f : DiffFits (topicsOf (take used buffer)) p orders z gone (length buffer) (length out)) where
   abbrev held : List (List ℕ)
   held = topicsOf (take used buffer)
 

@@ -1,7 +1,7 @@
 -- An accepted update leaves a set: the bytes of the answered length at the front of the buffer are a packed set again.
 --
--- In order: a rising list of short UTF-8 topics is a set (`set-of`); what a message without a fault says of its topics (`named-utf8`) and of its event
--- (`event-valid`); the law (`leaves-a-set`).
+-- In order: a rising list of short UTF-8 topics is a set (`set-of`); what a message without a fault says of its parts (`parts-utf8`) and of
+-- its event (`event-valid`); the law (`leaves-a-set`).
 -- Assumes nothing.
 use Prim.Native.Nat.{ℕ, _^_}
 use native.Mathlib.Omega.{arith}
@@ -13,7 +13,8 @@ use lib.Dec.{leb, ltb, eqb}
 use borrow.Author.Tests.{eqb-true}
 use Rattle.parts.proofs.PartLaws.{Bytes, Bytes-take}
 use Rattle.refusal.specs.declared.Refusal.{Refusal}
-use Rattle.refusal.specs.declared.Refusal.the-variants.{InvalidWireFormat, WrongWireType, RepeatedField, InvalidUtf8, MalformedSet, WatchMismatch, SetTooLong, ResultTooLong}
+use Rattle.refusal.specs.declared.Refusal.the-variants.{InvalidWireFormat, WrongWireType, RepeatedField, InvalidUtf8}
+use Rattle.refusal.specs.declared.Refusal.the-variants.{MalformedSet, WatchMismatch, SetTooLong, ResultTooLong}
 use Rattle.packed_int.specs.Put.{put}
 use Rattle.utf8.specs.Table.{isUtf8}
 use Rattle.wire.specs.declared.WireType.{WireType}
@@ -37,7 +38,8 @@ use Rattle.topics.proofs.EachLaws.{short-insertAll, short-parts, utf8-insertAll
 use Rattle.topics.proofs.PackedLaws.{length-encode, read-back, whole-back, read-short}
 use Rattle.topic_window.specs.Lists.{namedIn, kept}
 use Rattle.watch.specs.declared.WatchAnswer.the-variants as answer
-use Rattle.watch.specs.Watch.{Change, Outcome, snapshotChange, snapshotIn, diffChange, diffIn, noEvent, refuse, settle, byEvent, forWatch, whenChecked, handleUpdate}
+use Rattle.watch.specs.Watch.{Change, Outcome, snapshotChange, snapshotIn, diffChange, diffIn, noEvent, refuse}
+use Rattle.watch.specs.Watch.{settle, byEvent, forWatch, whenChecked, handleUpdate}
 use Rattle.watch.proofs.ListLaws.{rising-kept, short-kept}
 use Rattle.watch.proofs.SettleLaws.{set-whole}
 use Rattle.watch.proofs.WriteLaws.{take-front}
@@ -74,7 +76,8 @@ first-right Valid b e = e
 first-right (Refused x) b e = absurd (refused-valid x e)
 
 module _ (inner : MessageKind → List ℕ → Checked) where
-  value-valid : (r : FieldRule) (seen : List ℕ) (w : WireType) (c : Content) → checkField inner r seen w c ≡ Valid → checkValue inner (r .value) c ≡ Valid
+  value-valid : (r : FieldRule) (seen : List ℕ) (w : WireType) (c : Content) → checkField inner r seen w c ≡ Valid
+      → checkValue inner (r .value) c ≡ Valid
   value-valid r seen w c e = go (fitsWire (r .value) w) (elem seen (r .slot)) e
     where
       go : (a b : Bool) → cond a (cond b (Refused RepeatedField) (checkValue inner (r .value) c)) (Refused WrongWireType) ≡ Valid
@@ -113,7 +116,8 @@ module _ (inner : MessageKind → List ℕ → Checked) where
     unfolding allUtf8
     parts-utf8 n t seen [] e = refl
     parts-utf8 n t seen (badKey ∷ fs) e = absurd (refused-valid InvalidWireFormat e)
-    parts-utf8 n t seen (field f w (number v) ∷ fs) e = parts-utf8 n t (note (ruleFor k f .slot) seen) fs (tail-valid seen f w (number v) fs e)
+    parts-utf8 n t seen (field f w (number v) ∷ fs) e =
+        parts-utf8 n t (note (ruleFor k f .slot) seen) fs (tail-valid seen f w (number v) fs e)
     parts-utf8 n t seen (field f w fixed ∷ fs) e = parts-utf8 n t (note (ruleFor k f .slot) seen) fs (tail-valid seen f w fixed fs e)
     parts-utf8 n t seen (field f w cut ∷ fs) e = parts-utf8 n t (note (ruleFor k f .slot) seen) fs (tail-valid seen f w cut fs e)
     parts-utf8 n t seen (field f w (bytes l) ∷ fs) e =
@@ -139,7 +143,8 @@ event-valid e seen (field f w cut ∷ fs) h q = event-valid e _ fs h (tail-valid
 event-valid e seen (field f w (bytes p) ∷ fs) h q =
     event-valid (eventBy e f p) _ fs
     (choose EventValid (eqb f 2) (λ i. rule-valid (faultWithin 1) update 2 (value.Message ScalableTopicsSnapshot) refl seen f w p fs i q)
-    (λ _. choose EventValid (eqb f 3) (λ i. rule-valid (faultWithin 1) update 3 (value.Message ScalableTopicsDiff) refl seen f w p fs i q) (λ _. h)))
+    (λ _. choose EventValid (eqb f 3)
+    (λ i. rule-valid (faultWithin 1) update 3 (value.Message ScalableTopicsDiff) refl seen f w p fs i q) (λ _. h)))
     (tail-valid (faultWithin 1) update seen f w (bytes p) fs q)
 
 snapshot-utf8 : (p : List ℕ) → EventValid (snapshot p) → allUtf8 (namedIn 1 p) ≡ true
@@ -160,8 +165,8 @@ module _ (buffer out : List ℕ) where
   refused : (x : Refusal) → Leaves (refuse buffer out x)
   refused x a b e = let z : _≡_ {A = ℕ} 0 1 = cc in absurd (omega arith)
 
-  settled : (c : Change) → rising (c .topics) ≡ true → allUtf8 (c .topics) ≡ true → (allShort (c .named) ≡ true → allShort (c .topics) ≡ true)
-      → Leaves (settle buffer out c)
+  settled : (c : Change) → rising (c .topics) ≡ true → allUtf8 (c .topics) ≡ true
+      → (allShort (c .named) ≡ true → allShort (c .topics) ≡ true) → Leaves (settle buffer out c)
   unfolding settle
   settled c r u s =
       choose Leaves (allShort (c .named) && leb (sizeTopics (c .topics)) (length buffer))
@@ -216,10 +221,12 @@ module _ (buffer out : List ℕ) where
     checked-leaves id m Valid e = valid-leaves id m e
 
   -- an accepted update leaves a set
-  pub leaves-a-set : (id used : ℕ) (message : List ℕ) → Bytes buffer → (a b : ℕ) → handleUpdate buffer out id used message .answer ≡ answer.Changed a b
+  pub leaves-a-set : (id used : ℕ) (message : List ℕ) → Bytes buffer → (a b : ℕ)
+      → handleUpdate buffer out id used message .answer ≡ answer.Changed a b
       → isSet (take a (handleUpdate buffer out id used message .buffer)) ≡ true
   unfolding handleUpdate
   leaves-a-set id used message b =
       choose Leaves (leb used (length buffer) && isSet (take used buffer))
-      (λ e. checked-leaves used b (both-true (leb used (length buffer)) (isSet (take used buffer)) e .1) id message (firstFault update message) refl)
+      (λ e. let g = both-true (leb used (length buffer)) (isSet (take used buffer)) e .1 in
+      checked-leaves used b g id message (firstFault update message) refl)
       (λ e. refused MalformedSet)

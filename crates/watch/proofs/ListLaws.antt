@@ -1,7 +1,7 @@
 -- The lists of a diff as sets of topics, and their sizes.
 --
--- In order: what `listOf` is for a snapshot and for a diff (`list-all`, `list-added`, `list-removed`); the members of the lists, and that they rise;
--- the set taken apart and put together (`without-removed`, `added-apart`, `insert-added`); sizes (`size-removed`, `size-diff`).
+-- In order: what `listOf` is for a snapshot and for a diff (`list-all`, `list-added`, `list-removed`); the members of the lists, and that
+-- they rise; the set taken apart and put together (`without-removed`, `added-apart`, `insert-added`); sizes (`size-removed`, `size-diff`).
 -- Assumes nothing.
 use Prim.Native.Nat.{ℕ, _+_}
 use native.Mathlib.Omega.{arith}
@@ -15,7 +15,8 @@ use Rattle.packed_int.specs.Put.{put}
 use Rattle.keyed.specs.Keyed.{filter}
 use Rattle.topics.specs.Topics.{has, insert, insertAll, sorted, rising, allShort}
 use Rattle.topics.specs.Packed.{topicsOf, isWhole, encodeTopics, sizeTopics}
-use Rattle.topics.proofs.SetLaws.{both-true, rising-tail, has-first, not-again, has-insert, rising-insertAll, has-insertAll, rising-nil, rising-sorted, has-sorted, has-filter, rising-filter, filter-alike, extensional}
+use Rattle.topics.proofs.SetLaws.{both-true, has-first, has-insert, has-insertAll, has-sorted, has-filter, not-again, extensional}
+use Rattle.topics.proofs.SetLaws.{rising-nil, rising-tail, rising-insertAll, rising-sorted, rising-filter, filter-alike}
 use Rattle.topics.proofs.EachLaws.{short-insertAll, short-filter}
 use Rattle.topics.proofs.PackedLaws.{topics-nil, whole-nil, size-append}
 use Rattle.topics.proofs.PlaceLaws.{lower, upper, lower-upper, insert-absent}
@@ -35,7 +36,8 @@ unfolding listOf isListed kept has
 list-all p = rw topics-nil (filter-all _ (sorted (namedIn 1 p)) (λ t. refl))
 
 -- its bytes
-pub list-all-written : (o b p : List ℕ) → b ≡ put o 0 (encodeTopics (listOf Added (topicsOf []) p)) → b ≡ put o 0 (encodeTopics (sorted (namedIn 1 p)))
+pub list-all-written : (o b p : List ℕ) → b ≡ put o 0 (encodeTopics (listOf Added (topicsOf []) p))
+    → b ≡ put o 0 (encodeTopics (sorted (namedIn 1 p)))
 list-all-written o b p e = e ∙ ap (λ (l : List (List ℕ)). put o 0 (encodeTopics l)) (list-all p)
 
 pub list-added : (old : List (List ℕ)) (p : List ℕ) → listOf Added old p ≡ addedOf old (namedIn 2 p) (namedIn 1 p)
@@ -106,7 +108,8 @@ module _ (old removed added : List (List ℕ)) where
   pub insert-added : rising old ≡ true → insertAll (addedOf old removed added) (kept old removed) ≡ insertAll added (kept old removed)
   insert-added r =
       extensional (insertAll (addedOf old removed added) (kept old removed)) (insertAll added (kept old removed))
-      (rising-insertAll (addedOf old removed added) (kept old removed) (rising-kept r)) (rising-insertAll added (kept old removed) (rising-kept r))
+      (rising-insertAll (addedOf old removed added) (kept old removed) (rising-kept r))
+      (rising-insertAll added (kept old removed) (rising-kept r))
       (λ t. has-insertAll t (addedOf old removed added) (kept old removed)
       ∙ ap (λ (b : Bool). b || has t (kept old removed)) (has-added t)
       ∙ go (has t added) (has t (kept old removed))
@@ -155,7 +158,8 @@ size-both q [] = omega arith
 size-both q (t ∷ ts) = go (q t) (size-both q ts)
   where
     go : (b : Bool) → sizeTopics (filter q ts) + sizeTopics (filter (λ u. not (q u)) ts) ≡ sizeTopics ts
-        → sizeTopics (cond b (t ∷ filter q ts) (filter q ts)) + sizeTopics (cond (not b) (t ∷ filter (λ u. not (q u)) ts) (filter (λ u. not (q u)) ts))
+        → sizeTopics (cond b (t ∷ filter q ts) (filter q ts))
+        + sizeTopics (cond (not b) (t ∷ filter (λ u. not (q u)) ts) (filter (λ u. not (q u)) ts))
         ≡ 2 + length t + sizeTopics ts
     go true h = omega arith
     go false h = omega arith
@@ -163,13 +167,16 @@ size-both q (t ∷ ts) = go (q t) (size-both q ts)
 module _ (old removed added : List (List ℕ)) (r : rising old ≡ true) where
   removed-is : removedOf old removed ≡ filter (λ t. has t removed) old
   removed-is =
-      extensional (removedOf old removed) (filter (λ t. has t removed) old) (rising-removed old removed added) (rising-filter (λ t. has t removed) old r)
+      extensional (removedOf old removed) (filter (λ t. has t removed) old) (rising-removed old removed added)
+      (rising-filter (λ t. has t removed) old r)
       (λ t. has-removed old removed added t ∙ and-comm (has t removed) (has t old) ∙ sym (has-filter (λ u. has u removed) t old))
 
   -- the removed topics and the kept ones are the set
   pub size-removed : sizeTopics (removedOf old removed) + sizeTopics (kept old removed) ≡ sizeTopics old
   unfolding kept
-  size-removed = ap (λ (l : List (List ℕ)). sizeTopics l + sizeTopics (filter (λ t. not (has t removed)) old)) removed-is ∙ size-both (λ t. has t removed) old
+  size-removed =
+      ap (λ (l : List (List ℕ)). sizeTopics l + sizeTopics (filter (λ t. not (has t removed)) old)) removed-is
+      ∙ size-both (λ t. has t removed) old
 
   pub size-diff : sizeTopics (insertAll added (kept old removed)) ≡ sizeTopics (addedOf old removed added) + sizeTopics (kept old removed)
   size-diff =

@@ -1,7 +1,7 @@
 -- What the writes come to, over plain bytes: a snapshot's output, a diff's lists in the output, and its set in the buffer.
 --
--- In order: a part that is written whole (`put-mid`, `put-prefix`); one list over another (`put-over`); a snapshot (`snapshot-written`); the four writes of a
--- diff's output (`lists-..`), and the lists read back from it (`output-..`).
+-- In order: a part that is written whole (`put-mid`, `put-prefix`); one list over another (`put-over`); a snapshot (`snapshot-written`);
+-- the four writes of a diff's output (`lists-..`), and the lists read back from it (`output-..`).
 -- Assumes nothing.
 use Prim.Native.Nat.{ℕ, _+_, _-_, _≤_}
 use native.Mathlib.Omega.{arith}
@@ -18,7 +18,8 @@ use Rattle.packed_int.proofs.PutLaws.{length-put, put-one, put-after, put-befor
 -- ---- a part of a slice
 
 -- the n elements from a on, written whole
-pub put-mid : (s : List ℕ) (a n : ℕ) (vs w : List ℕ) → a + n ≤ length s → length vs ≡ n → w ≡ put (take n (drop a s)) 0 vs → putMid a n s w ≡ put s a vs
+pub put-mid : (s : List ℕ) (a n : ℕ) (vs w : List ℕ) → a + n ≤ length s → length vs ≡ n → w ≡ put (take n (drop a s)) 0 vs
+    → putMid a n s w ≡ put s a vs
 unfolding put
 put-mid s a n vs w h e ew =
     let l : length (take n (drop a s)) ≡ n = length-take-le n (drop a s) (rw length-drop (omega arith)) in
@@ -61,8 +62,8 @@ front-byte o E b h =
     let k : length (put o 1 E) ≡ length o = length-put o 1 E h in
     put-one (put o 1 E) 0 b (omega arith) ∙ put-before o 0 1 (b ∷ []) E (omega arith) h
 
-pub snapshot-written : (buffer out E b w : List ℕ) (n : ℕ) → n ≡ length E → 1 + n ≤ length out → b ≡ put buffer 0 E → w ≡ put out 1 (take n b)
-    → set w 0 0 ≡ put out 0 (0 ∷ E)
+pub snapshot-written : (buffer out E b w : List ℕ) (n : ℕ) → n ≡ length E → 1 + n ≤ length out → b ≡ put buffer 0 E
+    → w ≡ put out 1 (take n b) → set w 0 0 ≡ put out 0 (0 ∷ E)
 snapshot-written buffer out E b w n en h eb ew =
     ap (λ (s : List ℕ). set s 0 0) (ew ∙ ap (put out 1) (ap (take n) eb ∙ take-front buffer E n en)) ∙ front-byte out E 0 (omega arith)
 
@@ -88,7 +89,8 @@ module _ (o A R : List ℕ) (z g : ℕ) (ez : z ≡ length A) (eg : g ≡ length
     pub lists-room-removed : g ≤ length (take (at + g - at) (drop at o1))
     lists-room-removed = rw (length-take, length-drop, first-long) (omega arith)
 
-    module _ (y : List ℕ) (ey : y ≡ put (take (at + g - at) (drop at o1)) 0 R) (w : List ℕ) (ew : w ≡ put (putMid at (at + g - at) o1 y) 1 (bytesOf 4 z)) where
+    module _ (y : List ℕ) (ey : y ≡ put (take (at + g - at) (drop at o1)) 0 R) (w : List ℕ)
+        (ew : w ≡ put (putMid at (at + g - at) o1 y) 1 (bytesOf 4 z)) where
       second-is : putMid at (at + g - at) o1 y ≡ put o 5 (A ++ R)
       second-is =
           put-mid o1 at (at + g - at) R y (omega (arith, first-long)) (omega arith) ey
@@ -100,7 +102,8 @@ module _ (o A R : List ℕ) (z g : ℕ) (ez : z ≡ length A) (eg : g ≡ length
           let lb : length B ≡ 4 = length-bytesOf 4 z in
           let la : length (A ++ R) ≡ length A + length R = length-append A R in
           let lc : length (B ++ (A ++ R)) ≡ length B + length (A ++ R) = length-append B (A ++ R) in
-          ap (λ (s : List ℕ). set s 0 1) (ew ∙ ap (λ (s : List ℕ). put s 1 B) second-is ∙ put-before o 1 5 B (A ++ R) (omega arith) (omega arith))
+          ap (λ (s : List ℕ). set s 0 1)
+          (ew ∙ ap (λ (s : List ℕ). put s 1 B) second-is ∙ put-before o 1 5 B (A ++ R) (omega arith) (omega arith))
           ∙ front-byte o (B ++ (A ++ R)) 1 (omega arith)
 
       pub lists-long : length (set w 0 1) ≡ length o

@@ -1,17 +1,24 @@
--- What is known of a diff where its set and its output are written.
+-- What the functions of src/ say of a diff where its set and its output are written.
 -- Assumes nothing.
 use Prim.Native.Nat.{ℕ, _+_, _^_, _≤_, _<_}
 use mathlib.Core.Path.{_≡_}
 use mathlib.Core.Bool.{true}
 use mathlib.Core.List.{List}
+use lib.ListN.{take}
 use Rattle.topics.specs.Topics.{allShort}
-use Rattle.topics.specs.Packed.{sizeTopics}
+use Rattle.topics.specs.Packed.{topicsOf, sizeTopics}
 use Rattle.topic_window.specs.declared.Orders.{Orders}
 use Rattle.topic_window.specs.Lists.{namedIn, addedOf, removedOf}
 use Rattle.topic_window.specs.Window.{OrdersOf}
+use Rattle.topic_merge.specs.Merge.{without}
 use Rattle.watch.specs.Watch.{diffIn}
 
--- the diff of the part p against the set old: its topics are short, its lists take z and gone bytes, and the new set and the output fit the bytes there are for them
+-- what is left of the set at the front of a buffer without the topics of a packed list
+abbrev pub rest : List ℕ → ℕ → List ℕ → List (List ℕ)
+rest buffer used removed = without (topicsOf (take used buffer)) (topicsOf removed)
+
+-- the diff of the part p against the set old: its topics are short, its lists take z and gone bytes, and the new set and the output fit
+-- their rooms
 pub record DiffFits (old : List (List ℕ)) (p : List ℕ) (orders : Orders) (z gone setRoom outRoom : ℕ) : Type 0 where
   pub told : OrdersOf p orders
   pub shorts : (allShort (namedIn 1 p) ≡ true) × (allShort (namedIn 2 p) ≡ true)

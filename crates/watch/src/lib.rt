@@ -10,14 +10,14 @@ ghost use Rattle.topics.specs.Topics.{insertAll, sorted, allShort};
 ghost use Rattle.topics.specs.Packed.{topicsOf, encodeTopics, sizeTopics, isSet};
 ghost use Rattle.topic_window.specs.Lists.{namedIn, kept, addedOf, removedOf};
 ghost use Rattle.topic_window.specs.Window.{OrdersOf};
-ghost use Rattle.topic_merge.specs.Merge.{without, Apart, Rises};
+ghost use Rattle.topic_merge.specs.Merge.{Apart, Rises};
 ghost use Rattle.watch.specs.Watch.{snapshotIn, diffIn, done, settle, noEvent, forWatch, handleUpdate};
-ghost use Rattle.watch.specs.Steps.{DiffFits};
-use schema::Checked;
-use schema::MessageKind;
+ghost use Rattle.watch.specs.Steps.{rest, DiffFits};
 use readers::ErrorCode;
 use readers::Event;
 use refusal::Refusal;
+use schema::Checked;
+use schema::MessageKind;
 use topic_window::Listing;
 use topic_window::Orders;
 
@@ -88,11 +88,11 @@ fn write_set(buffer: &mut [u8], used: usize, added: &[u8], removed: &[u8]) -> us
     requires { ⌜ used ≤ length (now buffer) ⌝ }
     requires { ⌜ isSet (take used (now buffer)) ≡ true ⌝ }
     requires { ⌜ Rises (now added) × Rises (now removed) ⌝ }
-    requires { ⌜ Apart (topicsOf (now added)) (without (topicsOf (take used (now buffer))) (topicsOf (now removed))) ⌝ }
-    requires { ⌜ sizeTopics (without (topicsOf (take used (now buffer))) (topicsOf (now removed))) + length (now added) ≤ length (now buffer) ⌝ }
-    ensures { λ r. ⌜ (r ≡ sizeTopics (without (topicsOf (take used (now (buffer .entry)))) (topicsOf (now (removed .entry)))) + length (now (added .entry)))
+    requires { ⌜ Apart (topicsOf (now added)) (rest (now buffer) used (now removed)) ⌝ }
+    requires { ⌜ sizeTopics (rest (now buffer) used (now removed)) + length (now added) ≤ length (now buffer) ⌝ }
+    ensures { λ r. ⌜ (r ≡ sizeTopics (rest (now (buffer .entry)) used (now (removed .entry))) + length (now (added .entry)))
         × (now (buffer .exit) ≡ put (now (buffer .entry)) 0
-        (encodeTopics (insertAll (topicsOf (now (added .entry))) (without (topicsOf (take used (now (buffer .entry)))) (topicsOf (now (removed .entry))))))) ⌝ }
+        (encodeTopics (insertAll (topicsOf (now (added .entry))) (rest (now (buffer .entry)) used (now (removed .entry)))))) ⌝ }
 {
     let k = topic_merge::take_out(&mut buffer[..used], removed);
     topic_merge::merge(buffer, k, added)

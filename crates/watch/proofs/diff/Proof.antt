@@ -14,7 +14,8 @@ use Rattle.topics.specs.Topics.{allShort}
 use Rattle.topic_window.specs.Window.{OrdersOf}
 use Rattle.topic_window.specs.Lists.{namedIn, addedOf, removedOf}
 use Rattle.topic_lists.proofs.SurveyLaws.{survey-short, survey-rises}
-use Rattle.watch.proofs.SettleLaws.{tell, tell-as, set-whole, diff-told, diff-long, diff-long-removed, gone-least, diff-big, diff-short, diff-done, diff-fits}
+use Rattle.watch.proofs.SettleLaws.{tell, tell-as, set-whole, gone-least, diff-told, diff-long, diff-long-removed}
+use Rattle.watch.proofs.SettleLaws.{diff-big, diff-short, diff-done, diff-fits}
 use Rattle.watch.proofs.ListLaws.{list-added, list-removed}
 use Rattle.watch.proofs.diff.Statement.{statement}
 use Rattle.watch.proofs.diff.Tie as tie
@@ -51,8 +52,8 @@ shorts c =
       sym (survey-short _ _ (d .survey2 .ensures)) ∙ not-false _ (c .if2 .left),
     )
 
-told : (c : Short) → let d = c .before .before in
-    OrdersOf (begun c .args .p .now) (record { added = d .before .before .before .survey .result .rises; removed = d .survey2 .result .rises })
+told : (c : Short) → let d = c .before .before in let a = d .before .before .before .survey .result in
+    OrdersOf (begun c .args .p .now) (record { added = a .rises; removed = d .survey2 .result .rises })
 told c =
     let d = c .before .before in
     diff-told _ _ _ (survey-rises _ _ (d .before .before .before .survey .ensures)) (survey-rises _ _ (d .survey2 .ensures))
@@ -90,7 +91,7 @@ survey-requires : tie.Need-survey-requires
 survey-requires c κs = search needs
 
 returns : tie.Need-returns
-returns c = 
+returns c =
     let e = sym (survey-short _ _ (c .before .before .survey .ensures)) ∙ not-true _ (c .if1 .taken) in
     tell _ _ _ _ (diff-long _ _ _ _ e)
 
@@ -98,7 +99,7 @@ survey-requires-2 : tie.Need-survey-requires-2
 survey-requires-2 c κs = search needs
 
 returns-2 : tie.Need-returns-2
-returns-2 c = 
+returns-2 c =
     let e = sym (survey-short _ _ (c .before .before .survey2 .ensures)) ∙ not-true _ (c .if2 .taken) in
     tell _ _ _ _ (diff-long-removed _ _ _ _ e)
 
@@ -130,7 +131,7 @@ same-length : tie.Need-same-length
 same-length c = search needs
 
 returns-3 : tie.Need-returns-3
-returns-3 c = 
+returns-3 c =
     let m = c .before in
     let q = start m .pre in
     tell _ _ _ _ (diff-big _ _ (q .0) (bytes m) (q .1) _ _ _ _ (gone m) (z m) (c .if3 .taken))
@@ -142,7 +143,7 @@ same-length-2 : tie.Need-same-length-2
 same-length-2 c = search needs
 
 returns-4 : tie.Need-returns-4
-returns-4 c = 
+returns-4 c =
     let t = c .before in
     let m = measured t in
     let q = start m .pre in
@@ -151,7 +152,7 @@ returns-4 c =
     tell _ _ _ _ (diff-short _ _ (q .0) (bytes m) (q .1) _ _ _ _ (gone m) (z m) (s .0) (s .1) (t .before .if3 .left) f)
 
 write-diff-requires : tie.Need-write-diff-requires
-write-diff-requires c κs = 
+write-diff-requires c κs =
     let t = c .before .before .before in
     let m = measured t in
     let q = start m .pre in
@@ -168,7 +169,7 @@ same-length-4 : tie.Need-same-length-4
 same-length-4 c = search needs
 
 returns-5 : tie.Need-returns-5
-returns-5 c = 
+returns-5 c =
     let t = c .before .before .before .before .before .before .before .before in
     let m = measured t in
     let q = start m .pre in

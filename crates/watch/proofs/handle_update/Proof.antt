@@ -71,7 +71,7 @@ same-length-2 : tie.Need-same-length-2
 same-length-2 c = search needs
 
 returns-3 : tie.Need-returns-3
-returns-3 c = 
+returns-3 c =
     let f = c .before .before .before .before in
     let e = sym (c .before .x .given .1) ∙ c .before .before .before .first-fault .ensures in
     tell _ _ _ _ (checked _ _ _ _ _ (f .before .before .before .if1 .left) (good f) _ e)
@@ -83,10 +83,12 @@ same-length-4 : tie.Need-same-length-4
 same-length-4 c = search needs
 
 returns-4 : tie.Need-returns-4
-returns-4 c = 
+returns-4 c =
     let f = c .before .before .before .before .before .before .before .before .before .before in
-    let e = sym (c .before .before .before .before .before .before .before .enum-told .given .1) ∙ c .before .before .before .before .before .before .before .before .before .first-fault .ensures in
-    tell-as _ _ _ _ _ (checked _ _ _ _ _ (f .before .before .before .if1 .left) (good f) _ e) (c .before .before .before .before .update .ensures)
+    let t = c .before .before .before .before .before .before .before in
+    let e = sym (t .enum-told .given .1) ∙ t .before .before .first-fault .ensures in
+    let u = c .before .before .before .before .update .ensures in
+    tell-as _ _ _ _ _ (checked _ _ _ _ _ (f .before .before .before .if1 .left) (good f) _ e) u
 
 pub handle-update-spec : {M : Type 1} → statement M
 handle-update-spec =

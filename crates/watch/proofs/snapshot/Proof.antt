@@ -81,7 +81,7 @@ returns-3 c =
     tell _ _ _ _ (snapshot-short _ _ _ _ (size m) (shorts m) (c .before .if2 .left) (c .if3 .taken))
 
 write-snapshot-requires : tie.Need-write-snapshot-requires
-write-snapshot-requires c κs = 
+write-snapshot-requires c κs =
     let m = c .before .before .before .before in
     let x = c .before .before .before .if2 .left in
     let y = c .before .before .if3 .left in
@@ -97,7 +97,7 @@ same-length-2 : tie.Need-same-length-2
 same-length-2 c = search needs
 
 returns-4 : tie.Need-returns-4
-returns-4 c = 
+returns-4 c =
     let m = c .before .before .before .before .before .before .before .before .before in
     let w = c .before .before .before .before .write-snapshot .ensures in
     let x = c .before .before .before .before .before .before .before .before .if2 .left in

@@ -93,11 +93,12 @@ same-length-2 : tie.Need-same-length-2
 same-length-2 c = search needs
 
 returns-2 : tie.Need-returns-2
-returns-2 c = 
+returns-2 c =
     let r = c .before .before .before .before .before .before .before .before .before .before .before .before in
     let i = c .before .before .before .before .before .before .before .before .before .before .before .if1 .left in
     let e = event-is r _ (c .before .before .before .before .before .before .before .before .before .event .given .1) in
-    tell-as _ _ _ _ _ (is-snapshot _ _ _ _ _ _ (r .read-watch-update .ensures .id) i _ _ e) (c .before .before .before .before .snapshot .ensures)
+    let s = c .before .before .before .before .snapshot .ensures in
+    tell-as _ _ _ _ _ (is-snapshot _ _ _ _ _ _ (r .read-watch-update .ensures .id) i _ _ e) s
 
 same-length-3 : tie.Need-same-length-3
 same-length-3 c = search needs
@@ -106,14 +107,15 @@ same-length-4 : tie.Need-same-length-4
 same-length-4 c = search needs
 
 returns-3 : tie.Need-returns-3
-returns-3 c = 
+returns-3 c =
     let r = c .before .before .before .before .before .before .before .before .before .before .before .before in
     let i = c .before .before .before .before .before .before .before .before .before .before .before .if1 .left in
     let e = event-is r _ (c .before .before .before .before .before .before .before .before .before .event2 .given .1) in
-    tell-as _ _ _ _ _ (is-diff _ _ _ _ _ _ (r .read-watch-update .ensures .id) i _ _ e) (c .before .before .before .before .diff .ensures)
+    let d = c .before .before .before .before .diff .ensures in
+    tell-as _ _ _ _ _ (is-diff _ _ _ _ _ _ (r .read-watch-update .ensures .id) i _ _ e) d
 
 returns-4 : tie.Need-returns-4
-returns-4 c = 
+returns-4 c =
     let r = c .before .before .before .before in
     let h = r .read-watch-update .ensures in
     let e = event-is r _ (c .before .enum-told .given .1) in

@@ -60,7 +60,7 @@ part-write-list-end : tie.Need-part-write-list-end
 part-write-list-end c = search needs
 
 write-list-requires : tie.Need-write-list-requires
-write-list-requires c κs = 
+write-list-requires c κs =
     let s = c .before .before .before .before in
     let q = s .pre in
     let l = lists-room (s .args .out .now) (adds s) (removes s) _ _ (z-is s) (gone-is s) (q .1 .1 .1 .1 .1 .1) in
@@ -81,7 +81,7 @@ part-write-list-end-2 c = search needs
 
 write-list-requires-2 : tie.Need-write-list-requires-2
 unfolding listOf addedOf removedOf
-write-list-requires-2 c κs = 
+write-list-requires-2 c κs =
     let s = c .before .before .before .before .before .before .before .before in
     let q = s .pre in
     let w = c .before .before .before .write-list .ensures .1 in
@@ -100,7 +100,7 @@ slice-write-out c = search needs
 
 same-length : tie.Need-same-length
 unfolding listOf addedOf removedOf
-same-length c = 
+same-length c =
     let w = c .before .before in
     let s = start w in
     let x = c .before .before .before .before .before .before .before .before .before .before .write-list .ensures .1 in
@@ -110,7 +110,7 @@ same-length c =
 
 returns : tie.Need-returns
 unfolding diffChange listOf addedOf removedOf
-returns c = 
+returns c =
     let w = c .before .before in
     let s = start w in
     let x = c .before .before .before .before .before .before .before .before .before .before .write-list .ensures .1 in

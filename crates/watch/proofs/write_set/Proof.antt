@@ -36,7 +36,7 @@ take-out-requires : tie.Need-take-out-requires
 take-out-requires c κs = let q = c .before .before .before .before .pre in (set-rises _ (q .1 .0), q .1 .1 .0 .1)
 
 merge-requires : tie.Need-merge-requires
-merge-requires c κs = 
+merge-requires c κs =
     let t = c .before .before .before in
     let q = start t .pre in
     let d = bytes t in

@@ -45,7 +45,7 @@ slice-aggregate-write-list : tie.Need-slice-aggregate-write-list
 slice-aggregate-write-list c = search needs
 
 write-list-requires : tie.Need-write-list-requires
-write-list-requires c κs = 
+write-list-requires c κs =
     let s = c .before .before .before .before .before in
     let q = s .pre in
     (none-rises, (q .0, (q .1 .0, omega (arith, q .1 .1 .0, ap sizeTopics (list-all (s .args .p .now))))))
@@ -70,7 +70,7 @@ same-length-2 c = search needs
 
 returns : tie.Need-returns
 unfolding snapshotChange
-returns c = 
+returns c =
     let w = c .before .before .before .before .before .before .before in
     let p = c .before .before .put-bytes .ensures in
     let e = size w ∙ sym (length-encode (sorted (namedIn 1 (start w .args .p .now)))) in
