@@ -6,3 +6,4 @@ pub mod SegmentTopic
 pub mod Collections
 pub mod Assignment
 pub mod Session
+pub mod Watch

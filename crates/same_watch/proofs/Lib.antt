@@ -1,0 +1,6 @@
+mod SortLaws
+mod LoopLaws
+mod OursLaws
+mod StepAgrees
+pub mod Demanded
+pub mod NoneDue

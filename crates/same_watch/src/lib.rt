@@ -1,0 +1,1 @@
+// The watch is the Rust's: see specs/Demand.antt. There is nothing to call.
