@@ -3,8 +3,12 @@
 
 a: 4 segments without buckets. b: 145 segments without buckets. c: one segment with 506 buckets that rise. s: c with its buckets in falling order.
 a2: a with 2 other ids. b2: b with 72 other ids. c2: c with its upper 253 buckets one longer. Each comes at the same epoch, so that either is taken after the other.
+
+And updates of watch 7 for sets of n topics of 44 bytes, of which 36 are the same in all: w-n-rising, w-n-shuffled and w-n-falling are snapshots; w-n-few adds 5 topics and
+removes 5, w-n-half and w-n-half-shuffled add n / 4 and remove n / 4. Each of these diffs has a second one, with -back behind its name, that takes it back.
 """
 import pathlib
+import random
 import sys
 
 
@@ -45,6 +49,49 @@ MESSAGES = {
     "c2": update([segment(0, 0, 65535, LONGER)]),
     "s": update([segment(0, 0, 65535, RISING[::-1])]),
 }
+
+SIZES = (10, 1000, 20000)
+
+
+def topic(number):
+    return b"topic://tenant/namespace/spacecraft-%08d" % number
+
+
+def snapshot(numbers):
+    return number(1, 7) + part(2, b"".join(part(1, topic(one)) for one in numbers))
+
+
+def diff(added, removed):
+    return number(1, 7) + part(3, b"".join(part(1, topic(one)) for one in added) + b"".join(part(2, topic(one)) for one in removed))
+
+
+def both_ways(name, added, removed):
+    return {name: diff(added, removed), f"{name}-back": diff(removed, added)}
+
+
+def watch_updates(size):
+    """The updates for a set whose topics have the numbers 0, 2, 4, .."""
+    rng = random.Random(size)
+
+    def shuffled(numbers):
+        return rng.sample(numbers, len(numbers))
+
+    def spread(count):
+        """As many numbers of the set, from all of it; those that the set lacks are one higher."""
+        return range(0, 2 * size, 2 * (size // count))[:count]
+
+    held, name = range(0, 2 * size, 2), f"w-{size}"
+    few, half = spread(5), spread(size // 4)
+    others = [one + 1 for one in half]
+    return {
+        f"{name}-rising": snapshot(held), f"{name}-shuffled": snapshot(shuffled(held)), f"{name}-falling": snapshot(held[::-1]),
+        **both_ways(f"{name}-few", [one + 1 for one in few], few), **both_ways(f"{name}-half", others, half),
+        **both_ways(f"{name}-half-shuffled", shuffled(others), shuffled(half)),
+    }
+
+
+for count in SIZES:
+    MESSAGES |= watch_updates(count)
 
 if __name__ == "__main__":
     folder = pathlib.Path(sys.argv[1])

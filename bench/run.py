@@ -1,7 +1,8 @@
 #!/usr/bin/env python3
-"""Measures the port beside the Rust and prints the tables of docs/BENCHMARKS.md; with --write they replace those in the file.
+"""Measures the port beside the Rust and prints the tables of docs/BENCHMARKS.md; with --write they replace those in the file. A table's mark as a word (scan,
+intake, update, watch) makes that one alone.
 
-Instructions are counted by callgrind: a run of TIMES turns less a run of none, by TIMES. It needs rt, gcc and valgrind. The Rust's side is measured where
+Instructions are counted by callgrind: a run of some turns less a run of none, by their number. It needs rt, gcc and valgrind. The Rust's side is measured where
 CUDDREWYN_RUST names the folder of the Rust's sources and cargo finds Debian's crates (librust-prost-dev, librust-prost-derive-dev, librust-bytes-dev,
 librust-thiserror-dev); else its column says so.
 """
@@ -35,22 +36,33 @@ UPDATES = [
     ("b, 1,024 pushes in the queue", "b", "b2", 1, FULL, "72 72"),
     ("c, 1,024 pushes in the queue", "c", "c2", 1, FULL, "1 1"),
 ]
+# Topics of a set; turns that are counted.
+SIZES = [(10, TIMES), (1000, TIMES), (20000, 2)]
+# What it is; the two messages that come in turn; how many topics each adds and removes, of n.
+WATCHES = [
+    ("snapshot, rising", "rising", "rising", lambda n: (n, 0)),
+    ("snapshot, shuffled", "shuffled", "shuffled", lambda n: (n, 0)),
+    ("snapshot, falling", "falling", "falling", lambda n: (n, 0)),
+    ("diff of 10, rising", "few", "few-back", lambda n: (5, 5)),
+    ("diff of n / 2, rising", "half", "half-back", lambda n: (n // 4, n // 4)),
+    ("diff of n / 2, shuffled", "half-shuffled", "half-shuffled-back", lambda n: (n // 4, n // 4)),
+]
 
 
 def run(*words, **more):
     return subprocess.run([str(word) for word in words], check=True, capture_output=True, text=True, **more)
 
 
-def instructions(told, *words):
+def instructions(told, *words, turns=TIMES):
     """The instructions of one turn of the program that the words call, as text; what its turns print must be as told. None, where there is no program."""
     if words[0] is None:
         return "not measured"
     counts = []
-    for times in (0, TIMES):
+    for times in (0, turns):
         done = run("valgrind", "--tool=callgrind", "--callgrind-out-file=/dev/null", *words, times)
         assert times == 0 or done.stdout.strip() == told, f"{words} printed {done.stdout}"
         counts.append(int(re.search(r"Collected : (\d+)", done.stderr)[1]))
-    return f"{(counts[1] - counts[0]) // TIMES:,}"
+    return f"{(counts[1] - counts[0]) // turns:,}"
 
 
 def port(folder, name):
@@ -104,16 +116,29 @@ def update_table(folder, session):
     return rows(["case", "lost, gained", "prost decode and `handle_assignment_update_for`", "`updated`"], lines)
 
 
-TABLES = {"scan": scan_table, "intake": intake_table, "update": update_table}
+def watch_table(folder, session):
+    ours = port(folder, "watch")
+    lines = []
+    for size, turns in SIZES:
+        for what, first, second, counts in WATCHES:
+            told = "0 {} {}".format(*counts(size))
+            words = [folder / f"w-{size}-{name}.bin" for name in ("rising", first, second)]
+            theirs = instructions(told, session, "watch", *words, turns=turns)
+            lines.append([f"{size:,} topics: {what}", f"{os.path.getsize(words[1]):,}", theirs, instructions(told, ours, *words, turns=turns)])
+    return rows(["case", "bytes", "prost decode and `handle_update`", "`watch::handle_update`"], lines)
+
+
+TABLES = {"scan": scan_table, "intake": intake_table, "update": update_table, "watch": watch_table}
 
 
 def main():
+    marks = [mark for mark in TABLES if mark in sys.argv] or TABLES
     with tempfile.TemporaryDirectory() as name:
         folder = pathlib.Path(name)
         run(sys.executable, HERE / "messages.py", folder)
         run("rt", "staticlib", "speed", cwd=ROOT)
         session = rust(folder, "rust", "rust-session")
-        made = {mark: table(folder, session) for mark, table in TABLES.items()}
+        made = {mark: TABLES[mark](folder, session) for mark in marks}
     print("\n\n".join(made.values()))
     if "--write" in sys.argv:
         text = DOCUMENT.read_text(encoding="utf-8")

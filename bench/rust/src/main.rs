@@ -1,13 +1,14 @@
-//! Runs the Rust's intake or its updates as often as asked: rust-session intake FILE TIMES, or rust-session update FIRST SECOND REGISTERED QUEUED TIMES.
-//! Prints how many were refused; of updates then how many segments the last delta loses and gains.
+//! Runs the Rust's intake, its updates or its watch as often as asked: rust-session intake FILE TIMES, rust-session update FIRST SECOND REGISTERED QUEUED TIMES,
+//! or rust-session watch SET FIRST SECOND TIMES.
+//! Prints how many were refused; of updates then how many segments the last delta loses and gains, of a watch how many topics it adds and removes.
 //!
-//! The intake's message is decoded beforehand; an update's is decoded by prost each time. The words of an update mean what they do in bench/update.c.
+//! The intake's message is decoded beforehand; the others are decoded by prost each time. The words mean what they do in bench/update.c and bench/watch.c.
 use prost::Message as _;
 use std::hint::black_box;
 
 include!(concat!(env!("OUT_DIR"), "/sources.rs"));
 
-use scalable_consumer::{ConsumerAssignment, ControllerIncarnation, ScalableConsumerSession, ScalableConsumerType};
+use scalable_consumer::{ConsumerAssignment, ControllerIncarnation, ScalableConsumerSession, ScalableConsumerType, ScalableTopicsWatch, TopicsChange};
 
 /// What a newer prost derives, and Debian's does not.
 macro_rules! from_number {
@@ -82,6 +83,36 @@ fn updates(messages: [&[u8]; 2], registered: bool, queued: usize, times: usize) 
     println!("{} {} {}", run.refused, run.lost, run.gained);
 }
 
+/// A watch, and what its updates came to.
+struct Watched {
+    watch: ScalableTopicsWatch,
+    refused: usize,
+    added: usize,
+    removed: usize,
+}
+
+impl Watched {
+    fn update(&mut self, message: &[u8]) {
+        let update = pb::CommandWatchScalableTopicsUpdate::decode(black_box(message)).expect("an update");
+        match black_box(self.watch.handle_update(&update)) {
+            Ok(TopicsChange::Snapshot { topics }) => (self.added, self.removed) = (topics.len(), 0),
+            Ok(TopicsChange::Diff { added, removed }) => (self.added, self.removed) = (added.len(), removed.len()),
+            Err(_) => self.refused += 1,
+        }
+    }
+}
+
+fn watches(set: &[u8], messages: [&[u8]; 2], times: usize) {
+    let watch = ScalableTopicsWatch::new(7, "tenant/namespace".into());
+    let mut run = Watched { watch, refused: 0, added: 0, removed: 0 };
+    run.update(set);
+    run.update(messages[1]);
+    for turn in 0..times {
+        run.update(messages[turn % 2]);
+    }
+    println!("{} {} {}", run.refused, run.added, run.removed);
+}
+
 fn main() {
     let words: Vec<String> = std::env::args().skip(1).collect();
     let words: Vec<&str> = words.iter().map(String::as_str).collect();
@@ -92,6 +123,7 @@ fn main() {
         ["update", first, second, registered, queued, times] => {
             updates([&read(first), &read(second)], number(registered) != 0, number(queued), number(times));
         }
-        _ => panic!("intake FILE TIMES, or update FIRST SECOND REGISTERED QUEUED TIMES"),
+        ["watch", set, first, second, times] => watches(&read(set), [&read(first), &read(second)], number(times)),
+        _ => panic!("intake FILE TIMES, update FIRST SECOND REGISTERED QUEUED TIMES, or watch SET FIRST SECOND TIMES"),
     }
 }

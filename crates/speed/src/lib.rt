@@ -1,11 +1,12 @@
 // What the benchmarks call: one exported function for each thing that is measured.
 use intake::Intake;
-use messages::Checked;
-use messages::MessageKind;
+use schema::Checked;
+use schema::MessageKind;
 use session::Answer;
 use session::Floor;
 use session::SessionRecord;
 use types::ControllerIncarnation;
+use watch::WatchAnswer;
 
 // 0 where the update is valid, 1 where it is refused.
 #[no_mangle]
@@ -53,5 +54,26 @@ pub extern "C" fn speed_update(
         Answer::Unchanged => 0,
         Answer::Delta(_) => 0,
         Answer::Replay(_, _) => 0,
+    }
+}
+
+// The byte lengths of the new set and of the output; both are 0 where the update is refused.
+#[repr(C)]
+pub struct WatchLengths {
+    pub set: usize,
+    pub out: usize,
+}
+
+// An update of watch 7 to the set of `used` bytes at the front of buffer.
+#[no_mangle]
+pub extern "C" fn speed_watch(
+    buffer: &mut [u8],
+    used: usize,
+    message: &[u8],
+    out: &mut [u8],
+) -> WatchLengths {
+    match watch::handle_update(7, buffer, used, message, out) {
+        WatchAnswer::Changed(n, m) => WatchLengths { set: n, out: m },
+        WatchAnswer::Refused(_) => WatchLengths { set: 0, out: 0 },
     }
 }

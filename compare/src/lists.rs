@@ -1,0 +1,283 @@
+//! Packed lists and deltas lent alone: the wire writer against the Rust's `to_pb`, apply and join against the model.
+use crate::generate::Assignment;
+use crate::model::delta::{self, Delta, Written, within};
+use crate::model::sheet::{Segment, Sheet};
+use crate::oracle;
+use crate::ours;
+use crate::output::Output;
+use crate::pb;
+use crate::reply::refused;
+use crate::rng::Rng;
+use crate::scalable_consumer::ConsumerAssignment;
+use crate::tally::{Call, Tally, hex};
+use prost::Message as _;
+
+const IDS: &[u64] = &[0, 1, 2, 3, 4, 9, 300, u64::MAX - 1, u64::MAX];
+const VALUES: &[u16] = &[0, 1, 5, 9, 255, 256, 0x7fff, 0x8000, 0xfffe, 0xffff];
+const PARENTS: &[&[u8]] =
+    &[b"topic://a/b/c", b"topic://t/n//m", b"topic://t//m", b"topic://a/b/c#", b"", b"topic://a/b/\xff", "topic://ä/ö/ü".as_bytes()];
+
+fn random_segment(id: u64, rng: &mut Rng) -> Segment {
+    let (a, b) = (rng.pick(VALUES), rng.pick(VALUES));
+    let count = if rng.one_in(2) { 0 } else { rng.below(5) };
+    let mut cuts: Vec<u16> = (0..2 * count).map(|_| if rng.one_in(2) { rng.pick(VALUES) } else { rng.word() as u16 }).collect();
+    cuts.sort_unstable();
+    cuts.dedup();
+    let mut buckets: Vec<(u16, u16)> = cuts.chunks_exact(2).map(|pair| (pair[0], pair[1])).collect();
+    rng.shuffle(&mut buckets);
+    Segment { id, start: a.min(b), end: a.max(b), buckets }
+}
+
+/// Distinct ids, rising.
+fn random_ids(most: usize, rng: &mut Rng) -> Vec<u64> {
+    let few = rng.below(most.min(6) + 1);
+    let count = if most > 6 && rng.one_in(6) { rng.below(most + 1) } else { few };
+    let mut ids: Vec<u64> = (0..count).map(|_| if count > 6 || rng.one_in(5) { rng.word() >> rng.below(64) } else { rng.pick(IDS) }).collect();
+    ids.sort_unstable();
+    ids.dedup();
+    ids
+}
+
+/// A well-formed list of at most `most` bytes.
+pub fn random_sheet(epoch: u64, most: usize, rng: &mut Rng) -> Sheet {
+    let ids = random_ids(most / 14, rng);
+    let mut sheet = Sheet { epoch, segments: ids.iter().map(|id| random_segment(*id, rng)).collect() };
+    while sheet.size() > most {
+        sheet.segments.pop();
+    }
+    sheet
+}
+
+/// A list with one place spoiled, which may or may not make it malformed.
+pub fn spoiled_sheet(mut packed: Vec<u8>, rng: &mut Rng) -> Vec<u8> {
+    let at = rng.below(packed.len());
+    match rng.below(6) {
+        0 => packed[at] ^= 1 << rng.below(8),
+        1 => packed[at] = rng.byte(),
+        2 => packed.truncate(at),
+        3 => packed.push(rng.byte()),
+        4 => packed[9] = packed[9].wrapping_add(1),
+        _ => {
+            let end = (at + 14).min(packed.len());
+            let again = packed[at..end].to_vec();
+            packed.splice(at..at, again);
+        }
+    }
+    packed
+}
+
+fn random_delta(rng: &mut Rng) -> Delta {
+    let lost = random_ids(40, rng);
+    let gained = random_ids(40, rng).iter().map(|id| random_segment(*id, rng)).collect();
+    Delta { epoch: rng.word() >> rng.below(64), lost, gained }
+}
+
+/// The packed form, now and then spoiled.
+fn lent(packed: Vec<u8>, rng: &mut Rng) -> Vec<u8> {
+    if rng.one_in(5) { spoiled_sheet(packed, rng) } else { packed }
+}
+
+/// Rooms around the length that the result needs.
+fn room(needed: usize, most: usize, rng: &mut Rng) -> usize {
+    let rooms = [needed, needed, needed, needed.saturating_sub(1), needed + 1, 0, most];
+    rng.pick(&rooms).min(most)
+}
+
+/// What the writer should give: 20, 7, 12, 21; the message is the Rust's own.
+fn written(sheet: &[u8], parent: &[u8], room: usize) -> Written {
+    let Some(sheet) = Sheet::whole(sheet) else {
+        return (refused(20, &[]), Vec::new());
+    };
+    let message = if sheet.segments.is_empty() { Ok(encoded(&sheet, "")) } else { std::str::from_utf8(parent).map(|parent| encoded(&sheet, parent)) };
+    match message {
+        Err(_) => (refused(7, &[]), Vec::new()),
+        Ok(None) => (refused(12, &[]), Vec::new()),
+        Ok(Some(bytes)) => within(bytes, room),
+    }
+}
+
+/// `to_pb` of the list, encoded by prost; none where the Rust refuses the parent (12).
+fn encoded(sheet: &Sheet, parent: &str) -> Option<Vec<u8>> {
+    let said = Assignment::of_sheet(sheet, parent.strip_prefix("topic://").unwrap_or(parent));
+    let segments = said.parts.iter().map(|part| pb::ScalableAssignedSegment {
+        segment_id: part.id,
+        hash_start: part.start,
+        hash_end: part.end,
+        segment_topic: String::from_utf8(part.topic.clone()).expect("a text"),
+        bucket_ranges: part.buckets.iter().map(|(start, end)| pb::IntRange { start: *start, end: *end }).collect(),
+    });
+    let message = pb::ScalableConsumerAssignment { layout_epoch: said.epoch, segments: segments.collect() };
+    match ConsumerAssignment::try_from_pb(&message, parent) {
+        Ok(list) => Some(list.to_pb().encode_to_vec()),
+        Err(error) => {
+            assert_eq!(oracle::refusal(&error).number, 12, "the Rust refuses a well-formed list");
+            None
+        }
+    }
+}
+
+fn check_to_pb(tally: &mut Tally, output: &mut Output, sheet: &[u8], parent: &[u8], room: usize) {
+    let expected = written(sheet, parent, room);
+    let (mut sheet_lent, mut parent_lent) = (sheet.to_vec(), parent.to_vec());
+    let given = ours::to_pb(&mut sheet_lent, &mut parent_lent, output.lent(room));
+    tally.count(Call::ToPb, &given, matches!(expected.0.number, 0 | 12));
+    let lent = [(&sheet_lent[..], sheet), (&parent_lent[..], parent)];
+    output.check(tally, Call::ToPb, &given, &expected, &lent, || format!("output of {room}, parent {}, sheet {}", hex(parent), hex(sheet)));
+}
+
+fn check_apply(tally: &mut Tally, output: &mut Output, sheet: &[u8], delta: &[u8], room: usize) {
+    let expected = delta::apply(sheet, delta, room);
+    let (mut sheet_lent, mut delta_lent) = (sheet.to_vec(), delta.to_vec());
+    let given = ours::apply(&mut sheet_lent, &mut delta_lent, output.lent(room));
+    tally.count(Call::Apply, &given, false);
+    let lent = [(&sheet_lent[..], sheet), (&delta_lent[..], delta)];
+    output.check(tally, Call::Apply, &given, &expected, &lent, || format!("output of {room}, sheet {}, delta {}", hex(sheet), hex(delta)));
+}
+
+fn check_join(tally: &mut Tally, output: &mut Output, first: &[u8], second: &[u8], room: usize) {
+    let expected = delta::join(first, second, room);
+    let (mut first_lent, mut second_lent) = (first.to_vec(), second.to_vec());
+    let given = ours::join(&mut first_lent, &mut second_lent, output.lent(room));
+    tally.count(Call::Join, &given, false);
+    let lent = [(&first_lent[..], first), (&second_lent[..], second)];
+    output.check(tally, Call::Join, &given, &expected, &lent, || format!("output of {room}, first {}, second {}", hex(first), hex(second)));
+}
+
+pub struct Lists {
+    rng: Rng,
+    output: Output,
+}
+
+impl Lists {
+    pub fn new(seed: u64) -> Self {
+        let mut rng = Rng::new(seed, "lists");
+        let output = Output::new(1 << 14, &mut rng);
+        Self { rng, output }
+    }
+
+    pub fn step(&mut self, tally: &mut Tally) {
+        for _ in 0..40 {
+            self.try_to_pb(tally);
+            self.try_apply(tally);
+            self.try_join(tally);
+        }
+    }
+
+    fn sheet(&mut self) -> Vec<u8> {
+        let rng = &mut self.rng;
+        let epoch = rng.word() >> rng.below(64);
+        let most = rng.pick(&[60, 200, 2048]);
+        let packed = random_sheet(epoch, most, rng).packed();
+        lent(packed, rng)
+    }
+
+    fn delta(&mut self) -> Vec<u8> {
+        let delta = random_delta(&mut self.rng);
+        lent(delta.packed().expect("few ids"), &mut self.rng)
+    }
+
+    fn try_to_pb(&mut self, tally: &mut Tally) {
+        let sheet = self.sheet();
+        let parent = self.rng.pick(PARENTS);
+        let needed = written(&sheet, parent, usize::MAX).1.len();
+        let room = room(needed, self.output.length(), &mut self.rng);
+        check_to_pb(tally, &mut self.output, &sheet, parent, room);
+    }
+
+    fn try_apply(&mut self, tally: &mut Tally) {
+        let (sheet, delta) = (self.sheet(), self.delta());
+        let needed = delta::apply(&sheet, &delta, usize::MAX).1.len();
+        let room = room(needed, self.output.length(), &mut self.rng);
+        check_apply(tally, &mut self.output, &sheet, &delta, room);
+    }
+
+    fn try_join(&mut self, tally: &mut Tally) {
+        let (first, second) = (self.delta(), self.delta());
+        let needed = delta::join(&first, &second, usize::MAX).1.len();
+        let room = room(needed, self.output.length(), &mut self.rng);
+        check_join(tally, &mut self.output, &first, &second, room);
+    }
+}
+
+fn bare(ids: impl Iterator<Item = u64>) -> Vec<Segment> {
+    ids.map(|id| Segment { id, start: 0, end: 65_535, buckets: Vec::new() }).collect()
+}
+
+fn delta_of(lost: impl Iterator<Item = u64>, gained: Vec<Segment>) -> Vec<u8> {
+    Delta { epoch: 9, lost: lost.collect(), gained }.packed().expect("counts below 65,536")
+}
+
+/// Counts at their ends and just above, lists at 2,048 bytes and just above, outputs that just fit and just do not.
+pub fn directed(tally: &mut Tally, seed: u64) {
+    let mut rng = Rng::new(seed, "large lists");
+    let mut output = Output::new(3 << 20, &mut rng);
+    large_counts(tally, &mut output);
+    parents(tally, &mut output);
+    let most = output.length();
+    for count in 143..148u64 {
+        let full = Sheet { epoch: 1, segments: bare(0..count) }.packed();
+        for more in 0..4 {
+            check_apply(tally, &mut output, &full, &delta_of(0..1, bare(500..500 + more)), most);
+        }
+        check_to_pb(tally, &mut output, &full, PARENTS[0], most);
+    }
+    many_buckets(tally, &mut output, &mut rng);
+}
+
+fn large_counts(tally: &mut Tally, output: &mut Output) {
+    let most = output.length();
+    let wide = Segment { id: 5, start: 0, end: 9, buckets: (0..65_535).map(|value| (value, value)).collect() };
+    let deltas = [
+        delta_of(0..65_535, Vec::new()),
+        delta_of(65_535..65_536, Vec::new()),
+        delta_of(0..0, bare(0..65_535)),
+        delta_of(0..0, bare(65_535..65_536)),
+        delta_of(0..40_000, bare(20_000..60_000)),
+        delta_of(5..6, vec![wide]),
+        delta_of(0..0, Vec::new()),
+    ];
+    for first in &deltas {
+        check_apply(tally, output, &Sheet { epoch: 1, segments: Vec::new() }.packed(), first, most);
+        for second in &deltas {
+            let needed = delta::join(first, second, usize::MAX).1.len();
+            for room in [needed, needed.saturating_sub(1), most] {
+                check_join(tally, output, first, second, room);
+            }
+        }
+    }
+}
+
+fn parents(tally: &mut Tally, output: &mut Output) {
+    for parent in PARENTS {
+        for count in 0..3 {
+            let sheet = Sheet { epoch: 1, segments: bare(0..count) }.packed();
+            let needed = written(&sheet, parent, usize::MAX).1.len();
+            for room in [needed, needed.saturating_sub(1), 0, output.length()] {
+                check_to_pb(tally, output, &sheet, parent, room);
+            }
+            for room in [sheet.len(), sheet.len() - 1, 0] {
+                check_apply(tally, output, &sheet, &delta_of(0..0, Vec::new()), room);
+            }
+        }
+    }
+}
+
+/// A list of one segment with buckets to the list's end and beyond, rising and not.
+fn many_buckets(tally: &mut Tally, output: &mut Output, rng: &mut Rng) {
+    let most = output.length();
+    for count in [505, 506, 507, 2000] {
+        let mut buckets: Vec<(u16, u16)> = (0..count).map(|value| (value * 2, value * 2 + 1)).collect();
+        for turn in 0..3 {
+            let segment = Segment { id: 1, start: 0, end: 1, buckets: buckets.clone() };
+            let sheet = Sheet { epoch: 1, segments: vec![segment.clone()] }.packed();
+            check_to_pb(tally, output, &sheet, PARENTS[0], most);
+            check_apply(tally, output, &sheet, &delta_of(2..3, Vec::new()), most);
+            check_apply(tally, output, &Sheet { epoch: 1, segments: Vec::new() }.packed(), &delta_of(0..0, vec![segment.clone()]), most);
+            check_join(tally, output, &delta_of(0..0, vec![segment]), &delta_of(0..0, Vec::new()), most);
+            match turn {
+                0 => rng.shuffle(&mut buckets),
+                _ => buckets[0] = buckets[usize::from(count) - 1],
+            }
+        }
+    }
+}

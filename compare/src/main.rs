@@ -1,0 +1,75 @@
+//! Runs the Rust's session and our exported library on the same bytes, in one process, and compares every answer.
+//!
+//! compare [SEED] [SECONDS]: all parts, sharing the time. compare --self-test: whether a wrong bit in an answer would be noticed.
+use std::io::{IsTerminal as _, Write as _};
+use std::time::{Duration, Instant};
+
+include!(concat!(env!("OUT_DIR"), "/sources.rs"));
+
+#[path = "../../bindings/rust/src/raw.rs"]
+#[allow(dead_code)]
+mod raw;
+
+mod generate;
+mod lists;
+#[cfg_attr(not(feature = "watch"), allow(dead_code))]
+mod model;
+mod names;
+mod oracle;
+mod ours;
+mod output;
+mod parts;
+mod reply;
+mod rng;
+mod self_test;
+mod session;
+mod short;
+mod shrink;
+mod spoil;
+mod tally;
+#[cfg(feature = "watch")]
+mod watch;
+
+use parts::Parts;
+use tally::Tally;
+
+/// Seed and seconds where none are given.
+const SEED: u64 = 1;
+const SECONDS: u64 = 30;
+
+fn main() {
+    let words: Vec<String> = std::env::args().skip(1).collect();
+    if words.first().is_some_and(|word| word == "--self-test") {
+        std::process::exit(self_test::run());
+    }
+    let number = |at: usize, default: u64| words.get(at).map_or(default, |word| word.parse().unwrap_or_else(|_| panic!("{word}: not a number")));
+    std::process::exit(compare(number(0, SEED), number(1, SECONDS)));
+}
+
+/// Runs for that long; 0 where nothing differs and every answer was seen.
+fn compare(seed: u64, seconds: u64) -> i32 {
+    let start = Instant::now();
+    let mut tally = Tally::new();
+    parts::directed(&mut tally, seed);
+    let mut parts = Parts::new(&mut tally, seed);
+    let terminal = std::io::stderr().is_terminal();
+    let mut shown = Instant::now();
+    while start.elapsed() < Duration::from_secs(seconds) && parts.step(&mut tally) {
+        if terminal && shown.elapsed() > Duration::from_millis(500) {
+            shown = Instant::now();
+            eprint!("\r{} s, {} calls, {} differences ", start.elapsed().as_secs(), tally.calls, tally.differences);
+            let _ = std::io::stderr().flush();
+        }
+    }
+    if terminal {
+        eprintln!();
+    }
+    tally.print();
+    parts.print();
+    let unseen = tally.unseen();
+    if !unseen.is_empty() {
+        println!("compare: answers that should have come and did not: {}", unseen.join(", "));
+    }
+    println!("compare: {} calls, {} differences (seed {seed})", tally.calls, tally.differences);
+    i32::from(tally.differences > 0 || !unseen.is_empty())
+}

@@ -1,0 +1,211 @@
+//! The session's calls: what each answers and writes, for any record, store, message and output.
+use super::delta::Delta;
+use super::sheet::{SHEET_MOST, Sheet};
+use super::{identity, messages};
+use crate::oracle;
+use crate::raw::{self, Record, Reply};
+use crate::reply::{refused, taken, word};
+
+pub const SLOT: usize = 2048;
+pub const STORE_LEAST: usize = 3 * SLOT;
+pub const STORE_FULL: usize = (3 + DEPTH_MOST) * SLOT;
+pub const DEPTH_MOST: usize = 1024;
+pub const OUT_LEAST: usize = 3210;
+const BASELINE: usize = SLOT;
+pub const LIST: usize = 2 * SLOT;
+
+/// Bytes and their place in the store.
+pub type Write = (usize, Vec<u8>);
+
+/// What a call should give.
+pub struct Prediction {
+    pub reply: Reply,
+    pub state: Record,
+    pub writes: Vec<Write>,
+    pub out: Vec<u8>,
+}
+
+/// What a slot's place in the queue is, in bytes.
+pub fn queue_place(index: usize) -> usize {
+    STORE_LEAST + SLOT * index
+}
+
+pub fn depth(store_length: usize) -> usize {
+    (store_length / SLOT).saturating_sub(3).min(DEPTH_MOST)
+}
+
+pub fn fresh(consumer_id: u64, incarnation: u64) -> Record {
+    Record { consumer_id, incarnation, ..Record::default() }
+}
+
+/// A record without a floor has the number 0 there.
+pub fn normal(record: Record) -> Record {
+    Record { epoch_floor: if record.has_floor { record.epoch_floor } else { 0 }, ..record }
+}
+
+fn with_floor(record: Record, floor: u64) -> Record {
+    Record { has_floor: true, epoch_floor: floor, ..record }
+}
+
+fn higher_floor(record: &Record, epoch: u64) -> u64 {
+    if record.has_floor { record.epoch_floor.max(epoch) } else { epoch }
+}
+
+fn unchanged(record: &Record, reply: Reply) -> Prediction {
+    Prediction { reply, state: normal(*record), writes: Vec::new(), out: Vec::new() }
+}
+
+/// The slots in use.
+struct Slots<'a> {
+    topic: &'a str,
+    /// Baseline and list of a registered session.
+    held: Option<(Sheet, Sheet)>,
+    queue: Vec<Sheet>,
+}
+
+/// 1 and 22, with 2 between where an output of `room` bytes is due.
+fn slots<'a>(record: &Record, store: &'a [u8], room: Option<usize>) -> Result<Slots<'a>, Reply> {
+    if store.len() < STORE_LEAST {
+        return Err(refused(1, &[]));
+    }
+    if room.is_some_and(|room| room < OUT_LEAST) {
+        return Err(refused(2, &[]));
+    }
+    in_use(record, store).ok_or_else(|| refused(22, &[]))
+}
+
+/// Nothing where a slot in use is malformed, or a count beyond the depth or the queue.
+fn in_use<'a>(record: &Record, store: &'a [u8]) -> Option<Slots<'a>> {
+    let sheet = |place: usize| Sheet::at_front(&store[place..place + SLOT]);
+    let ([topic, _, _], _) = identity::read(&store[..SLOT])?;
+    if record.queue_count > depth(store.len()) || record.drain_position > record.queue_count {
+        return None;
+    }
+    let held = if record.registered { Some((sheet(BASELINE)?, sheet(LIST)?)) } else { None };
+    let queue = (0..record.queue_count).map(|index| sheet(queue_place(index))).collect::<Option<Vec<_>>>()?;
+    Some(Slots { topic, held, queue })
+}
+
+/// 9 to 15 of an assignment.
+fn content(assignment: &messages::WireAssignment, topic: &str) -> Result<Sheet, Reply> {
+    let sheet = oracle::intake(assignment, topic)?;
+    if sheet.size() > SHEET_MOST { Err(refused(15, &[])) } else { Ok(sheet) }
+}
+
+fn same_incarnation(record: &Record, incarnation: u64) -> Result<(), Reply> {
+    if incarnation == record.incarnation { Ok(()) } else { Err(refused(23, &[incarnation, record.incarnation])) }
+}
+
+fn above_floor(record: &Record, epoch: u64) -> Result<(), Reply> {
+    let below = record.has_floor && epoch < record.epoch_floor;
+    if below { Err(refused(26, &[epoch, record.epoch_floor])) } else { Ok(()) }
+}
+
+pub fn update(record: &Record, store: &[u8], message: &[u8], incarnation: u64, room: usize) -> Prediction {
+    updated(record, store, message, incarnation, room).unwrap_or_else(|reply| unchanged(record, reply))
+}
+
+fn updated(record: &Record, store: &[u8], message: &[u8], incarnation: u64, room: usize) -> Result<Prediction, Reply> {
+    let slots = slots(record, store, Some(room))?;
+    let update = messages::update(message).map_err(|number| refused(number, &[]))?;
+    same_incarnation(record, incarnation)?;
+    if update.consumer_id != record.consumer_id {
+        return Err(refused(24, &[update.consumer_id, record.consumer_id]));
+    }
+    let incoming = content(&update.assignment, slots.topic)?;
+    let Some((_, list)) = slots.held else {
+        return queued(record, depth(store.len()), &incoming);
+    };
+    if incoming.epoch < list.epoch {
+        return Err(refused(27, &[incoming.epoch, list.epoch]));
+    }
+    if incoming == list {
+        return Ok(unchanged(record, taken(raw::UNCHANGED, &[])));
+    }
+    let out = Delta::between(&list, &incoming).packed().expect("counts of two sheets");
+    Ok(Prediction {
+        reply: taken(raw::DELTA, &[out.len() as u64]),
+        state: with_floor(*record, higher_floor(record, incoming.epoch)),
+        writes: vec![(LIST, incoming.packed())],
+        out,
+    })
+}
+
+/// A push to an unregistered session: 26, 28, or the queue's next slot.
+fn queued(record: &Record, depth: usize, incoming: &Sheet) -> Result<Prediction, Reply> {
+    above_floor(record, incoming.epoch)?;
+    if record.queue_count == depth {
+        return Err(refused(28, &[depth as u64]));
+    }
+    Ok(Prediction {
+        reply: taken(raw::UNCHANGED, &[]),
+        state: normal(Record { queue_count: record.queue_count + 1, ..*record }),
+        writes: vec![(queue_place(record.queue_count), incoming.packed())],
+        out: Vec::new(),
+    })
+}
+
+pub fn response(record: &Record, store: &[u8], message: &[u8], incarnation: u64) -> Prediction {
+    responded(record, store, message, incarnation).unwrap_or_else(|reply| unchanged(record, reply))
+}
+
+fn responded(record: &Record, store: &[u8], message: &[u8], incarnation: u64) -> Result<Prediction, Reply> {
+    let slots = slots(record, store, None)?;
+    let response = messages::response(message).map_err(|number| refused(number, &[]))?;
+    same_incarnation(record, incarnation)?;
+    let Some(assignment) = response.assignment else {
+        return Err(response.error.map_or_else(|| refused(17, &[response.request_id]), |code| refused(16, &[word(code)])));
+    };
+    let baseline = content(&assignment, slots.topic)?;
+    above_floor(record, baseline.epoch)?;
+    let replayed = if record.registered { &[][..] } else { &slots.queue[..] };
+    let mut last = &baseline;
+    for entry in replayed {
+        if entry.epoch < last.epoch {
+            return Err(refused(27, &[entry.epoch, last.epoch]));
+        }
+        last = entry;
+    }
+    let state = Record { registered: true, drain_position: 0, queue_count: replayed.len(), ..*record };
+    Ok(Prediction {
+        reply: taken(raw::ACCEPTED, &[]),
+        state: with_floor(state, higher_floor(record, last.epoch)),
+        writes: vec![(BASELINE, baseline.packed()), (LIST, last.packed())],
+        out: Vec::new(),
+    })
+}
+
+pub fn drain(record: &Record, store: &[u8], room: usize) -> Prediction {
+    drained(record, store, room).unwrap_or_else(|reply| unchanged(record, reply))
+}
+
+fn drained(record: &Record, store: &[u8], room: usize) -> Result<Prediction, Reply> {
+    let slots = slots(record, store, Some(room))?;
+    let Some((baseline, _)) = slots.held else {
+        return Ok(unchanged(record, taken(raw::UNCHANGED, &[])));
+    };
+    let before = |index: usize| if index == 0 { &baseline } else { &slots.queue[index - 1] };
+    let moved = |position| normal(Record { drain_position: position, ..*record });
+    let next = (record.drain_position..slots.queue.len()).find(|index| &slots.queue[*index] != before(*index));
+    let Some(index) = next else {
+        return Ok(Prediction { state: moved(slots.queue.len()), ..unchanged(record, taken(raw::UNCHANGED, &[])) });
+    };
+    let out = Delta::between(before(index), &slots.queue[index]).packed().expect("counts of two sheets");
+    Ok(Prediction { reply: taken(raw::REPLAY, &[queue_place(index) as u64, out.len() as u64]), state: moved(index + 1), writes: Vec::new(), out })
+}
+
+fn unregistered(record: &Record, incarnation: u64, invalidated: bool) -> Prediction {
+    let state = Record { incarnation, invalidated, registered: false, queue_count: 0, drain_position: 0, ..*record };
+    unchanged(&state, taken(raw::ACCEPTED, &[]))
+}
+
+pub fn begin(record: &Record, incarnation: u64) -> Prediction {
+    if incarnation <= record.incarnation {
+        return unchanged(record, refused(25, &[incarnation, record.incarnation]));
+    }
+    unregistered(record, incarnation, false)
+}
+
+pub fn invalidate(record: &Record) -> Prediction {
+    unregistered(record, record.incarnation, true)
+}

@@ -1,0 +1,45 @@
+//! Replies made by hand: what an answer should be, in the numbers of the exported library.
+use crate::raw::{self, Reply};
+
+fn with(answer: u8, number: u8, values: &[u64]) -> Reply {
+    let at = |k: usize| values.get(k).copied().unwrap_or(0);
+    Reply { answer, number, count: values.len() as u8, first: at(0), second: at(1), third: at(2), fourth: at(3) }
+}
+
+/// A refusal with its attached numbers.
+pub fn refused(number: u8, values: &[u64]) -> Reply {
+    with(raw::REFUSED, number, values)
+}
+
+/// Any other answer with its values.
+pub fn taken(answer: u8, values: &[u64]) -> Reply {
+    with(answer, 0, values)
+}
+
+/// A number of the wire that may be negative, as a word.
+pub fn word(value: i32) -> u64 {
+    i64::from(value) as u64
+}
+
+/// Whether a refusal is one that the Rust does not know: such a call is not fed to it. `depth` is the store's.
+pub fn is_ours(reply: &Reply, depth: usize) -> bool {
+    let number = if reply.answer == raw::REFUSED { reply.number } else { 0 };
+    match number {
+        1..=8 | 15 | 20..=22 | 30 | 31 => true,
+        28 => depth < 1024,
+        _ => false,
+    }
+}
+
+/// An answer in words; values beyond its count only where they are not 0.
+pub fn show(reply: &Reply) -> String {
+    let named = ["refused", "accepted", "unchanged", "delta", "replay", "written", "yes", "no", "found"];
+    let answer = named.get(usize::from(reply.answer)).map_or_else(|| format!("answer {}", reply.answer), ToString::to_string);
+    let number = if reply.number == 0 { String::new() } else { format!(" {}", reply.number) };
+    let values = [reply.first, reply.second, reply.third, reply.fourth];
+    match values.split_at_checked(usize::from(reply.count)) {
+        Some((values, [])) => format!("{answer}{number} {values:?}"),
+        Some((values, rest)) if rest.iter().all(|value| *value == 0) => format!("{answer}{number} {values:?}"),
+        _ => format!("{answer}{number}, {} values of {values:?}", reply.count),
+    }
+}

@@ -1,0 +1,114 @@
+//! Whether the comparison notices a wrong bit, for each call and each place of what it gives.
+use crate::model::session::{LIST, SLOT};
+use crate::parts::Parts;
+use crate::spoil::{Place, arm, armed, disarm, leave_to_rust};
+use crate::tally::{Call, Tally};
+
+const REPLY: &[Place] = &[Place::Answer, Place::Number, Place::Count, Place::Value(0), Place::Value(1), Place::Value(2), Place::Value(3)];
+
+/// A call, whether it gives a record, and how many slices it is lent.
+const CALLS: &[(Call, bool, usize)] = &[
+    (Call::Open, true, 1),
+    (Call::Matches, false, 1),
+    (Call::Begin, true, 0),
+    (Call::Invalidate, true, 0),
+    (Call::Update, true, 3),
+    (Call::Response, true, 2),
+    (Call::Drain, true, 2),
+    (Call::Apply, false, 3),
+    (Call::Join, false, 3),
+    (Call::ToPb, false, 3),
+    (Call::SegmentTopic, false, 2),
+    (Call::SegmentSource, false, 1),
+    (Call::ParentTopic, false, 2),
+    (Call::RangeLen, false, 0),
+    (Call::RangeContains, false, 0),
+    (Call::RangeContainsRange, false, 0),
+    (Call::RangeAdjacent, false, 0),
+    #[cfg(feature = "watch")]
+    (Call::Watch, false, 3),
+];
+
+fn places() -> Vec<(Call, Place)> {
+    let mut places = vec![(Call::ConsumerType, Place::Kind)];
+    for (call, record, slices) in CALLS {
+        let state = (0..if *record { 8 } else { 0 }).map(Place::State);
+        let lent = (0..*slices).flat_map(|slice| (0..3).map(move |part| Place::Lent(slice, part)));
+        places.extend(REPLY.iter().copied().chain(state).chain(lent).map(|place| (*call, place)));
+    }
+    places
+}
+
+/// A text is judged where its message reads; of others only that it lies inside.
+fn text_places() -> Vec<(Call, Place)> {
+    let calls = [Call::ResponseText, Call::WatchText];
+    let here = if cfg!(feature = "watch") { &calls[..] } else { &calls[..1] };
+    here.iter().flat_map(|call| [(*call, Place::TextStart), (*call, Place::TextLength)]).collect()
+}
+
+/// What of a session's calls the Rust alone can judge: the answer, of the record what the Rust has too, the delta, baseline and list.
+fn places_of_the_rust() -> Vec<(Call, Place)> {
+    let mut places = vec![
+        (Call::Update, Place::Byte(2, 0)),
+        (Call::Drain, Place::Byte(1, 0)),
+        (Call::Update, Place::Byte(0, LIST + 7)),
+        (Call::Response, Place::Byte(0, LIST + 7)),
+        (Call::Response, Place::Byte(0, SLOT + 7)),
+    ];
+    for call in [Call::Begin, Call::Invalidate, Call::Update, Call::Response, Call::Drain] {
+        places.extend(REPLY.iter().copied().chain([1, 2, 3, 5, 6, 7].map(Place::State)).map(|place| (call, place)));
+    }
+    places.extend(REPLY.iter().map(|place| (Call::Matches, *place)));
+    places
+}
+
+/// Steps until that many calls were spoiled or a difference was found; whether one was.
+fn found(parts: &mut Parts, tally: &mut Tally, call: Call, place: Place, most: usize) -> bool {
+    let before = tally.differences;
+    for _ in 0..most {
+        arm(call, place);
+        while tally.differences == before && armed() {
+            parts.step(tally);
+        }
+        if tally.differences > before {
+            break;
+        }
+    }
+    disarm();
+    tally.differences > before
+}
+
+/// Tries each place; how many there are, and how many were missed.
+fn tried(parts: &mut Parts, tally: &mut Tally, places: &[(Call, Place)], most: usize) -> (usize, usize) {
+    let mut missed = 0;
+    for (call, place) in places {
+        if !found(parts, tally, *call, *place, most) {
+            println!("self-test: not noticed: {place:?} of {call:?}");
+            missed += 1;
+        }
+    }
+    (places.len(), missed)
+}
+
+/// Calls that may be spoiled before it has to be noticed, where not each is judged.
+const TRIES: usize = 400;
+
+/// Prints what was not noticed; 0 where every wrong bit was, and no difference came without one.
+pub fn run() -> i32 {
+    let mut tally = Tally::new();
+    tally.quiet = true;
+    let mut parts = Parts::new(&mut tally, 1);
+    let (all, missed) = tried(&mut parts, &mut tally, &places(), 1);
+    let (texts, missed_texts) = tried(&mut parts, &mut tally, &text_places(), TRIES);
+    leave_to_rust(true);
+    let (of_rust, missed_by_rust) = tried(&mut parts, &mut tally, &places_of_the_rust(), TRIES);
+    leave_to_rust(false);
+    let (all, missed) = (all + texts, missed + missed_texts);
+    let extra = tally.differences - (all - missed + of_rust - missed_by_rust) as u64;
+    println!(
+        "self-test: of {all} wrong bits {} noticed; of {of_rust} by the Rust alone {}; {extra} differences besides",
+        all - missed,
+        of_rust - missed_by_rust
+    );
+    i32::from(missed + missed_by_rust > 0 || extra > 0)
+}

@@ -1,0 +1,141 @@
+//! Records and stores of any content, most of which no run reaches: the answers are the model's alone.
+use super::stage::{Ask, ROOM, Stage};
+use super::world::{TOPICS, World};
+use crate::generate::{Assignment, Style, damaged};
+use crate::lists::{random_sheet, spoiled_sheet};
+use crate::model::identity::Texts;
+use crate::model::session::{SLOT, STORE_LEAST};
+use crate::model::sheet::Sheet;
+use crate::raw::Record;
+use crate::rng::Rng;
+use crate::tally::Tally;
+
+pub struct Damaged {
+    rng: Rng,
+}
+
+impl Damaged {
+    pub fn new(seed: u64) -> Self {
+        Self { rng: Rng::new(seed, "damaged") }
+    }
+
+    pub fn step(&mut self, tally: &mut Tally) {
+        for _ in 0..20 {
+            let rng = &mut self.rng;
+            let topics = if rng.one_in(8) { TOPICS } else { &TOPICS[..2] };
+            let topic = rng.pick(topics);
+            let length = length(rng);
+            let record = record(length / SLOT, rng);
+            let store = store(length, topic, rng);
+            let mut stage = Stage::new(record, store, rng);
+            let mut world = World::new(topic);
+            for _ in 0..4 {
+                let ask = ask(&stage, &mut world, &mut self.rng);
+                stage.ask(tally, &ask, None);
+            }
+        }
+    }
+}
+
+/// Lengths around each limit of a small store.
+fn length(rng: &mut Rng) -> usize {
+    let whole = rng.between(3, 8) * SLOT;
+    match rng.below(10) {
+        0 => rng.below(STORE_LEAST),
+        1 => STORE_LEAST - 1,
+        2 | 3 => whole - 1,
+        4 | 5 => whole + 1,
+        _ => whole,
+    }
+}
+
+fn record(slots: usize, rng: &mut Rng) -> Record {
+    let depth = slots.saturating_sub(3);
+    let queue_count = if rng.one_in(12) { rng.pick(&[depth + 1, depth + 2, 1024, 1025, usize::MAX, 1 << 32]) } else { rng.below(depth + 1) };
+    let drain_position = if rng.one_in(12) { rng.pick(&[queue_count.wrapping_add(1), usize::MAX, 0]) } else { rng.below(queue_count.min(8) + 1) };
+    let floor = rng.pick(&[0, 3, 4, 5, u64::MAX]);
+    Record {
+        consumer_id: 7,
+        incarnation: rng.pick(&[1, 1, 1, u64::MAX]),
+        epoch_floor: floor,
+        queue_count,
+        drain_position,
+        has_floor: !rng.one_in(3),
+        registered: !rng.one_in(3),
+        invalidated: rng.one_in(3),
+    }
+}
+
+/// Slots that are good, most of them; a bad one is spoiled in one place or not a sheet at all.
+fn store(length: usize, topic: &str, rng: &mut Rng) -> Vec<u8> {
+    let mut store = rng.bytes(length);
+    let bad = rng.below(12);
+    for slot in 0..length / SLOT {
+        let bytes =
+            if slot == 0 { identity(topic, bad == 0, rng) } else { sheet(bad == slot, slot > 1 && rng.one_in(3), &store[..slot * SLOT], rng) };
+        let length = bytes.len().min(SLOT);
+        store[slot * SLOT..slot * SLOT + length].copy_from_slice(&bytes[..length]);
+    }
+    store
+}
+
+fn sheet(bad: bool, again: bool, before: &[u8], rng: &mut Rng) -> Vec<u8> {
+    if again {
+        return before[before.len() - SLOT..].to_vec();
+    }
+    let epoch = rng.pick(&[0, 3, 3, 3, 4, 4, 5, u64::MAX]);
+    let most = if rng.one_in(8) { 2048 } else { 120 };
+    let packed = random_sheet(epoch, most, rng).packed();
+    if bad { spoiled_sheet(packed, rng) } else { packed }
+}
+
+fn identity(topic: &str, bad: bool, rng: &mut Rng) -> Vec<u8> {
+    let texts = [topic.as_bytes().to_vec(), b"s".to_vec(), vec![b'n'; rng.pick(&[0, 1, 2000])]];
+    let mut packed = Texts { texts, kind: rng.pick(&[0, 1]) }.packed();
+    if bad {
+        match rng.below(4) {
+            0 => packed[6] = rng.between(2, 255) as u8,
+            1 => packed[rng.pick(&[0, 2, 4])] ^= 1 << rng.between(3, 7),
+            2 => packed[rng.pick(&[1, 3, 5])] ^= 1 << rng.below(8),
+            _ => packed[7] = 0xff,
+        }
+    }
+    packed
+}
+
+/// The list in a slot, as a message would say it.
+fn held(stage: &Stage, world: &World, rng: &mut Rng) -> Option<Assignment> {
+    let place = SLOT * rng.pick(&[1, 2, 2, 2, 3]);
+    let sheet = Sheet::at_front(stage.mirror.get(place..place + SLOT)?)?;
+    Some(Assignment::of_sheet(&sheet, world.path()))
+}
+
+fn ask(stage: &Stage, world: &mut World, rng: &mut Rng) -> Ask {
+    let epoch = rng.pick(&[0, 2, 3, 4, 5, 6, u64::MAX]);
+    let incarnation = if rng.one_in(12) { 2 } else { stage.record.incarnation };
+    let room = if rng.one_in(12) { rng.pick(&[0, ROOM - 1]) } else { ROOM };
+    let list = match rng.below(6) {
+        0 => world.faulty(epoch, rng),
+        1 | 2 => held(stage, world, rng).unwrap_or_else(|| world.list(epoch, rng)),
+        _ => world.list(epoch, rng),
+    };
+    let broken = rng.one_in(10);
+    let sent = |message: Vec<u8>, rng: &mut Rng| if broken { damaged(&message, rng) } else { message };
+    match rng.below(10) {
+        0..4 => {
+            let message = list.update(7, Style::Plain, rng);
+            Ask::Update { message: sent(message, rng), incarnation, room }
+        }
+        4..6 => {
+            let message = list.response(1, Style::Plain, rng);
+            Ask::Response { message: sent(message, rng), incarnation }
+        }
+        6..8 => Ask::Drain { room },
+        8 if rng.one_in(3) => Ask::Begin { incarnation: rng.pick(&[0, 1, 2, u64::MAX]) },
+        8 if rng.one_in(3) => Ask::Invalidate,
+        _ => {
+            let texts = [world.topic.as_bytes().to_vec(), b"s".to_vec(), b"n".to_vec()];
+            Ask::Matches(Texts { texts, kind: rng.pick(&[0, 1]) })
+        }
+    }
+}

@@ -1,0 +1,275 @@
+//! A session of ours on the stage: its record, store and output, each beside a mirror of what it should be.
+use super::twin::{Fed, Twin, answer_differs};
+use crate::model::identity::{self, Texts};
+use crate::model::messages;
+use crate::model::session::{self, LIST, OUT_LEAST, Prediction, SLOT, Write, depth, fresh, queue_place};
+use crate::model::sheet::Sheet;
+use crate::ours;
+use crate::raw::{self, Record, SessionReply};
+use crate::reply::{is_ours, show, taken};
+use crate::rng::Rng;
+use crate::shrink::shrunk;
+use crate::spoil::rust_alone;
+use crate::tally::{Call, Tally, first_difference, hex};
+
+/// A call of a session.
+#[derive(Clone, Debug)]
+pub enum Ask {
+    Update { message: Vec<u8>, incarnation: u64, room: usize },
+    Response { message: Vec<u8>, incarnation: u64 },
+    Drain { room: usize },
+    Begin { incarnation: u64 },
+    Invalidate,
+    Matches(Texts),
+}
+
+impl Ask {
+    fn call(&self) -> Call {
+        match self {
+            Self::Update { .. } => Call::Update,
+            Self::Response { .. } => Call::Response,
+            Self::Drain { .. } => Call::Drain,
+            Self::Begin { .. } => Call::Begin,
+            Self::Invalidate => Call::Invalidate,
+            Self::Matches(_) => Call::Matches,
+        }
+    }
+
+    fn message(&self) -> &[u8] {
+        match self {
+            Self::Update { message, .. } | Self::Response { message, .. } => message,
+            _ => &[],
+        }
+    }
+
+    fn with_message(&self, bytes: &[u8]) -> Self {
+        let mut ask = self.clone();
+        if let Self::Update { message, .. } | Self::Response { message, .. } = &mut ask {
+            *message = bytes.to_vec();
+        }
+        ask
+    }
+
+    /// How much of the output buffer is lent.
+    fn room(&self) -> usize {
+        match self {
+            Self::Update { room, .. } | Self::Drain { room } => *room,
+            _ => 0,
+        }
+    }
+}
+
+/// The output buffer; what is behind the lent part must stay too.
+const OUT_BUFFER: usize = 4096;
+
+#[derive(Clone)]
+pub struct Stage {
+    pub record: Record,
+    store: Vec<u8>,
+    /// The store as it should be; between calls the two are equal.
+    pub mirror: Vec<u8>,
+    out: Vec<u8>,
+    out_mirror: Vec<u8>,
+}
+
+impl Stage {
+    /// A store and a record of any content.
+    pub fn new(record: Record, store: Vec<u8>, rng: &mut Rng) -> Self {
+        let out = rng.bytes(OUT_BUFFER);
+        Self { record, mirror: store.clone(), store, out_mirror: out.clone(), out }
+    }
+
+    /// Opens a session on the store as it is. The Rust's session where ours is open.
+    pub fn open(&mut self, tally: &mut Tally, consumer_id: u64, incarnation: u64, texts: &Texts) -> Option<Twin> {
+        let (reply, writes) = identity::open(texts, self.mirror.len());
+        let prediction = Prediction { reply, state: fresh(consumer_id, incarnation), writes, out: Vec::new() };
+        let given = ours::open(consumer_id, incarnation, texts, &mut self.store);
+        let twin = if reply.answer == raw::ACCEPTED { Twin::open(consumer_id, incarnation, texts) } else { None };
+        tally.count(Call::Open, &given.reply, twin.is_some());
+        let wrong = self.differs(&prediction, &given);
+        let good = wrong.is_none();
+        let wrong_twin = twin.as_ref().and_then(|twin| twin.differs(&given.state, &self.store));
+        if let Some(what) = wrong.filter(|_| !rust_alone()).or(wrong_twin) {
+            let input =
+                || format!("store of {} bytes, kind {}, texts {:?}", self.store.len(), texts.kind, texts.texts.each_ref().map(|text| hex(text)));
+            tally.differ(Call::Open, &what, input);
+        }
+        self.settle(&prediction, good);
+        twin
+    }
+
+    /// Changes bytes of the store from outside.
+    pub fn poke(&mut self, place: usize, bytes: &[u8]) {
+        self.store[place..place + bytes.len()].copy_from_slice(bytes);
+        self.mirror[place..place + bytes.len()].copy_from_slice(bytes);
+    }
+
+    /// Makes the call on our side, and on the Rust's where a twin is lent and none of ours is due, and compares everything.
+    pub fn ask(&mut self, tally: &mut Tally, ask: &Ask, twin: Option<&mut Twin>) -> SessionReply {
+        let prediction = predict(ask, &self.record, &self.mirror);
+        let mut message = ask.message().to_vec();
+        let given = make(ask, self.record, &mut self.store, &mut message, &mut self.out);
+        let fed = twin.filter(|_| !is_ours(&prediction.reply, depth(self.mirror.len())));
+        tally.count(ask.call(), &given.reply, fed.is_some());
+        let wrong = self.differs(&prediction, &given).or_else(|| (message != ask.message()).then(|| "the message was changed".into()));
+        let (wrong_twin, text) = self.compare(ask, &given, fed);
+        let good = wrong.is_none();
+        if let Some(what) = wrong.filter(|_| !rust_alone()).or(wrong_twin) {
+            let smallest = self.smallest(ask);
+            tally.differ(ask.call(), &what, || self.show(&smallest));
+        }
+        if matches!(ask, Ask::Response { .. }) {
+            check_text(tally, ask.message(), text);
+        }
+        self.settle(&prediction, good);
+        given
+    }
+
+    /// Feeds the Rust's session and compares with it; also the broker's text, where it gave one.
+    fn compare(&self, ask: &Ask, given: &SessionReply, twin: Option<&mut Twin>) -> (Option<String>, Option<String>) {
+        let Some(twin) = twin else { return (None, None) };
+        match twin.feed(ask) {
+            Err(what) => (Some(what), None),
+            Ok(fed) => {
+                let differs = |fed: &Fed| answer_differs(&given.reply, fed, &self.store, &self.out);
+                (differs(&fed).or_else(|| twin.differs(&given.state, &self.store)), fed.text)
+            }
+        }
+    }
+
+    /// How what was given differs from the prediction.
+    fn differs(&self, prediction: &Prediction, given: &SessionReply) -> Option<String> {
+        if given.reply != prediction.reply {
+            return Some(format!("ours {}, expected {}", show(&given.reply), show(&prediction.reply)));
+        }
+        if given.state != prediction.state {
+            return Some(format!("record: ours {:?}, expected {:?}", given.state, prediction.state));
+        }
+        let store = bytes_differ(&self.store, &self.mirror, &prediction.writes).map(|at| format!("store byte {at}"));
+        let front = [(0, prediction.out.clone())];
+        store.or_else(|| bytes_differ(&self.out, &self.out_mirror, &front).map(|at| format!("output byte {at}")))
+    }
+
+    /// Takes the prediction over, also where ours differed, so that one fault does not show again and again.
+    fn settle(&mut self, prediction: &Prediction, good: bool) {
+        for (place, bytes) in &prediction.writes {
+            self.mirror[*place..place + bytes.len()].copy_from_slice(bytes);
+        }
+        self.out_mirror[..prediction.out.len()].copy_from_slice(&prediction.out);
+        self.record = prediction.state;
+        if !good {
+            self.store.copy_from_slice(&self.mirror);
+            self.out.copy_from_slice(&self.out_mirror);
+        }
+    }
+
+    /// The call with the shortest message found on which ours still differs from the prediction.
+    fn smallest(&self, ask: &Ask) -> Ask {
+        let differs = |message: &[u8]| {
+            let mut stage = Self { store: self.mirror.clone(), out: self.out_mirror.clone(), ..self.clone() };
+            let ask = ask.with_message(message);
+            let prediction = predict(&ask, &stage.record, &stage.mirror);
+            let given = make(&ask, stage.record, &mut stage.store, &mut message.to_vec(), &mut stage.out);
+            stage.differs(&prediction, &given).is_some()
+        };
+        ask.with_message(&shrunk(ask.message(), differs))
+    }
+
+    /// All that decides the call's answer.
+    fn show(&self, ask: &Ask) -> String {
+        let with = match ask {
+            Ask::Update { message, incarnation, room } => format!("incarnation {incarnation}, output of {room}, message {}", hex(message)),
+            Ask::Response { message, incarnation } => format!("incarnation {incarnation}, message {}", hex(message)),
+            other => format!("{other:?}"),
+        };
+        let queue: Vec<String> = (0..self.record.queue_count.min(4)).map(|index| self.show_sheet(queue_place(index))).collect();
+        let held = if self.record.registered { [SLOT, LIST].map(|place| self.show_sheet(place)) } else { [(); 2].map(|()| "none".into()) };
+        format!(
+            "{with}\n    {:?}\n    store of {} bytes: identity {}, baseline {}, list {}, queue {queue:?}",
+            self.record,
+            self.mirror.len(),
+            self.show_identity(),
+            held[0],
+            held[1]
+        )
+    }
+
+    fn show_identity(&self) -> String {
+        let slot = self.mirror.get(..SLOT).unwrap_or(&self.mirror);
+        match identity::read(slot) {
+            Some((texts, kind)) => format!("{texts:?} {kind}"),
+            None => format!("malformed {}..", hex(&slot[..slot.len().min(64)])),
+        }
+    }
+
+    /// The sheet in a slot; of a malformed one the first bytes.
+    fn show_sheet(&self, place: usize) -> String {
+        let Some(slot) = self.mirror.get(place..place + SLOT) else { return "outside".into() };
+        match Sheet::at_front(slot) {
+            Some(sheet) => hex(&slot[..sheet.size()]),
+            None => format!("malformed {}..", hex(&slot[..64])),
+        }
+    }
+}
+
+/// What 01 says of the call.
+fn predict(ask: &Ask, record: &Record, store: &[u8]) -> Prediction {
+    match ask {
+        Ask::Update { message, incarnation, room } => session::update(record, store, message, *incarnation, *room),
+        Ask::Response { message, incarnation } => session::response(record, store, message, *incarnation),
+        Ask::Drain { room } => session::drain(record, store, *room),
+        Ask::Begin { incarnation } => session::begin(record, *incarnation),
+        Ask::Invalidate => session::invalidate(record),
+        Ask::Matches(texts) => Prediction { reply: identity::matches(store, texts), state: *record, writes: Vec::new(), out: Vec::new() },
+    }
+}
+
+/// Makes the call on our side.
+fn make(ask: &Ask, record: Record, store: &mut [u8], message: &mut [u8], out: &mut [u8]) -> SessionReply {
+    let out = &mut out[..ask.room()];
+    match ask {
+        Ask::Update { incarnation, .. } => ours::update(record, store, message, *incarnation, out),
+        Ask::Response { incarnation, .. } => ours::response(record, store, message, *incarnation),
+        Ask::Drain { .. } => ours::drain(record, store, out),
+        Ask::Begin { incarnation } => ours::begin(record, *incarnation),
+        Ask::Invalidate => ours::invalidate(record),
+        Ask::Matches(texts) => SessionReply { state: record, reply: ours::matches(texts, store) },
+    }
+}
+
+/// The broker's text of a response: inside the message always; what it says, where the message reads.
+fn check_text(tally: &mut Tally, message: &[u8], broker: Option<String>) {
+    let mut lent = message.to_vec();
+    let part = ours::response_text(&mut lent);
+    tally.count(Call::ResponseText, &taken(raw::FOUND, &[]), broker.is_some());
+    let text = part.start.checked_add(part.length).and_then(|end| message.get(part.start..end));
+    let read = messages::response(message).ok().map(|response| response.text.map_or(&[][..], |part| &message[part]));
+    let good = match (text, read) {
+        (None, _) => false,
+        (Some(_), None) => true,
+        (Some(text), Some(read)) => text == read && broker.is_none_or(|broker| text == broker.as_bytes()),
+    };
+    if !good || lent != message {
+        tally.differ(Call::ResponseText, &format!("{part:?}"), || hex(message));
+    }
+}
+
+/// The first byte that is not as the mirror says, once the writes are made there.
+pub fn bytes_differ(bytes: &[u8], mirror: &[u8], writes: &[Write]) -> Option<usize> {
+    let mut at = 0;
+    let differ = |from: usize, expected: &[u8]| {
+        let given = &bytes[from..from + expected.len()];
+        (given != expected).then(|| from + first_difference(given, expected))
+    };
+    for (place, written) in writes {
+        let found = differ(at, &mirror[at..*place]).or_else(|| differ(*place, written));
+        if found.is_some() {
+            return found;
+        }
+        at = place + written.len();
+    }
+    differ(at, &mirror[at..])
+}
+
+/// An output that is always long enough.
+pub const ROOM: usize = OUT_LEAST;

@@ -1,0 +1,117 @@
+//! One wrong bit in what one call gave, for the self-test. Nothing is spoiled unless `arm` asked for it.
+use crate::raw::{Part, Record, Reply};
+use crate::tally::Call;
+use std::cell::Cell;
+
+#[derive(Clone, Copy, Debug, PartialEq, Eq)]
+pub enum Place {
+    Answer,
+    Number,
+    Count,
+    /// One of the four values.
+    Value(usize),
+    /// One of the record's fields.
+    State(usize),
+    /// Of the lent slices one: its first byte, its middle, its last.
+    Lent(usize, usize),
+    /// Of the lent slices one: this byte.
+    Byte(usize, usize),
+    TextStart,
+    TextLength,
+    Kind,
+}
+
+thread_local! {
+    static ARMED: Cell<Option<(Call, Place)>> = const { Cell::new(None) };
+    static RUST_ALONE: Cell<bool> = const { Cell::new(false) };
+}
+
+/// Leaves the judgement of a session's calls to the Rust: what the model says is not reported.
+pub fn leave_to_rust(alone: bool) {
+    RUST_ALONE.set(alone);
+}
+
+pub fn rust_alone() -> bool {
+    RUST_ALONE.get()
+}
+
+/// The next call of this kind where the place exists is spoiled there.
+pub fn arm(call: Call, place: Place) {
+    ARMED.set(Some((call, place)));
+}
+
+/// Whether what `arm` asked for is still to come.
+pub fn armed() -> bool {
+    ARMED.get().is_some()
+}
+
+/// Takes back what `arm` asked for.
+pub fn disarm() {
+    ARMED.set(None);
+}
+
+fn waiting(call: Call) -> Option<Place> {
+    ARMED.get().filter(|(armed, _)| *armed == call).map(|(_, place)| place)
+}
+
+pub fn spoil_reply(call: Call, reply: &mut Reply) {
+    let Some(place) = waiting(call) else { return };
+    match place {
+        Place::Answer => reply.answer ^= 1,
+        Place::Number => reply.number ^= 1,
+        Place::Count => reply.count ^= 1,
+        Place::Value(k) => *[&mut reply.first, &mut reply.second, &mut reply.third, &mut reply.fourth][k] ^= 1,
+        _ => return,
+    }
+    ARMED.set(None);
+}
+
+pub fn spoil_state(call: Call, state: &mut Record) {
+    let Some(Place::State(k)) = waiting(call) else { return };
+    match k {
+        0 => state.consumer_id ^= 1,
+        1 => state.incarnation ^= 1,
+        2 => state.epoch_floor ^= 1,
+        3 => state.queue_count ^= 1,
+        4 => state.drain_position ^= 1,
+        5 => state.has_floor ^= true,
+        6 => state.registered ^= true,
+        _ => state.invalidated ^= true,
+    }
+    ARMED.set(None);
+}
+
+pub fn spoil_lent(call: Call, lent: &mut [&mut [u8]]) {
+    let (which, place) = match waiting(call) {
+        Some(Place::Lent(which, part)) => (which, lent[which].len().saturating_sub(1) * part / 2),
+        Some(Place::Byte(which, place)) => (which, place),
+        _ => return,
+    };
+    if let Some(byte) = lent[which].get_mut(place) {
+        *byte ^= 1;
+        ARMED.set(None);
+    }
+}
+
+/// Only where the text is not the same after it: where an empty text stands is free.
+pub fn spoil_part(call: Call, part: &mut Part, message: &[u8]) {
+    let Some(place) = waiting(call) else { return };
+    let text = |part: &Part| message.get(part.start..part.start + part.length);
+    let mut wrong = *part;
+    match place {
+        Place::TextStart => wrong.start ^= 1,
+        Place::TextLength => wrong.length ^= 1,
+        _ => return,
+    }
+    if text(part) != text(&wrong) {
+        *part = wrong;
+        ARMED.set(None);
+    }
+}
+
+pub fn spoil_number(call: Call, number: &mut i32) {
+    if waiting(call) == Some(Place::Kind) {
+        *number ^= 1;
+        ARMED.set(None);
+    }
+}

@@ -1,0 +1,154 @@
+//! What was called, what was answered, and where the two sides differ.
+use crate::raw::{self, Reply};
+
+#[derive(Clone, Copy, Debug, PartialEq, Eq)]
+pub enum Call {
+    Open,
+    Matches,
+    Begin,
+    Invalidate,
+    Update,
+    Response,
+    ResponseText,
+    Drain,
+    Apply,
+    Join,
+    ToPb,
+    SegmentTopic,
+    SegmentSource,
+    ParentTopic,
+    RangeLen,
+    RangeContains,
+    RangeContainsRange,
+    RangeAdjacent,
+    ConsumerType,
+    Watch,
+    WatchText,
+}
+
+use Call::*;
+
+/// A call, the refusals it can give and its other answers. A run in which one of them never came fails.
+const REACH: &[(Call, &[u8], &[u8])] = &[
+    (Open, &[1, 7, 8], &[raw::ACCEPTED]),
+    (Matches, &[1, 22], &[raw::YES, raw::NO]),
+    (Begin, &[25], &[raw::ACCEPTED]),
+    (Invalidate, &[], &[raw::ACCEPTED]),
+    (Update, &[1, 2, 3, 4, 5, 6, 7, 9, 10, 11, 12, 13, 14, 15, 22, 23, 24, 26, 27, 28], &[raw::UNCHANGED, raw::DELTA]),
+    (Response, &[1, 3, 4, 5, 6, 7, 9, 10, 11, 12, 13, 14, 15, 16, 17, 22, 23, 26, 27], &[raw::ACCEPTED]),
+    (ResponseText, &[], &[raw::FOUND]),
+    (Drain, &[1, 2, 22], &[raw::UNCHANGED, raw::REPLAY]),
+    (Apply, &[15, 20, 21], &[raw::WRITTEN]),
+    (Join, &[20, 21], &[raw::WRITTEN]),
+    (ToPb, &[7, 12, 20, 21], &[raw::WRITTEN]),
+    (SegmentTopic, &[7, 9, 12, 21], &[raw::WRITTEN]),
+    (SegmentSource, &[7, 9, 12, 18, 19], &[raw::FOUND]),
+    (ParentTopic, &[7, 9, 12, 18, 21], &[raw::WRITTEN]),
+    (RangeLen, &[9], &[raw::FOUND]),
+    (RangeContains, &[9], &[raw::YES, raw::NO]),
+    (RangeContainsRange, &[9], &[raw::YES, raw::NO]),
+    (RangeAdjacent, &[9], &[raw::YES, raw::NO]),
+    (ConsumerType, &[], &[raw::FOUND]),
+    (Watch, &[3, 4, 5, 6, 7, 16, 17, 21, 29, 30, 31], &[raw::WRITTEN]),
+    (WatchText, &[], &[raw::FOUND]),
+];
+
+/// The calls of this build: the watch only where the library has it.
+fn reach() -> impl Iterator<Item = &'static (Call, &'static [u8], &'static [u8])> {
+    REACH.iter().filter(|row| cfg!(feature = "watch") || !matches!(row.0, Watch | WatchText))
+}
+
+const NUMBERS: usize = 32;
+const COLUMNS: usize = NUMBERS + 16;
+
+fn column(answer: u8, number: u8) -> usize {
+    let at = if answer == raw::REFUSED { usize::from(number) } else { NUMBERS + usize::from(answer) };
+    at.min(COLUMNS - 1)
+}
+
+fn column_name(at: usize) -> String {
+    let answers = ["?", "accepted", "unchanged", "delta", "replay", "written", "yes", "no", "found"];
+    if at < NUMBERS { at.to_string() } else { (*answers.get(at - NUMBERS).unwrap_or(&"?")).to_string() }
+}
+
+#[derive(Clone, Copy, Default)]
+struct Count {
+    all: u64,
+    oracle: u64,
+}
+
+/// Differences that are printed whole.
+const PRINTED: usize = 10;
+
+pub struct Tally {
+    counts: Vec<[Count; COLUMNS]>,
+    pub calls: u64,
+    pub differences: u64,
+    /// The part of the run that is on, and its step.
+    pub place: String,
+    pub quiet: bool,
+}
+
+impl Tally {
+    pub fn new() -> Self {
+        Self { counts: vec![[Count::default(); COLUMNS]; REACH.len()], calls: 0, differences: 0, place: String::new(), quiet: false }
+    }
+
+    /// Counts a call; `oracle`: its answer was compared with the Rust's.
+    pub fn count(&mut self, call: Call, reply: &Reply, oracle: bool) {
+        let count = &mut self.counts[call as usize][column(reply.answer, reply.number)];
+        count.all += 1;
+        count.oracle += u64::from(oracle);
+        self.calls += 1;
+    }
+
+    /// A difference: what differs, and the input that shows it.
+    pub fn differ(&mut self, call: Call, what: &str, input: impl FnOnce() -> String) {
+        self.differences += 1;
+        if !self.quiet && self.differences as usize <= PRINTED {
+            println!("DIFFERENCE in {call:?} ({}): {what}\n    {}", self.place, input());
+        }
+    }
+
+    /// The table of answers, a line for each call.
+    pub fn print(&self) {
+        println!("answers of each call: a refusal by its number; behind a stroke, how many were compared with the Rust's, where not all");
+        for (call, _, _) in reach() {
+            let mut line = format!("  {:<19}", format!("{call:?}"));
+            for (at, count) in self.counts[*call as usize].iter().enumerate().filter(|(_, count)| count.all > 0) {
+                line += &format!(" {}: {}", column_name(at), count.all);
+                if count.oracle != count.all {
+                    line += &format!("/{}", count.oracle);
+                }
+                line.push(';');
+            }
+            println!("{line}");
+        }
+    }
+
+    /// The answers that should have come and did not.
+    pub fn unseen(&self) -> Vec<String> {
+        let mut missing = Vec::new();
+        for (call, numbers, answers) in reach() {
+            let refusals = numbers.iter().map(|number| column(raw::REFUSED, *number));
+            let others = answers.iter().map(|answer| column(*answer, 0));
+            for at in refusals.chain(others) {
+                if self.counts[*call as usize][at].all == 0 {
+                    missing.push(format!("{call:?} {}", column_name(at)));
+                }
+            }
+        }
+        missing
+    }
+}
+
+/// Bytes in hex; long ones are cut.
+pub fn hex(bytes: &[u8]) -> String {
+    let shown: String = bytes.iter().take(600).map(|byte| format!("{byte:02x}")).collect();
+    if bytes.len() > 600 { format!("{shown}.. ({} bytes)", bytes.len()) } else { shown }
+}
+
+/// The first byte where two rows of bytes of one length part.
+pub fn first_difference(left: &[u8], right: &[u8]) -> usize {
+    left.iter().zip(right).position(|(a, b)| a != b).unwrap_or(left.len().min(right.len()))
+}

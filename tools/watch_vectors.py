@@ -1,0 +1,105 @@
+#!/usr/bin/env python3
+"""Reckons anew what the program `watch_vectors` should write, by other means than the code's, and compares it with crates/watch_vectors/stdout.
+
+The vectors are the lines of crates/watch_vectors/stdin; tools/watch_lines.py makes them. The watch is read from the specification's words: sets of topics are
+Python's own, put in order when they are packed, and the message is tested and taken apart by the reader of tools/vectors.py. `--write` writes stdout anew.
+"""
+from vectors import WATCH, Refused, check, contents, hold, int32, utf8
+
+# the most bytes of a buffer, of a message and of an output
+ROOM = 66560
+LONGEST_TOPIC = 65535
+
+
+def packed(topics):
+    """Topics as in a set: each a length of 16 bits and its bytes, in byte order."""
+    return b"".join(len(topic).to_bytes(2, "big") + topic for topic in sorted(topics))
+
+
+def unpacked(data):
+    """The topics of a packed set."""
+    topics = []
+    while data:
+        end = 2 + int.from_bytes(data[:2], "big")
+        if len(data) < max(2, end):
+            raise Refused(30)
+        topics.append(data[2:end])
+        data = data[end:]
+    if topics != sorted(set(topics)) or not all(map(utf8, topics)):
+        raise Refused(30)
+    return set(topics)
+
+
+def replaced(part):
+    """What a snapshot asks for: the topics that it names, the new set, no lists."""
+    named = contents(1, (2,), part)
+    return named, set(named), None
+
+
+def changed(old, part):
+    """What a diff asks for: it removes, then adds. Its lists are those added and those removed."""
+    adds, removes = contents(1, (2,), part), contents(2, (2,), part)
+    removed = old & set(removes)
+    added = set(adds) - (old - removed)
+    return adds + removes, (old - removed) | added, (added, removed)
+
+
+def written(topics, lists):
+    """The output. No message here is so long that its added list has 2^32 bytes."""
+    if lists is None:
+        return b"\0" + packed(topics)
+    added, removed = map(packed, lists)
+    return b"\1" + len(added).to_bytes(4, "big") + added + removed
+
+
+def read(watch_id, old, message):
+    """What the update asks for, or a refusal of the message."""
+    check(WATCH, message)
+    (got,) = contents(1, (0,), message)
+    if got != watch_id:
+        raise Refused(29, got, watch_id)
+    for part in contents(2, (2,), message):
+        return replaced(part)
+    for part in contents(3, (2,), message):
+        return changed(old, part)
+    for code in contents(4, (0,), message):
+        raise Refused(16, int32(code) % (1 << 64), "0x" + b"".join(contents(5, (2,), message)).hex())
+    raise Refused(17, got)
+
+
+def updated(watch_id, buffer, used, message, room):
+    """The new set, packed, and the output."""
+    if used > len(buffer):
+        raise Refused(30)
+    named, topics, lists = read(watch_id, unpacked(buffer[:used]), message)
+    if any(len(topic) > LONGEST_TOPIC for topic in named) or len(packed(topics)) > len(buffer):
+        raise Refused(31)
+    output = written(topics, lists)
+    if len(output) > room:
+        raise Refused(21)
+    return packed(topics), output
+
+
+def told(shown, watch_id, buffer, used, message, room):
+    """The answer, and that all other bytes are as they were."""
+    assert max(len(buffer), len(message), room) <= ROOM
+    try:
+        results = updated(watch_id, buffer, used, message, room)
+    except Refused as refusal:
+        return " ".join(["refused", *map(str, refusal.args), "same"])
+    return " ".join(["changed", *(str(len(result)) for result in results), *(shown(result) for result in results if shown), "same"])
+
+
+def watch(watch_id, front, size, used, message, room):
+    return told(lambda result: "0x" + result.hex(), watch_id, front[:size].ljust(size, b"\xaa"), used, message, room)
+
+
+def long(watch_id, front, size, used, message, room, length):
+    return told(None, watch_id, front[:size].ljust(size, b"a"), used, message[:length].ljust(length, b"a"), room)
+
+
+# the commands: how each argument is read (n a number, b bytes), and the answer
+COMMANDS = {"watch": ("nbnnbn", watch), "long": ("nbnnbnn", long)}
+
+if __name__ == "__main__":
+    hold("watch_vectors", COMMANDS)
