@@ -116,7 +116,7 @@ def check_helpers(text):
     """The functions with a `requires` are those in the table of internal helpers."""
     listed, real = set(re.findall(r"^\| `(crates/[^`]+)`", text, re.M)), set()
     for path in ROOT.glob("crates/*/src/**/*.rt"):
-        for m in re.finditer(r"^\s*(?:pub )?fn (\w+)(?:(?!^[ \t]*\{).)*?^\s+requires\b", path.read_text(), re.M | re.S):
+        for m in re.finditer(r"^\s*(?:pub )?fn (\w+)(?:(?!^[ \t]*\{|\{$).)*?^\s+requires\b", path.read_text(), re.M | re.S):
             real.add(f"{path.relative_to(ROOT)}:{m[1]}")
     for citation in sorted(listed ^ real):
         fault(f"{citation}: " + ("not among the internal helpers" if citation in real else "an internal helper without a requires"))

@@ -27,6 +27,7 @@ mod short;
 mod shrink;
 mod spoil;
 mod tally;
+mod texts;
 #[cfg(feature = "watch")]
 mod watch;
 

@@ -11,6 +11,7 @@ use crate::rng::Rng;
 use crate::scalable_consumer::{ScalableTopicsWatch, TopicsChange, TopicsWatchError};
 use crate::session::stage::bytes_differ;
 use crate::tally::{Call, Tally, hex};
+use crate::texts;
 
 const POOL: &[&str] = &["", "a", "aa", "ab", "b", "b\u{0}", "topic://a/b/c", "topic://a/b/d", "é", "日本", "\u{10ffff}"];
 
@@ -125,17 +126,8 @@ fn differs(theirs: &Theirs, expected: &model::Prediction) -> Option<String> {
 fn check_text(tally: &mut Tally, bytes: &[u8], broker: Option<String>) {
     let mut lent = bytes.to_vec();
     let part = ours::watch_text(&mut lent);
-    tally.count(Call::WatchText, &taken(raw::FOUND, &[]), broker.is_some());
-    let text = part.start.checked_add(part.length).and_then(|end| bytes.get(part.start..end));
     let read = messages::watch(bytes).ok().map(|update| update.text.map_or(&[][..], |part| &bytes[part]));
-    let good = match (text, read) {
-        (None, _) => false,
-        (Some(_), None) => true,
-        (Some(text), Some(read)) => text == read && broker.is_none_or(|broker| text == broker.as_bytes()),
-    };
-    if !good || lent != bytes {
-        tally.differ(Call::WatchText, &format!("{part:?}"), || hex(bytes));
-    }
+    texts::check(tally, Call::WatchText, part, (&lent, bytes), read, broker);
 }
 
 /// A message of these topics: a snapshot of `added`, or a diff.
@@ -163,7 +155,7 @@ pub struct Watch {
 impl Watch {
     pub fn new(seed: u64) -> Self {
         let mut rng = Rng::new(seed, "watch");
-        let bench = Bench::new(1 << 10, &mut rng);
+        let bench = Bench::new(1 << 12, &mut rng);
         Self { rng, bench, used: 0 }
     }
 
@@ -202,12 +194,17 @@ impl Watch {
             }
         }
         self.bench.put(&set);
-        self.used = if rng.one_in(20) { rng.pick(&[1025, usize::MAX, set.len() + 1]) } else { set.len() };
+        self.used = if rng.one_in(20) { rng.pick(&[4097, usize::MAX, set.len() + 1]) } else { set.len() };
     }
 
+    /// A few topics of the pool, or now and then many short ones.
     fn topics(&mut self) -> Vec<Vec<u8>> {
-        let count = if self.rng.one_in(3) { 0 } else { self.rng.below(6) };
-        (0..count).map(|_| self.rng.pick(POOL).as_bytes().to_vec()).collect()
+        let rng = &mut self.rng;
+        match rng.below(60) {
+            0 => (0..rng.below(1200)).map(|_| format!("{:x}", rng.below(700)).into_bytes()).collect(),
+            1..20 => Vec::new(),
+            _ => (0..rng.below(6)).map(|_| rng.pick(POOL).as_bytes().to_vec()).collect(),
+        }
     }
 
     fn message(&mut self) -> Vec<u8> {
@@ -330,22 +327,30 @@ fn first_faults(tally: &mut Tally, bench: &mut Bench) {
     }
 }
 
-/// 2,000 topics, rising and shuffled, as snapshot and as diff over as many.
+/// Many topics, rising, falling, shuffled, with one out of place and with repeats, as snapshot and as diff over a set of every second one.
 fn many_topics(tally: &mut Tally, bench: &mut Bench, rng: &mut Rng) {
-    let topic = |k: usize| format!("topic://tenant/namespace/name-{k:05}").into_bytes();
-    let mut topics: Vec<Vec<u8>> = (0..2000).map(topic).collect();
-    let odd: Vec<String> = (0..2000).filter(|k| k % 2 == 1).map(|k| String::from_utf8(topic(k)).expect("a text")).collect();
-    let set = set_of(&odd);
-    let whole = bench.mirror.len();
-    for turn in 0..4 {
-        let removed: Vec<Vec<u8>> = topics.iter().step_by(3).cloned().collect();
-        for snapshot in [true, false] {
-            let bytes = event(3, snapshot, &topics, &removed, Style::Plain, rng);
-            around(tally, bench, &set, &bytes, whole);
+    for count in [2, 511, 512, 513, 1023, 1024, 1025, 2000] {
+        let rising: Vec<Vec<u8>> = (0..count).map(topic).collect();
+        let second: Vec<&[u8]> = rising.iter().skip(1).step_by(2).map(Vec::as_slice).collect();
+        let set = model::packed(&second.into_iter().collect());
+        for order in 0..5 {
+            let mut topics = rising.clone();
+            match order {
+                0 => {}
+                1 => topics.reverse(),
+                2 => rng.shuffle(&mut topics),
+                3 => topics.swap(0, count - 1),
+                _ => topics.extend(rising.iter().step_by(3).cloned()),
+            }
+            let removed: Vec<Vec<u8>> = topics.iter().step_by(3).cloned().collect();
+            for snapshot in [true, false] {
+                let bytes = event(3, snapshot, &topics, &removed, Style::Plain, rng);
+                around(tally, bench, &set, &bytes, bench.mirror.len());
+            }
         }
-        if turn == 1 {
-            topics.extend(removed);
-        }
-        rng.shuffle(&mut topics);
     }
+}
+
+fn topic(number: usize) -> Vec<u8> {
+    format!("topic://tenant/namespace/name-{number:05}").into_bytes()
 }

@@ -6,11 +6,12 @@ use crate::model::session::{self, LIST, OUT_LEAST, Prediction, SLOT, Write, dept
 use crate::model::sheet::Sheet;
 use crate::ours;
 use crate::raw::{self, Record, SessionReply};
-use crate::reply::{is_ours, show, taken};
+use crate::reply::{is_ours, show};
 use crate::rng::Rng;
 use crate::shrink::shrunk;
 use crate::spoil::rust_alone;
 use crate::tally::{Call, Tally, first_difference, hex};
+use crate::texts;
 
 /// A call of a session.
 #[derive(Clone, Debug)]
@@ -115,8 +116,7 @@ impl Stage {
         let (wrong_twin, text) = self.compare(ask, &given, fed);
         let good = wrong.is_none();
         if let Some(what) = wrong.filter(|_| !rust_alone()).or(wrong_twin) {
-            let smallest = self.smallest(ask);
-            tally.differ(ask.call(), &what, || self.show(&smallest));
+            tally.differ(ask.call(), &what, || self.show(&self.smallest(ask)));
         }
         if matches!(ask, Ask::Response { .. }) {
             check_text(tally, ask.message(), text);
@@ -237,21 +237,11 @@ fn make(ask: &Ask, record: Record, store: &mut [u8], message: &mut [u8], out: &m
     }
 }
 
-/// The broker's text of a response: inside the message always; what it says, where the message reads.
 fn check_text(tally: &mut Tally, message: &[u8], broker: Option<String>) {
     let mut lent = message.to_vec();
     let part = ours::response_text(&mut lent);
-    tally.count(Call::ResponseText, &taken(raw::FOUND, &[]), broker.is_some());
-    let text = part.start.checked_add(part.length).and_then(|end| message.get(part.start..end));
     let read = messages::response(message).ok().map(|response| response.text.map_or(&[][..], |part| &message[part]));
-    let good = match (text, read) {
-        (None, _) => false,
-        (Some(_), None) => true,
-        (Some(text), Some(read)) => text == read && broker.is_none_or(|broker| text == broker.as_bytes()),
-    };
-    if !good || lent != message {
-        tally.differ(Call::ResponseText, &format!("{part:?}"), || hex(message));
-    }
+    texts::check(tally, Call::ResponseText, part, (&lent, message), read, broker);
 }
 
 /// The first byte that is not as the mirror says, once the writes are made there.

@@ -162,7 +162,7 @@ pub fn answer_differs(given: &Reply, fed: &Fed, store: &[u8], out: &[u8]) -> Opt
         return Some("the delta is not the Rust's".into());
     }
     let place = if replay { given.first as usize } else { LIST / 2 };
-    if !store[place..].starts_with(&fed.sheet) {
+    if !store.get(place..).is_some_and(|slot| slot.starts_with(&fed.sheet)) {
         return Some(format!("the sheet at {place} is not the Rust's"));
     }
     None

@@ -1,5 +1,6 @@
 // Answers written to standard output.
 use crate::FILL;
+use call_text::attached_signed;
 use libc::STDOUT_FILENO;
 use refusal::Refusal;
 use types::KeyRangeError;
@@ -15,25 +16,6 @@ pub fn number(n: u64) {
 pub fn attached(n: u64) {
     text(b" ");
     number(n);
-}
-
-// How far a number is from 0.
-fn magnitude(v: i32) -> u64 {
-    let wide = v as i64;
-    if wide < 0 {
-        (0 - wide) as u64
-    } else {
-        wide as u64
-    }
-}
-
-fn attached_signed(v: i32) {
-    if v < 0 {
-        text(b" -");
-    } else {
-        text(b" ");
-    }
-    number(magnitude(v));
 }
 
 pub fn malformed() {

@@ -1,7 +1,8 @@
 // Words, numbers and bytes in lines of text: what the programs read from their input.
 //
-// A word is what stands between two spaces. It is a decimal number, or bytes: as they stand, or in hexadecimal behind 0x. The contracts say only what keeps
-// the programs in bounds; what a program reads is not proved.
+// A word is what stands between two spaces. It is a decimal number, or bytes: as they stand, or in hexadecimal behind 0x. The readers take any word for one of
+// these; a program that wants to know asks `is_number` and `is_hexadecimal` first. The contracts say only what keeps the programs in bounds; what a program
+// reads is not proved.
 ghost use Prim.Native.Nat.{_≤_, _<_};
 ghost use Rattle.io.specs.Counts.{Counts};
 ghost use lib.ListN.{length};
@@ -45,6 +46,41 @@ pub fn word(line: &[u8], k: usize) -> &[u8] {
     &line[at..end]
 }
 
+// How many words a line has: one more than it has spaces.
+pub fn word_count(line: &[u8]) -> usize {
+    let mut n: usize = 0;
+    let mut i: usize = 0;
+    while i < line.len() {
+        if line[i] == b' ' {
+            n = n + 1;
+        }
+        i = i + 1;
+    }
+    n + 1
+}
+
+// The word is a decimal number that fits 64 bits.
+pub fn is_number(s: &[u8]) -> bool {
+    let mut v: u64 = 0;
+    let mut i: usize = 0;
+    while i < s.len() {
+        let b = s[i];
+        if b < b'0' {
+            return false;
+        }
+        if b'9' < b {
+            return false;
+        }
+        let d = (b - b'0') as u64;
+        if (18446744073709551615 - d) / 10 < v {
+            return false;
+        }
+        v = v * 10 + d;
+        i = i + 1;
+    }
+    0 < i
+}
+
 // A decimal number; anything else is the part of it before the first other byte, and what does not fit 64 bits is cut.
 pub fn number(s: &[u8]) -> u64 {
     let mut v: u64 = 0;
@@ -77,15 +113,37 @@ pub fn number32_at(line: &[u8], k: usize) -> u32 {
     (number_at(line, k) % 4294967296) as u32
 }
 
-// The value of a hexadecimal digit in lower case; 0 for any other byte.
+// The value of a hexadecimal digit; 0 for any other byte.
 fn digit(b: u8) -> u8
     ensures { λ r. ⌜ r < 16 ⌝ }
 {
     match b {
         0x30..=0x39 => b - 0x30,
+        0x41..=0x46 => b - 0x37,
         0x61..=0x66 => b - 0x57,
         _ => 0,
     }
+}
+
+fn is_digit(b: u8) -> bool {
+    match b {
+        0x30..=0x39 => true,
+        0x41..=0x46 => true,
+        0x61..=0x66 => true,
+        _ => false,
+    }
+}
+
+// Behind the 0x of a word stand digits alone, two for each byte.
+pub fn is_hexadecimal(s: &[u8]) -> bool {
+    let mut i: usize = 2;
+    while i < s.len() {
+        if !is_digit(s[i]) {
+            return false;
+        }
+        i = i + 1;
+    }
+    s.len() % 2 == 0
 }
 
 // Writes the bytes of a word in hexadecimal to the output, as many as fit, and answers how many.

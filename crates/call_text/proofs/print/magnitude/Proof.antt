@@ -1,9 +1,9 @@
 -- `magnitude` does not wrap: 64 bits hold every 32-bit integer and its negative. Assumes nothing.
 use borrow.Author.Needs.{needs}
 use mir.Facts.{toZ-ofZ}
-use Rattle.assignment_vectors.proofs.VectorLaws.{wide-fits, widened, below-fits, below-magnitude, above-magnitude}
-use Rattle.assignment_vectors.proofs.print.magnitude.Statement.{statement}
-use Rattle.assignment_vectors.proofs.print.magnitude.Tie as tie
+use Rattle.call_text.proofs.SignedLaws.{wide-fits, widened, below-fits, below-magnitude, above-magnitude}
+use Rattle.call_text.proofs.print.magnitude.Statement.{statement}
+use Rattle.call_text.proofs.print.magnitude.Tie as tie
 
 cast-wide : tie.Need-cast-wide
 cast-wide c = rw (toZ-ofZ (c .fits .v)) (wide-fits _ (c .fits .v))

@@ -1,0 +1,105 @@
+/* A short pass of a station: a push before the response waits, the response is taken, what waited is drained, an old push is refused.
+ * Every value is checked; the exit status is 0 only where all are as expected. */
+#include "check.h"
+#include "messages.h"
+
+static const char TOPIC[] = "topic://a/b/c";
+static const char NAME[] = "segment://a/b/c/0000-7fff-0";
+
+/* The packed list of segment 0 at epoch 3, and the delta to it from an empty list. */
+static const uint8_t LIST[] = {0, 0, 0, 0, 0, 0, 0, 3, 0, 1, 0, 0, 0, 0, 0, 0, 0, 0, 0, 0, 0x7f, 0xff, 0, 0};
+static const uint8_t DELTA[] = {0, 0, 0, 0, 0, 0, 0, 3, 0, 0, 0, 1, 0, 0, 0, 0, 0, 0, 0, 0, 0, 0, 0x7f, 0xff, 0, 0};
+static const uint8_t EMPTY_BASELINE[] = {0, 0, 0, 0, 0, 0, 0, 2, 0, 0};
+
+/* The station's memory, lent to every call: a store with room for two pushes that wait, and an output. */
+static uint8_t store[CUDDREWYN_MIN_STORE + 2 * CUDDREWYN_SLOT];
+static uint8_t out[CUDDREWYN_MIN_OUTPUT];
+
+/* Prints the answer of a call, checks reply and record, and gives the record to keep. */
+static cuddrewyn_record answered(const char *call, cuddrewyn_session_reply got, cuddrewyn_reply reply, cuddrewyn_record record) {
+    printf("%-10s answer %d, number %d, floor %" PRIu64 ", queued %zu\n", call, got.reply.answer, got.reply.number, got.state.epoch_floor,
+           got.state.queue_count);
+    check_reply(got.reply, reply);
+    check_record(got.state, record);
+    return got.state;
+}
+
+static cuddrewyn_session_reply push(cuddrewyn_record r, const message *m) {
+    return cuddrewyn_update(r, store, sizeof store, m->bytes, m->length, r.incarnation, out, sizeof out);
+}
+
+/* A registered session that holds segment 0 at epoch 3. */
+static cuddrewyn_record attach(void) {
+    message segment = segment_of(0, 0, 0x7fff, NAME);
+    message update = update_of(7, 3, &segment);
+    message response = response_of(1, 2, NULL);
+    cuddrewyn_record expected = {.consumer_id = 7, .incarnation = 1};
+    cuddrewyn_record r = answered("open",
+                                  cuddrewyn_open(7, 1, (const uint8_t *)TOPIC, strlen(TOPIC), (const uint8_t *)"uplink", 6,
+                                                 (const uint8_t *)"station-1", 9, 0, store, sizeof store),
+                                  (cuddrewyn_reply){.answer = CUDDREWYN_ACCEPTED}, expected);
+
+    expected.queue_count = 1;
+    r = answered("update", push(r, &update), (cuddrewyn_reply){.answer = CUDDREWYN_UNCHANGED}, expected);
+
+    expected.registered = expected.has_floor = true;
+    expected.epoch_floor = 3;
+    r = answered("response", cuddrewyn_response(r, store, sizeof store, response.bytes, response.length, 1),
+                 (cuddrewyn_reply){.answer = CUDDREWYN_ACCEPTED}, expected);
+    check_bytes(store + CUDDREWYN_BASELINE, EMPTY_BASELINE, sizeof EMPTY_BASELINE, "the baseline");
+    check_bytes(store + CUDDREWYN_LIST, LIST, sizeof LIST, "the list held");
+
+    expected.drain_position = 1;
+    r = answered("drain", cuddrewyn_drain(r, store, sizeof store, out, sizeof out),
+                 (cuddrewyn_reply){.answer = CUDDREWYN_REPLAY, .count = 2, .first = CUDDREWYN_MIN_STORE, .second = sizeof DELTA}, expected);
+    check_bytes(store + CUDDREWYN_MIN_STORE, LIST, sizeof LIST, "the list replayed");
+    check_bytes(out, DELTA, sizeof DELTA, "the delta replayed");
+    return answered("drain", cuddrewyn_drain(r, store, sizeof store, out, sizeof out), (cuddrewyn_reply){.answer = CUDDREWYN_UNCHANGED},
+                    expected);
+}
+
+/* A push of the list held, one of a newer epoch, and an old one, which changes nothing. */
+static cuddrewyn_record follow(cuddrewyn_record r) {
+    static uint8_t before[sizeof store];
+    message segment = segment_of(0, 0, 0x7fff, NAME);
+    message same = update_of(7, 3, &segment), newer = update_of(7, 4, &segment), old = update_of(7, 2, &segment);
+    cuddrewyn_record expected = r;
+    r = answered("update", push(r, &same), (cuddrewyn_reply){.answer = CUDDREWYN_UNCHANGED}, expected);
+    expected.epoch_floor = 4;
+    r = answered("update", push(r, &newer), (cuddrewyn_reply){.answer = CUDDREWYN_DELTA, .count = 1, .first = 12}, expected);
+    check_bytes(out, "\0\0\0\0\0\0\0\4\0\0\0\0", 12, "the delta of a newer epoch");
+
+    memcpy(before, store, sizeof store);
+    memset(out, 0xaa, sizeof out);
+    r = answered("update", push(r, &old), (cuddrewyn_reply){.answer = CUDDREWYN_REFUSED, .number = 27, .count = 2, .first = 2, .second = 4},
+                 expected);
+    check_bytes(store, before, sizeof store, "the store after a refusal");
+    bool same_output = true;
+    for (size_t i = 0; i < sizeof out; i++) {
+        same_output = same_output && out[i] == 0xaa;
+    }
+    check(same_output, "the output after a refusal");
+    return r;
+}
+
+/* A new connection, whose broker says no: its text is a part of the message. */
+static void reconnect(cuddrewyn_record r) {
+    message no = rejection_of(9, -22, "topic is being moved");
+    cuddrewyn_record expected = {.consumer_id = 7, .incarnation = 2, .has_floor = true, .epoch_floor = 4};
+    r = answered("begin", cuddrewyn_begin(r, 2), (cuddrewyn_reply){.answer = CUDDREWYN_ACCEPTED}, expected);
+    r = answered("response", cuddrewyn_response(r, store, sizeof store, no.bytes, no.length, 2),
+                 (cuddrewyn_reply){.answer = CUDDREWYN_REFUSED, .number = 16, .count = 1, .first = (uint64_t)-22}, expected);
+    cuddrewyn_part text = cuddrewyn_response_text(no.bytes, no.length);
+    check_number(text.length, 20, "the text's length");
+    check(text.start <= no.length && text.length <= no.length - text.start, "the text inside the message");
+    check_bytes(no.bytes + text.start, "topic is being moved", 20, "the broker's text");
+    printf("           broker: %.*s\n", (int)text.length, (const char *)no.bytes + text.start);
+
+    expected.invalidated = true;
+    answered("invalidate", cuddrewyn_invalidate(r), (cuddrewyn_reply){.answer = CUDDREWYN_ACCEPTED}, expected);
+}
+
+int main(void) {
+    reconnect(follow(attach()));
+    return close_checks("example");
+}

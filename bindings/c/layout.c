@@ -1,0 +1,196 @@
+/* The header's structs and calls against the archive: sizes and offsets, that every field of every struct arrives where it belongs, and a call
+ * at least of each function that example.c and watch.c do not call. */
+#include <stdlib.h>
+
+#include "check.h"
+#include "messages.h"
+
+#define PLACE(type, field, at) _Static_assert(offsetof(type, field) == (at), #type "." #field)
+
+_Static_assert(sizeof(cuddrewyn_record) == 48, "size of a record");
+PLACE(cuddrewyn_record, consumer_id, 0);
+PLACE(cuddrewyn_record, incarnation, 8);
+PLACE(cuddrewyn_record, epoch_floor, 16);
+PLACE(cuddrewyn_record, queue_count, 24);
+PLACE(cuddrewyn_record, drain_position, 32);
+PLACE(cuddrewyn_record, has_floor, 40);
+PLACE(cuddrewyn_record, registered, 41);
+PLACE(cuddrewyn_record, invalidated, 42);
+_Static_assert(sizeof(cuddrewyn_reply) == 40, "size of a reply");
+PLACE(cuddrewyn_reply, answer, 0);
+PLACE(cuddrewyn_reply, number, 1);
+PLACE(cuddrewyn_reply, count, 2);
+PLACE(cuddrewyn_reply, first, 8);
+PLACE(cuddrewyn_reply, second, 16);
+PLACE(cuddrewyn_reply, third, 24);
+PLACE(cuddrewyn_reply, fourth, 32);
+_Static_assert(sizeof(cuddrewyn_session_reply) == 88, "size of a session's reply");
+PLACE(cuddrewyn_session_reply, state, 0);
+PLACE(cuddrewyn_session_reply, reply, 48);
+_Static_assert(sizeof(cuddrewyn_part) == 16, "size of a part");
+PLACE(cuddrewyn_part, start, 0);
+PLACE(cuddrewyn_part, length, 8);
+_Static_assert(CUDDREWYN_FULL_STORE == CUDDREWYN_MIN_STORE + 1024 * CUDDREWYN_SLOT, "the full store");
+
+static const uint8_t TOPIC[] = "topic://a/b/c";
+enum { TOPIC_LEN = sizeof TOPIC - 1, STORE = CUDDREWYN_MIN_STORE, OUT = CUDDREWYN_MIN_OUTPUT };
+
+/* From the heap, each just as long as it is said to be, so that valgrind sees a byte read or written beside them. */
+static uint8_t *store, *out;
+
+static uint8_t *lend(size_t length) {
+    uint8_t *bytes = calloc(length, 1);
+    if (!bytes) {
+        puts("no memory");
+        exit(2);
+    }
+    return bytes;
+}
+
+static cuddrewyn_reply refused(uint8_t number, uint8_t count, uint64_t first, uint64_t second, uint64_t third, uint64_t fourth) {
+    return (cuddrewyn_reply){.answer = CUDDREWYN_REFUSED,
+                             .number = number,
+                             .count = count,
+                             .first = first,
+                             .second = second,
+                             .third = third,
+                             .fourth = fourth};
+}
+
+static cuddrewyn_reply plain(uint8_t answer) {
+    return (cuddrewyn_reply){.answer = answer};
+}
+
+static cuddrewyn_reply one(uint8_t answer, uint64_t first) {
+    return (cuddrewyn_reply){.answer = answer, .count = 1, .first = first};
+}
+
+/* A refused begin gives back the record: each number of its own, each flag by itself. */
+static void records(void) {
+    for (int flags = 0; flags < 8; flags++) {
+        cuddrewyn_record given = {.consumer_id = 0x0102030405060708,
+                                  .incarnation = 0x1112131415161718,
+                                  .epoch_floor = flags & 1 ? 0x2122232425262728 : 0,
+                                  .queue_count = 0x3132333435363738,
+                                  .drain_position = 0x4142434445464748,
+                                  .has_floor = flags & 1,
+                                  .registered = flags & 2,
+                                  .invalidated = flags & 4};
+        cuddrewyn_session_reply got = cuddrewyn_begin(given, 5);
+        check_record(got.state, given);
+        check_reply(got.reply, refused(25, 2, 5, given.incarnation, 0, 0));
+
+        got = cuddrewyn_invalidate(given);
+        given.queue_count = given.drain_position = 0;
+        given.registered = false;
+        given.invalidated = true;
+        check_record(got.state, given);
+        check_reply(got.reply, plain(CUDDREWYN_ACCEPTED));
+    }
+}
+
+static cuddrewyn_record open(void) {
+    return cuddrewyn_open(7, 1, TOPIC, TOPIC_LEN, TOPIC, 0, TOPIC, 0, 1, store, STORE).state;
+}
+
+/* An update whose message has memory of just its length. */
+static cuddrewyn_session_reply update(cuddrewyn_record r, const message *m, uint64_t incarnation) {
+    uint8_t *bytes = lend(m->length);
+    memcpy(bytes, m->bytes, m->length);
+    cuddrewyn_session_reply got = cuddrewyn_update(r, store, STORE, bytes, m->length, incarnation, out, OUT);
+    free(bytes);
+    return got;
+}
+
+/* A bad bucket attaches four values, two of them negative; a full queue of depth 0, its depth. */
+static void replies(void) {
+    message segment = segment_of(0x0102030405060708, 0, 9, "x");
+    put_bucket(&segment, 0, 1);
+    put_bucket(&segment, -2, INT32_MIN);
+    message bad = update_of(7, 1, &segment), full = update_of(7, 1, NULL);
+    cuddrewyn_record r = open();
+    cuddrewyn_session_reply got = update(r, &bad, 1);
+    check_reply(got.reply, refused(10, 4, 0x0102030405060708, 1, (uint64_t)-2, (uint64_t)(int64_t)INT32_MIN));
+    check_record(got.state, r);
+    check_reply(update(r, &full, 1).reply, refused(28, 1, 0, 0, 0, 0));
+    check_reply(update(r, &full, 8).reply, refused(23, 2, 8, 1, 0, 0));
+    got = cuddrewyn_open(7, 1, TOPIC, TOPIC_LEN, TOPIC, 0, TOPIC, 0, 1, store, STORE - 1);
+    check_reply(got.reply, refused(1, 0, 0, 0, 0, 0));
+    check_record(got.state, (cuddrewyn_record){.consumer_id = 7, .incarnation = 1});
+    got = cuddrewyn_drain(r, store, STORE, out, OUT - 1);
+    check_reply(got.reply, refused(2, 0, 0, 0, 0, 0));
+    got = cuddrewyn_response(r, store, STORE, (const uint8_t *)"\x08\x2a", 2, 1);
+    check_reply(got.reply, refused(17, 1, 42, 0, 0, 0));
+}
+
+static void registrations(void) {
+    open();
+    check_reply(cuddrewyn_matches_registration(store, STORE, TOPIC, TOPIC_LEN, TOPIC, 0, TOPIC, 0, 1), plain(CUDDREWYN_YES));
+    check_reply(cuddrewyn_matches_registration(store, STORE, TOPIC, TOPIC_LEN, TOPIC, 0, TOPIC, 0, 0), plain(CUDDREWYN_NO));
+    check_reply(cuddrewyn_matches_registration(store, STORE, TOPIC, TOPIC_LEN, TOPIC, 1, TOPIC, 0, 1), plain(CUDDREWYN_NO));
+    store[6] = 2;
+    check_reply(cuddrewyn_matches_registration(store, STORE, TOPIC, TOPIC_LEN, TOPIC, 0, TOPIC, 0, 1), refused(22, 0, 0, 0, 0, 0));
+    check_number((uint64_t)cuddrewyn_consumer_type(1), 1, "kind 1");
+    check_number((uint64_t)cuddrewyn_consumer_type(-1), 0, "kind -1");
+}
+
+/* Segment 5 gained, then lost, over an empty list. */
+static void lists(void) {
+    static const uint8_t empty[10] = {0};
+    static const uint8_t gains[26] = {[7] = 1, [11] = 1, [19] = 5, [23] = 9};
+    static const uint8_t loses[20] = {[7] = 2, [9] = 1, [19] = 5};
+    static const uint8_t list[24] = {[7] = 1, [9] = 1, [17] = 5, [21] = 9};
+    check_reply(cuddrewyn_apply(empty, 10, gains, 26, out, OUT), one(CUDDREWYN_WRITTEN, 24));
+    check_bytes(out, list, 24, "the list applied");
+    check_reply(cuddrewyn_apply(empty, 10, gains, 25, out, OUT), refused(20, 0, 0, 0, 0, 0));
+    check_reply(cuddrewyn_join(gains, 26, loses, 20, out, OUT), one(CUDDREWYN_WRITTEN, 20));
+    check_bytes(out, loses, 20, "the deltas joined");
+    check_reply(cuddrewyn_join(gains, 26, loses, 20, out, 19), refused(21, 0, 0, 0, 0, 0));
+
+    message segment = segment_of(5, 0, 9, "segment://a/b/c/0000-0009-5");
+    message expected = assignment_of(1, &segment);
+    check_reply(cuddrewyn_to_pb(list, 24, TOPIC, TOPIC_LEN, out, OUT), one(CUDDREWYN_WRITTEN, expected.length));
+    check_bytes(out, expected.bytes, expected.length, "the list written");
+    check_reply(cuddrewyn_to_pb(list, 24, TOPIC, 3, out, OUT), refused(12, 0, 0, 0, 0, 0));
+}
+
+static void names(void) {
+    static const uint8_t name[] = "segment://a/b/c/0010-00ff-12";
+    size_t length = sizeof name - 1;
+    check_reply(cuddrewyn_segment_topic(TOPIC, TOPIC_LEN, 0x10, 0xff, 12, out, OUT), one(CUDDREWYN_WRITTEN, length));
+    check_bytes(out, name, length, "the segment's name");
+    check_reply(cuddrewyn_segment_topic(TOPIC, TOPIC_LEN, 70000, 0xff, 12, out, OUT), refused(9, 2, 1, 70000, 0, 0));
+    check_reply(cuddrewyn_segment_source(12, name, length),
+                (cuddrewyn_reply){.answer = CUDDREWYN_FOUND, .count = 2, .first = 0x10, .second = 0xff});
+    check_reply(cuddrewyn_segment_source(13, name, length), refused(19, 2, 13, 12, 0, 0));
+    check_reply(cuddrewyn_parent_topic(name, length, out, OUT), one(CUDDREWYN_WRITTEN, TOPIC_LEN));
+    check_bytes(out, TOPIC, TOPIC_LEN, "the parent");
+    check_reply(cuddrewyn_parent_topic(name, 3, out, OUT), refused(18, 0, 0, 0, 0, 0));
+}
+
+static void ranges(void) {
+    check_reply(cuddrewyn_range_len(4, 9), one(CUDDREWYN_FOUND, 6));
+    check_reply(cuddrewyn_range_len(9, 4), refused(9, 3, 3, 9, 4, 0));
+    check_reply(cuddrewyn_range_len(9, 65536), refused(9, 2, 2, 65536, 0, 0));
+    check_reply(cuddrewyn_range_contains(4, 9, 9), plain(CUDDREWYN_YES));
+    check_reply(cuddrewyn_range_contains(4, 9, 10), plain(CUDDREWYN_NO));
+    check_reply(cuddrewyn_range_contains_range(4, 9, 5, 9), plain(CUDDREWYN_YES));
+    check_reply(cuddrewyn_range_contains_range(4, 9, 3, 9), plain(CUDDREWYN_NO));
+    check_reply(cuddrewyn_range_is_adjacent_to(4, 9, 10, 12), plain(CUDDREWYN_YES));
+    check_reply(cuddrewyn_range_is_adjacent_to(4, 9, 11, 12), plain(CUDDREWYN_NO));
+    check_reply(cuddrewyn_range_is_adjacent_to(4, 9, 12, 11), refused(9, 3, 3, 12, 11, 0));
+}
+
+int main(void) {
+    store = lend(STORE);
+    out = lend(OUT);
+    records();
+    replies();
+    registrations();
+    lists();
+    names();
+    ranges();
+    free(store);
+    free(out);
+    return close_checks("layout");
+}

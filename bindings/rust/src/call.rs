@@ -1,0 +1,195 @@
+//! The exported functions over slices. Every unsafe block of the crate stands here.
+//!
+//! What the functions ask of a caller is little (docs/EXPORTS.md): a slice's pointer is not null and good for its length, and a slice that is
+//! written overlaps no other. Rust's references give both: a reference is never null, not even that of an empty slice, and `&mut` is exclusive.
+//! Every number and every byte is allowed; no pointer is kept behind the call, and nothing outside the slices is written.
+
+use crate::raw::{self, Part, Record, Reply, SessionReply};
+
+/// The three texts and the kind that a session is registered with.
+#[derive(Clone, Copy)]
+pub(crate) struct Identity<'a> {
+    pub topic: &'a str,
+    pub subscription: &'a str,
+    pub consumer_name: &'a str,
+    pub kind: i32,
+}
+
+pub(crate) fn open(consumer_id: u64, incarnation: u64, identity: Identity<'_>, store: &mut [u8]) -> SessionReply {
+    let Identity { topic, subscription, consumer_name, kind } = identity;
+    // SAFETY: four slices as pointer and length of live references; `store`, the only one written, is exclusive.
+    unsafe {
+        raw::cuddrewyn_open(
+            consumer_id,
+            incarnation,
+            topic.as_ptr(),
+            topic.len(),
+            subscription.as_ptr(),
+            subscription.len(),
+            consumer_name.as_ptr(),
+            consumer_name.len(),
+            kind,
+            store.as_mut_ptr(),
+            store.len(),
+        )
+    }
+}
+
+pub(crate) fn begin(record: Record, incarnation: u64) -> SessionReply {
+    // SAFETY: numbers alone; any are allowed.
+    unsafe { raw::cuddrewyn_begin(record, incarnation) }
+}
+
+pub(crate) fn invalidate(record: Record) -> SessionReply {
+    // SAFETY: numbers alone; any are allowed.
+    unsafe { raw::cuddrewyn_invalidate(record) }
+}
+
+pub(crate) fn update(record: Record, store: &mut [u8], message: &[u8], incarnation: u64, out: &mut [u8]) -> SessionReply {
+    // SAFETY: three slices as pointer and length of live references; `store` and `out`, which are written, are exclusive.
+    unsafe {
+        raw::cuddrewyn_update(
+            record,
+            store.as_mut_ptr(),
+            store.len(),
+            message.as_ptr(),
+            message.len(),
+            incarnation,
+            out.as_mut_ptr(),
+            out.len(),
+        )
+    }
+}
+
+pub(crate) fn response(record: Record, store: &mut [u8], message: &[u8], incarnation: u64) -> SessionReply {
+    // SAFETY: two slices as pointer and length of live references; `store`, the only one written, is exclusive.
+    unsafe {
+        raw::cuddrewyn_response(record, store.as_mut_ptr(), store.len(), message.as_ptr(), message.len(), incarnation)
+    }
+}
+
+pub(crate) fn drain(record: Record, store: &[u8], out: &mut [u8]) -> SessionReply {
+    // SAFETY: two slices as pointer and length of live references; `out`, the only one written, is exclusive.
+    unsafe { raw::cuddrewyn_drain(record, store.as_ptr(), store.len(), out.as_mut_ptr(), out.len()) }
+}
+
+pub(crate) fn matches_registration(store: &[u8], identity: Identity<'_>) -> Reply {
+    let Identity { topic, subscription, consumer_name, kind } = identity;
+    // SAFETY: four slices as pointer and length of live references; none is written.
+    unsafe {
+        raw::cuddrewyn_matches_registration(
+            store.as_ptr(),
+            store.len(),
+            topic.as_ptr(),
+            topic.len(),
+            subscription.as_ptr(),
+            subscription.len(),
+            consumer_name.as_ptr(),
+            consumer_name.len(),
+            kind,
+        )
+    }
+}
+
+pub(crate) fn response_text(message: &[u8]) -> Part {
+    // SAFETY: one slice as pointer and length of a live reference; it is not written.
+    unsafe { raw::cuddrewyn_response_text(message.as_ptr(), message.len()) }
+}
+
+pub(crate) fn apply(assignment: &[u8], delta: &[u8], out: &mut [u8]) -> Reply {
+    // SAFETY: three slices as pointer and length of live references; `out`, the only one written, is exclusive.
+    unsafe {
+        raw::cuddrewyn_apply(
+            assignment.as_ptr(),
+            assignment.len(),
+            delta.as_ptr(),
+            delta.len(),
+            out.as_mut_ptr(),
+            out.len(),
+        )
+    }
+}
+
+pub(crate) fn join(d: &[u8], e: &[u8], out: &mut [u8]) -> Reply {
+    // SAFETY: three slices as pointer and length of live references; `out`, the only one written, is exclusive.
+    unsafe { raw::cuddrewyn_join(d.as_ptr(), d.len(), e.as_ptr(), e.len(), out.as_mut_ptr(), out.len()) }
+}
+
+pub(crate) fn to_pb(assignment: &[u8], parent: &str, out: &mut [u8]) -> Reply {
+    // SAFETY: three slices as pointer and length of live references; `out`, the only one written, is exclusive.
+    unsafe {
+        raw::cuddrewyn_to_pb(
+            assignment.as_ptr(),
+            assignment.len(),
+            parent.as_ptr(),
+            parent.len(),
+            out.as_mut_ptr(),
+            out.len(),
+        )
+    }
+}
+
+pub(crate) fn segment_topic(parent: &str, start: u32, end: u32, segment_id: u64, out: &mut [u8]) -> Reply {
+    // SAFETY: two slices as pointer and length of live references; `out`, the only one written, is exclusive.
+    unsafe {
+        raw::cuddrewyn_segment_topic(parent.as_ptr(), parent.len(), start, end, segment_id, out.as_mut_ptr(), out.len())
+    }
+}
+
+pub(crate) fn segment_source(segment_id: u64, topic: &str) -> Reply {
+    // SAFETY: one slice as pointer and length of a live reference; it is not written.
+    unsafe { raw::cuddrewyn_segment_source(segment_id, topic.as_ptr(), topic.len()) }
+}
+
+pub(crate) fn parent_topic(topic: &str, out: &mut [u8]) -> Reply {
+    // SAFETY: two slices as pointer and length of live references; `out`, the only one written, is exclusive.
+    unsafe { raw::cuddrewyn_parent_topic(topic.as_ptr(), topic.len(), out.as_mut_ptr(), out.len()) }
+}
+
+pub(crate) fn range_len(start: u32, end: u32) -> Reply {
+    // SAFETY: numbers alone; any are allowed.
+    unsafe { raw::cuddrewyn_range_len(start, end) }
+}
+
+pub(crate) fn range_contains(start: u32, end: u32, hash: u32) -> Reply {
+    // SAFETY: numbers alone; any are allowed.
+    unsafe { raw::cuddrewyn_range_contains(start, end, hash) }
+}
+
+pub(crate) fn range_contains_range(start: u32, end: u32, other_start: u32, other_end: u32) -> Reply {
+    // SAFETY: numbers alone; any are allowed.
+    unsafe { raw::cuddrewyn_range_contains_range(start, end, other_start, other_end) }
+}
+
+pub(crate) fn range_is_adjacent_to(start: u32, end: u32, other_start: u32, other_end: u32) -> Reply {
+    // SAFETY: numbers alone; any are allowed.
+    unsafe { raw::cuddrewyn_range_is_adjacent_to(start, end, other_start, other_end) }
+}
+
+pub(crate) fn consumer_type(value: i32) -> i32 {
+    // SAFETY: a number alone; any is allowed.
+    unsafe { raw::cuddrewyn_consumer_type(value) }
+}
+
+#[cfg(feature = "watch")]
+pub(crate) fn watch(watch_id: u64, buffer: &mut [u8], used: usize, message: &[u8], out: &mut [u8]) -> Reply {
+    // SAFETY: three slices as pointer and length of live references; `buffer` and `out`, which are written, are exclusive.
+    unsafe {
+        raw::cuddrewyn_watch(
+            watch_id,
+            buffer.as_mut_ptr(),
+            buffer.len(),
+            used,
+            message.as_ptr(),
+            message.len(),
+            out.as_mut_ptr(),
+            out.len(),
+        )
+    }
+}
+
+#[cfg(feature = "watch")]
+pub(crate) fn watch_text(message: &[u8]) -> Part {
+    // SAFETY: one slice as pointer and length of a live reference; it is not written.
+    unsafe { raw::cuddrewyn_watch_text(message.as_ptr(), message.len()) }
+}

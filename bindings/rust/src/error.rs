@@ -1,0 +1,404 @@
+//! Why a call is refused. A refusal changes nothing: record, store and output are as they were.
+//!
+//! The enums and their variants have the original's names and fields. Texts are left out, but for the broker's, which is a part of the message.
+//! The others are refusals of this port's own, and have no fields. Later requests add more, so a `match` needs a last arm.
+
+use core::error::Error;
+use core::fmt;
+
+use crate::raw::Reply;
+use crate::types::{ControllerIncarnation, KeyRangeError, SegmentId};
+
+/// A 32-bit number of a reply, which may be negative.
+pub(crate) fn signed(value: u64) -> i32 {
+    value as i32
+}
+
+/// The text of a number from 1 to 8, 15, 20 to 22, 30 or 31: the refusals that the original does not have.
+pub(crate) fn own_text(number: u8) -> &'static str {
+    match number {
+        1 => "the store is shorter than 6144 bytes",
+        2 => "the output is shorter than 3210 bytes",
+        3 => "the message is not in the Protocol Buffers wire format",
+        4 => "a field of the message has the wrong wire type",
+        5 => "a singular field of the message is repeated",
+        6 => "a required field of the message is missing",
+        7 => "a text is not UTF-8",
+        8 => "the texts of the registration are longer than 2041 bytes together",
+        15 => "the packed assignment is longer than 2048 bytes",
+        20 => "the assignment or delta is malformed",
+        21 => "the result does not fit the output",
+        22 => "the record or a slot of the store is malformed",
+        30 => "the topic set is malformed",
+        31 => "the topic set does not fit its buffer, or a topic is longer than 65535 bytes",
+        _ => "the call is refused",
+    }
+}
+
+/// An invalid name of a scalable topic or of a segment.
+///
+/// The original's `NonCanonical` is left out: nothing gives it.
+#[derive(Debug, Clone, Copy, PartialEq, Eq)]
+#[non_exhaustive]
+pub enum SegmentTopicError {
+    /// 12: the parent is no `topic://tenant/namespace/name`.
+    InvalidParent,
+    /// 18: the text is no name of a segment.
+    InvalidSegment,
+    /// 19: the name is that of another segment.
+    SegmentIdMismatch {
+        /// The id that was given.
+        segment_id: SegmentId,
+        /// The id in the name.
+        topic_id: SegmentId,
+    },
+    /// 9: the range in the name is none.
+    InvalidRange(KeyRangeError),
+    /// 21: the name is longer than the output.
+    ResultTooLong,
+    /// A reply that this crate does not know: the archive is of another version.
+    Unknown(Reply),
+}
+
+impl SegmentTopicError {
+    /// The number of this refusal in 01.
+    #[must_use]
+    pub const fn number(&self) -> u8 {
+        match self {
+            Self::InvalidRange(_) => 9,
+            Self::InvalidParent => 12,
+            Self::InvalidSegment => 18,
+            Self::SegmentIdMismatch { .. } => 19,
+            Self::ResultTooLong => 21,
+            Self::Unknown(reply) => reply.number,
+        }
+    }
+
+    pub(crate) fn from_reply(reply: Reply) -> Self {
+        let Reply { number, first, second, third, .. } = reply;
+        match number {
+            9 => Self::InvalidRange(KeyRangeError::of_kind(first, second, third)),
+            12 => Self::InvalidParent,
+            18 => Self::InvalidSegment,
+            19 => Self::SegmentIdMismatch { segment_id: SegmentId(first), topic_id: SegmentId(second) },
+            21 => Self::ResultTooLong,
+            _ => Self::Unknown(reply),
+        }
+    }
+}
+
+impl fmt::Display for SegmentTopicError {
+    fn fmt(&self, f: &mut fmt::Formatter<'_>) -> fmt::Result {
+        match self {
+            Self::InvalidParent => f.write_str("invalid canonical scalable topic"),
+            Self::InvalidSegment => f.write_str("invalid canonical segment topic"),
+            Self::SegmentIdMismatch { segment_id, topic_id } => {
+                write!(f, "segment topic names id {topic_id}, not {segment_id}")
+            }
+            Self::InvalidRange(source) => write!(f, "invalid segment topic range: {source}"),
+            Self::ResultTooLong => f.write_str(own_text(21)),
+            Self::Unknown(reply) => unknown(reply, f),
+        }
+    }
+}
+
+impl Error for SegmentTopicError {
+    fn source(&self) -> Option<&(dyn Error + 'static)> {
+        match self {
+            Self::InvalidRange(source) => Some(source),
+            _ => None,
+        }
+    }
+}
+
+impl From<KeyRangeError> for SegmentTopicError {
+    fn from(source: KeyRangeError) -> Self {
+        Self::InvalidRange(source)
+    }
+}
+
+pub(crate) fn unknown(reply: &Reply, f: &mut fmt::Formatter<'_>) -> fmt::Result {
+    write!(f, "answer {} with number {} is not known to these bindings", reply.answer, reply.number)
+}
+
+/// Why a call of a session, or of a packed list or delta, is refused.
+///
+/// `'m` is the message's lifetime: [`Self::Broker`] has the broker's text, which is a part of it. Calls that cannot be refused so give
+/// `AssignmentError<'static>`. The original's `RegistrationMismatch` is left out: nothing gives it.
+#[derive(Debug, Clone, Copy, PartialEq, Eq)]
+#[non_exhaustive]
+pub enum AssignmentError<'m> {
+    /// 24: the update is for another consumer.
+    ConsumerMismatch {
+        /// The consumer id in the message.
+        got: u64,
+        /// This session's consumer id.
+        expected: u64,
+    },
+    /// 27: the epoch lies below that of the list before it. In a response: of a queued push, below that of the list before it.
+    StaleEpoch {
+        /// The epoch that came.
+        got: u64,
+        /// The epoch of the list before it.
+        prev: u64,
+    },
+    /// 23: the call is for another connection to the controller.
+    IncarnationMismatch {
+        /// The incarnation that the call was given.
+        got: ControllerIncarnation,
+        /// The session's incarnation.
+        expected: ControllerIncarnation,
+    },
+    /// 25: a new incarnation has to be higher than the old one.
+    NonAdvancingIncarnation {
+        /// The incarnation that the call was given.
+        got: ControllerIncarnation,
+        /// The session's incarnation.
+        prev: ControllerIncarnation,
+    },
+    /// 26: the epoch lies below the highest that was ever accepted, over all incarnations.
+    CrossIncarnationEpochRegression {
+        /// The epoch that came.
+        got: u64,
+        /// The highest epoch accepted.
+        floor: u64,
+    },
+    /// 28: the queue of pushes that wait for the response is full.
+    PreBaselineBufferFull {
+        /// How many the store can hold: its slots but three, 1,024 at most.
+        max: usize,
+    },
+    /// 14: the segment's id came before in the same message.
+    DuplicateSegment {
+        /// The id that came again.
+        segment_id: SegmentId,
+    },
+    /// 9: the segment's range is none.
+    InvalidRange {
+        /// The segment.
+        segment_id: SegmentId,
+        /// What is wrong with its range.
+        source: KeyRangeError,
+    },
+    /// 10: a bucket's range is none.
+    InvalidBucketRange {
+        /// The segment.
+        segment_id: SegmentId,
+        /// The bucket's place in the message, from 0.
+        index: usize,
+        /// The start as it came.
+        start: i32,
+        /// The end as it came.
+        end: i32,
+    },
+    /// 11: two buckets of the segment share a value.
+    OverlappingBucketRanges {
+        /// The segment.
+        segment_id: SegmentId,
+    },
+    /// 13: the segment's topic is not the name of its parent, range and id.
+    AttachmentMismatch {
+        /// The segment.
+        segment_id: SegmentId,
+    },
+    /// 12: the session's topic, or the parent that was lent, is no parent of segments. Nothing but
+    /// [`SegmentTopicError::InvalidParent`] comes here.
+    SegmentTopic(SegmentTopicError),
+    /// 16: the broker rejected the registration.
+    Broker {
+        /// The broker's code.
+        code: i32,
+        /// The broker's text, empty where it sent none.
+        message: &'m str,
+    },
+    /// 17: the response has neither an assignment nor an error code.
+    Empty {
+        /// The request id in the message.
+        request_id: u64,
+    },
+    /// 1: the store is shorter than [`MIN_STORE`](crate::MIN_STORE).
+    StoreTooShort,
+    /// 2: the output is shorter than [`MIN_OUTPUT`](crate::MIN_OUTPUT).
+    OutputTooShort,
+    /// 3: the message is no row of Protocol Buffers fields.
+    InvalidWireFormat,
+    /// 4: a known field has another wire type than its own.
+    WrongWireType,
+    /// 5: a singular field comes twice.
+    RepeatedField,
+    /// 6: a required field is missing.
+    MissingField,
+    /// 7: a text is not UTF-8.
+    InvalidUtf8,
+    /// 8: the texts of the registration are longer than 2,041 bytes together.
+    IdentityTooLong,
+    /// 15: the packed list is longer than 2,048 bytes.
+    AssignmentTooLong,
+    /// 20: the list or delta that was lent is malformed.
+    MalformedInput,
+    /// 21: the result is longer than the output, or has no packed form.
+    ResultTooLong,
+    /// 22: a slot in use is malformed, or a count of the record is beyond what it counts.
+    MalformedStore,
+    /// A reply that this crate does not know: the archive is of another version.
+    Unknown(Reply),
+}
+
+impl<'m> AssignmentError<'m> {
+    /// The number of this refusal in 01.
+    #[must_use]
+    pub const fn number(&self) -> u8 {
+        match self {
+            Self::StoreTooShort => 1,
+            Self::OutputTooShort => 2,
+            Self::InvalidWireFormat => 3,
+            Self::WrongWireType => 4,
+            Self::RepeatedField => 5,
+            Self::MissingField => 6,
+            Self::InvalidUtf8 => 7,
+            Self::IdentityTooLong => 8,
+            Self::InvalidRange { .. } => 9,
+            Self::InvalidBucketRange { .. } => 10,
+            Self::OverlappingBucketRanges { .. } => 11,
+            Self::SegmentTopic(source) => source.number(),
+            Self::AttachmentMismatch { .. } => 13,
+            Self::DuplicateSegment { .. } => 14,
+            Self::AssignmentTooLong => 15,
+            Self::Broker { .. } => 16,
+            Self::Empty { .. } => 17,
+            Self::MalformedInput => 20,
+            Self::ResultTooLong => 21,
+            Self::MalformedStore => 22,
+            Self::IncarnationMismatch { .. } => 23,
+            Self::ConsumerMismatch { .. } => 24,
+            Self::NonAdvancingIncarnation { .. } => 25,
+            Self::CrossIncarnationEpochRegression { .. } => 26,
+            Self::StaleEpoch { .. } => 27,
+            Self::PreBaselineBufferFull { .. } => 28,
+            Self::Unknown(reply) => reply.number,
+        }
+    }
+
+    /// The refusal that a reply tells; `message` is the broker's text.
+    pub(crate) fn from_reply(reply: Reply, message: &'m str) -> Self {
+        let Reply { number, first, .. } = reply;
+        match number {
+            1 => Self::StoreTooShort,
+            2 => Self::OutputTooShort,
+            3 => Self::InvalidWireFormat,
+            4 => Self::WrongWireType,
+            5 => Self::RepeatedField,
+            6 => Self::MissingField,
+            7 => Self::InvalidUtf8,
+            8 => Self::IdentityTooLong,
+            9..=14 => Self::of_segment(reply),
+            15 => Self::AssignmentTooLong,
+            16 => Self::Broker { code: signed(first), message },
+            17 => Self::Empty { request_id: first },
+            20 => Self::MalformedInput,
+            21 => Self::ResultTooLong,
+            22 => Self::MalformedStore,
+            _ => Self::of_state(reply),
+        }
+    }
+
+    /// 9 to 14.
+    fn of_segment(reply: Reply) -> Self {
+        let Reply { number, first, second, third, fourth, .. } = reply;
+        let segment_id = SegmentId(first);
+        match number {
+            9 => Self::InvalidRange { segment_id, source: KeyRangeError::of_kind(second, third, fourth) },
+            10 => {
+                Self::InvalidBucketRange { segment_id, index: second as usize, start: signed(third), end: signed(fourth) }
+            }
+            11 => Self::OverlappingBucketRanges { segment_id },
+            12 => Self::SegmentTopic(SegmentTopicError::InvalidParent),
+            13 => Self::AttachmentMismatch { segment_id },
+            14 => Self::DuplicateSegment { segment_id },
+            _ => Self::Unknown(reply),
+        }
+    }
+
+    /// 23 to 28.
+    fn of_state(reply: Reply) -> Self {
+        let Reply { number, first: got, second, .. } = reply;
+        let incarnation = ControllerIncarnation;
+        match number {
+            23 => Self::IncarnationMismatch { got: incarnation(got), expected: incarnation(second) },
+            24 => Self::ConsumerMismatch { got, expected: second },
+            25 => Self::NonAdvancingIncarnation { got: incarnation(got), prev: incarnation(second) },
+            26 => Self::CrossIncarnationEpochRegression { got, floor: second },
+            27 => Self::StaleEpoch { got, prev: second },
+            28 => Self::PreBaselineBufferFull { max: got as usize },
+            _ => Self::Unknown(reply),
+        }
+    }
+
+    /// The text of a refusal that is about one segment.
+    fn segment_text(&self, f: &mut fmt::Formatter<'_>) -> fmt::Result {
+        match self {
+            Self::DuplicateSegment { segment_id } => write!(f, "assignment repeats segment {segment_id}"),
+            Self::InvalidRange { segment_id, source } => {
+                write!(f, "assignment segment {segment_id} has an invalid range: {source}")
+            }
+            Self::InvalidBucketRange { segment_id, index, start, end } => {
+                write!(f, "assignment segment {segment_id} has invalid bucket range {index}: [{start}, {end}]")
+            }
+            Self::OverlappingBucketRanges { segment_id } => {
+                write!(f, "assignment segment {segment_id} has overlapping bucket ranges")
+            }
+            Self::AttachmentMismatch { segment_id } => {
+                write!(f, "assignment segment {segment_id} names another topic than expected")
+            }
+            _ => f.write_str(own_text(self.number())),
+        }
+    }
+}
+
+impl fmt::Display for AssignmentError<'_> {
+    fn fmt(&self, f: &mut fmt::Formatter<'_>) -> fmt::Result {
+        match self {
+            Self::ConsumerMismatch { got, expected } => {
+                write!(f, "assignment for consumer {got} does not match this session {expected}")
+            }
+            Self::StaleEpoch { got, prev } => write!(f, "assignment layout epoch regressed: got {got} below {prev}"),
+            Self::IncarnationMismatch { got, expected } => {
+                write!(f, "assignment incarnation {got} does not match current incarnation {expected}")
+            }
+            Self::NonAdvancingIncarnation { got, prev } => {
+                write!(f, "controller incarnation {got} did not advance beyond {prev}")
+            }
+            Self::CrossIncarnationEpochRegression { got, floor } => {
+                write!(f, "assignment layout epoch {got} is below reconnect floor {floor}")
+            }
+            Self::PreBaselineBufferFull { max } => {
+                write!(f, "pre-baseline assignment buffer reached its maximum of {max} updates")
+            }
+            Self::SegmentTopic(source) => source.fmt(f),
+            Self::Broker { code, message } => {
+                write!(f, "broker rejected the scalable subscribe (code {code}): {message}")
+            }
+            Self::Empty { request_id } => {
+                write!(f, "subscribe response for request {request_id} carried neither an assignment nor an error")
+            }
+            Self::Unknown(reply) => unknown(reply, f),
+            _ => self.segment_text(f),
+        }
+    }
+}
+
+impl Error for AssignmentError<'_> {
+    fn source(&self) -> Option<&(dyn Error + 'static)> {
+        match self {
+            Self::InvalidRange { source, .. } => Some(source),
+            Self::SegmentTopic(source) => source.source(),
+            _ => None,
+        }
+    }
+}
+
+impl From<SegmentTopicError> for AssignmentError<'_> {
+    fn from(source: SegmentTopicError) -> Self {
+        Self::SegmentTopic(source)
+    }
+}

@@ -1,0 +1,172 @@
+//! A station's assignment session: which segments of a topic this consumer holds, told by a controller whose every byte is taken as hostile.
+//!
+//! The work is done by a library proved in Rattle (`libexport.a`); this crate gives it the names and types of the Rust that it was ported
+//! from, magnetar's `ScalableConsumerSession` and what belongs to it. **A station replaces magnetar's session by changing an import and
+//! lending memory.** Nothing here is allocated, printed or waited for.
+//!
+//! ```
+//! use cuddrewyn::*;
+//!
+//! # fn main() -> Result<(), AssignmentError<'static>> {
+//! // The station lends the memory: a store with room for 16 pushes that wait, and an output.
+//! let mut store = [0; store_len(16)];
+//! let mut out = [0; MIN_OUTPUT];
+//! let mut session = ScalableConsumerSession::new(
+//!     7,
+//!     "topic://a/b/c",
+//!     "uplink",
+//!     "station-1",
+//!     ScalableConsumerType::Stream,
+//!     ControllerIncarnation(1),
+//!     &mut store,
+//! )?;
+//!
+//! // A push that comes before the response waits: consumer 7, epoch 3, segment 0 from 0000 to 7fff.
+//! let push = b"\x08\x07\x12\x29\x08\x03\x12\x25\x08\x00\x10\x00\x18\xff\xff\x01\x22\x1bsegment://a/b/c/0000-7fff-0";
+//! assert_eq!(session.handle_assignment_update(push, &mut out)?, None);
+//!
+//! // The response: request 1, an empty list at epoch 2.
+//! let baseline = session.handle_subscribe_response(b"\x08\x01\x22\x02\x08\x02")?;
+//! assert_eq!((baseline.layout_epoch(), baseline.segments().len()), (2, 0));
+//!
+//! // What waited, one change at a time.
+//! while let Some(replay) = session.take_replayed_update(&mut out)? {
+//!     assert_eq!(replay.delta.lost().len(), 0);
+//!     for segment in replay.delta.gained() {
+//!         let mut name = [0; 64];
+//!         assert_eq!(segment.segment_topic("topic://a/b/c", &mut name)?, "segment://a/b/c/0000-7fff-0");
+//!     }
+//! }
+//!
+//! // An older layout is refused, and nothing changes.
+//! let stale = session.handle_assignment_update(b"\x08\x07\x12\x02\x08\x02", &mut out);
+//! assert_eq!(stale, Err(AssignmentError::StaleEpoch { got: 2, prev: 3 }));
+//! assert_eq!(session.epoch_floor(), Some(3));
+//! # Ok(())
+//! # }
+//! ```
+//!
+//! # From magnetar to here
+//!
+//! Messages come as their bytes: the proved library reads them itself. Texts come as `&str`. What the original returns as owned values are
+//! views, over the store or over the output that the call was lent.
+//!
+//! | original | here |
+//! |---|---|
+//! | `ScalableConsumerSession::new(id, topic, .., incarnation)` | [`new`](ScalableConsumerSession::new)`(id, topic, .., incarnation, &mut store)?` |
+//! | `handle_assignment_update_for(incarnation, &upd)` | [`handle_assignment_update_for`](ScalableConsumerSession::handle_assignment_update_for)`(incarnation, message, &mut out)` |
+//! | `handle_assignment_update(&upd)` | [`handle_assignment_update`](ScalableConsumerSession::handle_assignment_update)`(message, &mut out)` |
+//! | `handle_subscribe_response_for(incarnation, &resp)` | [`handle_subscribe_response_for`](ScalableConsumerSession::handle_subscribe_response_for)`(incarnation, message)` |
+//! | `handle_subscribe_response(&resp)` | [`handle_subscribe_response`](ScalableConsumerSession::handle_subscribe_response)`(message)` |
+//! | `take_replayed_updates()`, all in a `Vec` | [`take_replayed_update`](ScalableConsumerSession::take_replayed_update)`(&mut out)?` until `None`, or [`for_each_replayed_update`](ScalableConsumerSession::for_each_replayed_update)`(&mut out, f)?` |
+//! | `begin_incarnation`, `invalidate_authority`, `is_registered`, `is_invalidated`, `incarnation`, `epoch_floor`, `matches_registration` | the same |
+//! | `assignment()` | the same; the response's own list is also [`baseline`](ScalableConsumerSession::baseline)`()` |
+//! | `topic()`, `subscription()`, `consumer_name()`, `consumer_type()` | the station's own: a text is never handed back from the store. `matches_registration` compares them |
+//! | `clone()`, to keep a session | [`into_parts`](ScalableConsumerSession::into_parts), [`from_parts`](ScalableConsumerSession::from_parts), [`resume`](ScalableConsumerSession::resume) |
+//! | `ConsumerAssignment::segments()`, a slice | an iterator of [`AssignedSegment`] |
+//! | `AssignmentDelta`'s fields `layout_epoch`, `gained`, `lost` | calls of the same names |
+//! | `AssignedSegment::segment_topic()` | [`segment_topic`](AssignedSegment::segment_topic)`(parent, &mut out)?`: names are rebuilt, not kept |
+//! | `AssignedSegment::source()` | [`source`](AssignedSegment::source)`(parent, &mut out)?` |
+//! | `ConsumerAssignment::to_pb()` | [`to_pb`](ConsumerAssignment::to_pb)`(parent, &mut out)?`, as bytes |
+//! | `ConsumerAssignment::segment_topics()` | `segment_topics(parent)?`, with the feature `std` |
+//! | `try_from_pb` | inside the session's calls alone; [`from_bytes`](ConsumerAssignment::from_bytes) reads the packed form |
+//! | `canonical_segment_topic(parent, range, id)` | [`canonical_segment_topic`]`(parent, range, id, &mut out)?` |
+//! | `SegmentSource::new(id, topic)`, `parent_topic()` | [`SegmentSource::new`]`(id, &topic)`, [`parent_topic`](SegmentSource::parent_topic)`(&mut out)?` |
+//! | `KeyRange`, `SegmentId`, `ControllerIncarnation`, `ScalableConsumerType` | the same |
+//! | `ScalableTopicsWatch::new(id, namespace)` | `new(id, namespace, &mut buffer)` |
+//! | `ScalableTopicsWatch::handle_update(&upd)` | `handle_update(message, &mut out)` |
+//! | `topics()` and the lists of a `TopicsChange`, each a `Vec<String>` | iterators of `&str` |
+//! | `AssignmentError`, `SegmentTopicError`, `TopicsWatchError` | the same variants without texts, the broker's excepted, and the port's own; [`number`](AssignmentError::number)`()` is the specification's |
+//! | | [`apply`] and [`join`] of deltas |
+//!
+//! # Memory to lend
+//!
+//! | what | bytes |
+//! |---|---|
+//! | store of a session | [`MIN_STORE`] at least; [`store_len`]`(n)` for n pushes that wait; [`FULL_STORE`] for the most, 1,024 |
+//! | output of updates and replays | [`MIN_OUTPUT`] at least |
+//! | output of [`apply`] | [`SLOT`] always suffices |
+//! | output of [`join`] | as many as both deltas have |
+//! | output of [`to_pb`] | [`to_pb_room`](ConsumerAssignment::to_pb_room) |
+//! | output of a segment's name | the parent's length + [`SEGMENT_TOPIC_EXTRA`] |
+//! | output of a parent | the name's length |
+//! | buffer of the watch | 2 and the length for each topic |
+//! | output of the watch | 1 + the new set for a snapshot, 5 + both lists for a diff |
+//!
+//! # Refusals
+//!
+//! **A refusal changes nothing**: session, store, set and output are as they were, byte by byte. Its number is that of "01", the specification
+//! of the session. Later requests add numbers, so the enums are `#[non_exhaustive]`.
+//!
+//! # Building
+//!
+//! `libexport.a`, for x86-64 Linux, is looked for in the folder that the setting `CUDDREWYN_LIB` names, else in `target/staticlib` of the
+//! repository, where `rt staticlib export` puts it. Features: `std` (default) is what needs an allocator, names as `String`; `watch` (default)
+//! is the topics watch.
+//!
+//! # What is proved, and what is not
+//!
+//! The library's calls are proved, over every input. This crate is not: it hands slices over (`call`, the one module with unsafe code beside
+//! the declarations in [`raw`]), turns replies into Rust's types, and reads packed bytes with bounds checks.
+
+#![no_std]
+#![warn(missing_docs)]
+#![deny(unsafe_code)]
+
+#[cfg(feature = "std")]
+extern crate std;
+
+#[allow(unsafe_code)]
+mod call;
+mod error;
+mod lists;
+mod names;
+#[allow(unsafe_code, missing_docs)]
+pub mod raw;
+mod session;
+mod types;
+mod views;
+#[cfg(feature = "watch")]
+mod watch;
+
+pub use error::{AssignmentError, SegmentTopicError};
+pub use lists::{apply, join, to_pb};
+pub use names::{SegmentSource, canonical_segment_topic, parent_topic};
+pub use raw::Record;
+pub use session::{AssignmentReplay, ScalableConsumerSession};
+pub use types::{ControllerIncarnation, KeyRange, KeyRangeError, MAX_HASH, MIN_HASH, ScalableConsumerType, SegmentId};
+pub use views::{AssignedSegment, AssignmentDelta, BucketRanges, ConsumerAssignment, Lost, Segments};
+#[cfg(feature = "watch")]
+pub use watch::{ScalableTopicsWatch, Topics, TopicsChange, TopicsWatchError};
+
+/// The bytes of one slot of a store, and the most that a packed list has.
+pub const SLOT: usize = 2_048;
+
+/// The least bytes of a store: identity, baseline and list.
+pub const MIN_STORE: usize = 3 * SLOT;
+
+/// The bytes of a store with the longest queue.
+pub const FULL_STORE: usize = store_len(MAX_BUFFERED_ASSIGNMENT_UPDATES);
+
+/// The least bytes of an output for updates and replays: the longest delta of one change.
+pub const MIN_OUTPUT: usize = 3_210;
+
+/// The most pushes that are kept while the response is pending, however long the store is.
+pub const MAX_BUFFERED_ASSIGNMENT_UPDATES: usize = 1_024;
+
+/// How many bytes a segment's name has more than its parent's, at most.
+pub const SEGMENT_TOPIC_EXTRA: usize = 33;
+
+/// Where the baseline stands in the store.
+const BASELINE: usize = SLOT;
+
+/// Where the list held stands in the store.
+const LIST: usize = 2 * SLOT;
+
+/// The bytes of a store in which `pushes` can wait for the response; more than [`MAX_BUFFERED_ASSIGNMENT_UPDATES`] never can.
+#[must_use]
+pub const fn store_len(pushes: usize) -> usize {
+    let most = MAX_BUFFERED_ASSIGNMENT_UPDATES;
+    let pushes = if pushes < most { pushes } else { most };
+    MIN_STORE + pushes * SLOT
+}

@@ -1,0 +1,13 @@
+// What a session's calls answer, as text: numbers, quoted texts, and refusals by name.
+//
+// The contracts say only what keeps the functions in bounds; what is written is not proved.
+mod print;
+mod refusals;
+
+pub use print::attached_signed;
+pub use print::decimal;
+pub use print::hex4;
+pub use print::labelled;
+pub use print::quoted;
+pub use print::text;
+pub use refusals::refused;

@@ -1,0 +1,146 @@
+#!/usr/bin/env python3
+"""Writes the example of the program `station`, crates/station/stdin: a pass of a station as a log of calls.
+
+The messages are put into bytes by tools/assignment_vectors.py, the hostile ones here, field by field.
+"""
+from assignment_vectors import Assignment, Segment, name_of, number_field, part_field, segment_message, to_pb
+from vectors import CRATES
+
+PARENT = b"topic://polar/uplink/contacts"
+PATH = b"polar/uplink/contacts"
+CONSUMER = 7
+
+# the segments of the pass
+NORTH = Segment(0, 0x0000, 0x3FFF, ())
+NORTH_LOW = Segment(3, 0x0000, 0x1FFF, ())
+NORTH_HIGH = Segment(4, 0x2000, 0x3FFF, ())
+EAST = Segment(1, 0x4000, 0x7FFF, ((0x4000, 0x5FFF), (0x6000, 0x7FFF)))
+EAST_WHOLE = Segment(1, 0x4000, 0x7FFF, ((0x4000, 0x7FFF),))
+SOUTH = Segment(2, 0x8000, 0xBFFF, ())
+WEST = Segment(9, 0xC000, 0xFFFF, ())
+
+
+def assignment(epoch, *segments):
+    return to_pb(Assignment(epoch, segments), PARENT)
+
+
+def update(epoch, *segments, consumer=CONSUMER):
+    return number_field(1, consumer) + part_field(2, assignment(epoch, *segments))
+
+
+def response(request, epoch, *segments):
+    return number_field(1, request) + part_field(4, assignment(epoch, *segments))
+
+
+def error(request, code, text):
+    return number_field(1, request) + number_field(2, code) + part_field(3, text)
+
+
+def of_segment(content, epoch=8):
+    """An update whose one segment has that content."""
+    return number_field(1, CONSUMER) + part_field(2, number_field(1, epoch) + part_field(2, content))
+
+
+def named(segment, topic):
+    return segment_message(segment.id, segment.start, segment.end, topic, segment.buckets)
+
+
+def ranged(number, start, end, *buckets):
+    """A segment's content whose ranges need be none."""
+    return segment_message(number, start, end, name_of(PATH, number, start, end), buckets)
+
+
+def hostile():
+    whole = update(8, NORTH, EAST)
+    below = (1 << 64) - 5
+    yield "a message that is cut short", whole[:-1]
+    yield "a segment's name that is not UTF-8", of_segment(named(NORTH, b"segment://polar/\xff"))
+    yield "the consumer twice", number_field(1, CONSUMER) + whole
+    yield "no epoch", number_field(1, CONSUMER) + part_field(2, part_field(2, named(NORTH, name_of(PATH, 0, 0, 0x3FFF))))
+    yield "segment 0 under the name of segment 1", of_segment(named(NORTH, name_of(PATH, 1, 0, 0x3FFF)))
+    yield "buckets that share a value", of_segment(ranged(1, 0x4000, 0x7FFF, (0x4000, 0x5FFF), (0x5FFF, 0x7FFF)))
+    yield "a range that is reversed", of_segment(ranged(2, 0xBFFF, 0x8000))
+    yield "a bucket that is negative", of_segment(ranged(2, 0x8000, 0xBFFF, (below, 3)))
+
+
+def first_link():
+    yield "# Before a session is open, no other call is run."
+    yield "drain",
+    yield "# The station opens its session: consumer 7, link 1 to the controller."
+    yield "open", CONSUMER, 1, PARENT, b"passes", b"svalbard-2", b"stream"
+    yield "# Two pushes come before the registration is answered: segment 0 at epoch 4, segments 0 and 1 at epoch 5. They wait in the queue."
+    yield "update", 1, update(4, NORTH)
+    yield "update", 1, update(5, NORTH, EAST)
+    yield "# Nothing is handed out before the answer."
+    yield "drain",
+    yield "# The answer: segments 0 and 9 at epoch 3. The queue is replayed over it, so the list that is held is that of epoch 5."
+    yield "response", 1, response(1, 3, NORTH, WEST)
+    yield "# The uploader takes the queued pushes, one by one, until none is left."
+    yield from [("drain",)] * 3
+
+
+def pushes():
+    latest = update(6, NORTH, EAST, SOUTH)
+    yield "# A push at epoch 6: segment 2 is gained."
+    yield "update", 1, latest
+    yield "# The same push again: nothing changed."
+    yield "update", 1, latest
+    yield "# A rebalance at epoch 7: segment 0 is split into 3 and 4, the buckets of segment 1 are joined, segment 2 goes to another station."
+    yield "update", 1, update(7, EAST_WHOLE, NORTH_LOW, NORTH_HIGH)
+    yield "# A push that was overtaken: epoch 6 after 7."
+    yield "update", 1, latest
+    yield "# A push for consumer 8."
+    yield "update", 1, update(8, NORTH, consumer=8)
+    yield "# Hostile messages: each is refused, and the list stays."
+    for comment, message in hostile():
+        yield f"# {comment}"
+        yield "update", 1, message
+
+
+def second_link():
+    yield "# The controller is not to be trusted any more: the station holds nothing."
+    yield "invalidate",
+    yield "# A new link has to have a higher number."
+    yield "begin", 1
+    yield "begin", 2
+    yield "# A push of the old link."
+    yield "update", 1, update(8, NORTH, EAST)
+    yield "# An answer at epoch 6, below the highest that was accepted."
+    yield "response", 2, response(2, 6, NORTH, EAST, SOUTH)
+    yield "# The broker answers with an error; its text is hostile."
+    yield "response", 2, error(2, 6, b'try "again" \\ later\x1b[2J\xc3\xa9')
+    yield "# An answer without an assignment or an error."
+    yield "response", 2, number_field(1, 3)
+    yield "# The answer at epoch 8: the station holds segments again."
+    yield "response", 2, response(4, 8, NORTH, EAST, SOUTH)
+
+
+def damage():
+    yield "# Damaged lines: the run goes on behind them."
+    yield "udpate", 2, update(9, NORTH)
+    yield "update", b"two", update(9, NORTH)
+    yield b"update 2 0x0",
+    yield b"update 2",
+    yield "# The last push of the pass, at epoch 9."
+    yield "update", 2, update(9, NORTH)
+
+
+def shown(word):
+    """A word of a line: plain texts as they stand, all other bytes in hexadecimal."""
+    if not isinstance(word, bytes):
+        return str(word)
+    return word.decode() if word.isascii() and word.decode().isprintable() else "0x" + word.hex()
+
+
+def line(step):
+    return step if isinstance(step, str) else " ".join(map(shown, step))
+
+
+def main():
+    head = "# A pass of the station svalbard-2 as a log of calls, written by tools/example_log.py. The answers stand in stdout."
+    parts = [[head], first_link(), pushes(), second_link(), damage()]
+    text = "\n\n".join("\n".join(map(line, part)) for part in parts)
+    (CRATES / "station" / "stdin").write_text(text + "\n", encoding="ascii")
+
+
+main()
