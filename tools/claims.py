@@ -91,7 +91,7 @@ def declares(path, name):
     if owner:
         bodies = re.findall(rf"^(?:pub )?(?:impl|enum) {re.escape(owner)}\b.*?^}}", text, re.M | re.S)
         return any(re.search(rf"\b(fn|const) {word}\b|^ +{word} *[({{,]", body, re.M) for body in bodies)
-    return re.search(rf"^\s*(pub(\(\w+\))? )?(fn|struct|enum|const) {word}\b", text, re.M)
+    return re.search(rf"^\s*(pub(\(\w+\))? )?(extern \"C\" )?(fn|struct|enum|const) {word}\b", text, re.M)
 
 
 def check_names(text):

@@ -91,7 +91,7 @@ fn tried(parts: &mut Parts, tally: &mut Tally, places: &[(Call, Place)], most: u
 }
 
 /// Calls that may be spoiled before it has to be noticed, where not each is judged.
-const TRIES: usize = 400;
+const TRIES: usize = 40_000;
 
 /// Prints what was not noticed; 0 where every wrong bit was, and no difference came without one.
 pub fn run() -> i32 {

@@ -22,13 +22,14 @@ use Rattle.topic_window.specs.declared.Orders.{Orders}
 use Rattle.topic_window.specs.Lists.{namedIn, kept, addedOf, removedOf}
 use Rattle.topic_lists.proofs.SizeLaws.{size-filter}
 use Rattle.topic_merge.specs.Merge.{without, Apart, Rises}
+use Rattle.topic_merge.proofs.MoveLaws.{put-over}
 use Rattle.watch.specs.declared.WatchAnswer.the-variants.{Changed}
 use Rattle.watch.specs.Watch.{diffChange, diffIn, done}
 use Rattle.watch.specs.Steps.{DiffFits}
 use Rattle.watch.proofs.ListLaws.{rising-removed, rising-added, short-removed, short-added}
 use Rattle.watch.proofs.ListLaws.{without-removed, added-apart, insert-added, size-apart, size-diff}
 use Rattle.watch.proofs.SettleLaws.{diff-length, set-whole, set-rising, set-size, set-short}
-use Rattle.watch.proofs.WriteLaws.{put-prefix, put-over, take-front, output-added, output-removed}
+use Rattle.watch.proofs.WriteLaws.{put-prefix, take-front, output-added, output-removed}
 
 -- ---- a list read back
 
@@ -95,8 +96,8 @@ module _ (buffer : List ℕ) (used : ℕ) (hu : used ≤ length buffer) (b : Byt
           let D : List (List ℕ) = insertAll (topicsOf added) rest in (
             omega (arith, en, ek),
             ec ∙ ap₂ (λ (x : List ℕ) (l : List (List ℕ)). put x 0 (encodeTopics (insertAll (topicsOf added) l))) taken-is taken-topics
-                ∙ put-over buffer (encodeTopics rest) (encodeTopics D)
-                (omega (arith, length-encode rest, length-encode D, size-apart (topicsOf added) rest ra a)),
+                ∙ put-over buffer 0 (encodeTopics rest) (encodeTopics D)
+                (omega (arith, length-encode rest, length-encode D, size-apart (topicsOf added) rest ra a)) (omega arith),
           )
 
 -- ---- the lists of a diff

@@ -1,11 +1,11 @@
 -- What the writes come to, over plain bytes: a snapshot's output, a diff's lists in the output, and its set in the buffer.
 --
--- In order: a part that is written whole (`put-mid`, `put-prefix`); one list over another (`put-over`); a snapshot (`snapshot-written`);
--- the four writes of a diff's output (`lists-..`), and the lists read back from it (`output-..`).
+-- In order: a part that is written whole (`put-mid`, `put-prefix`); a snapshot (`snapshot-written`); the four writes of a diff's output
+-- (`lists-..`), and the lists read back from it (`output-..`).
 -- Assumes nothing.
 use Prim.Native.Nat.{ℕ, _+_, _-_, _≤_}
 use native.Mathlib.Omega.{arith}
-use mathlib.Core.Path.{_≡_, refl, sym, ap, ap₂, _∙_}
+use mathlib.Core.Path.{_≡_, sym, ap, ap₂, _∙_}
 use mathlib.Core.List.{List, [], _∷_, _++_, append-assoc, append-nil}
 use lib.ListN.{length, take, drop, set, length-append, length-take, length-drop, take-append-drop, drop-of-length-le}
 use lib.Seq.{length-take-le, take-at, drop-at, drop-drop, drop-append-le}
@@ -36,19 +36,6 @@ put-prefix b n vs r h k er =
     let d : drop i (take n b) ++ drop n b ≡ drop i b =
     sym (drop-append-le i (take n b) (drop n b) (omega arith)) ∙ ap (drop i) (take-append-drop n b) in
     ap (λ (x : List ℕ). x ++ drop n b) er ∙ append-assoc vs (drop i (take n b)) (drop n b) ∙ ap (λ (x : List ℕ). vs ++ x) d
-
--- a longer list over a shorter one
-pub put-over : (b A B : List ℕ) → length A ≤ length B → put (put b 0 A) 0 B ≡ put b 0 B
-unfolding put
-put-over b A B h =
-    let a : ℕ = length A in
-    let n : ℕ = length B in
-    let e : 0 + n ≡ a + (n - a) = omega arith in
-    let f : 0 + a + (n - a) ≡ 0 + n = omega arith in
-    ap (λ (r : List ℕ). B ++ r) (
-    ap (λ (i : ℕ). drop i (A ++ drop (0 + a) b)) e ∙ sym (drop-drop (n - a) a (A ++ drop (0 + a) b))
-    ∙ ap (drop (n - a)) (drop-at A (drop (0 + a) b) a refl) ∙ drop-drop (n - a) (0 + a) b ∙ ap (λ (i : ℕ). drop i b) f
-    )
 
 -- the bytes at the front
 pub take-front : (b A : List ℕ) (n : ℕ) → n ≡ length A → take n (put b 0 A) ≡ A

@@ -8,7 +8,7 @@ ghost use Rattle.packed_int.specs.Put.{put};
 ghost use Rattle.readers.specs.Messages.{watchUpdateOf};
 ghost use Rattle.topics.specs.Topics.{insertAll, sorted, allShort};
 ghost use Rattle.topics.specs.Packed.{topicsOf, encodeTopics, sizeTopics, isSet};
-ghost use Rattle.topic_window.specs.Lists.{namedIn, kept, addedOf, removedOf};
+ghost use Rattle.topic_window.specs.Lists.{namedIn, addedOf, removedOf};
 ghost use Rattle.topic_window.specs.Window.{OrdersOf};
 ghost use Rattle.topic_merge.specs.Merge.{Apart, Rises};
 ghost use Rattle.watch.specs.Watch.{snapshotIn, diffIn, done, settle, noEvent, forWatch, handleUpdate};
