@@ -1,6 +1,7 @@
 //! Runs the Rust's session and our exported library on the same bytes, in one process, and compares every answer.
 //!
-//! compare [SEED] [SECONDS]: all parts, sharing the time. compare --self-test: whether a wrong bit in an answer would be noticed.
+//! compare [SEED] [SECONDS]: all parts, sharing the time. compare --self-test: whether a wrong bit in an answer would be noticed. compare --record FOLDER [SEED]: a sample of
+//! the Rust's answers.
 use std::io::{IsTerminal as _, Write as _};
 use std::time::{Duration, Instant};
 
@@ -19,6 +20,7 @@ mod oracle;
 mod ours;
 mod output;
 mod parts;
+mod record;
 mod reply;
 mod rng;
 mod self_test;
@@ -42,6 +44,11 @@ fn main() {
     let words: Vec<String> = std::env::args().skip(1).collect();
     if words.first().is_some_and(|word| word == "--self-test") {
         std::process::exit(self_test::run());
+    }
+    if words.first().is_some_and(|word| word == "--record") {
+        let folder = words.get(1).expect("--record FOLDER");
+        let seed = words.get(2).map_or(SEED, |word| word.parse().expect("a seed"));
+        std::process::exit(record::run(folder, seed));
     }
     let number = |at: usize, default: u64| words.get(at).map_or(default, |word| word.parse().unwrap_or_else(|_| panic!("{word}: not a number")));
     std::process::exit(compare(number(0, SEED), number(1, SECONDS)));

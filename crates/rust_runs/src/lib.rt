@@ -1,0 +1,1 @@
+// Sessions that the Rust has answered, as equations of its transcription: see specs/. There is nothing to call.

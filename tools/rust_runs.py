@@ -1,0 +1,136 @@
+#!/usr/bin/env python3
+"""Writes crates/rust_runs/specs/Sessions.antt: the sessions of crates/recorded, which the Rust has answered, as equations of its transcription.
+
+    python3 tools/rust_runs.py            rewrites the file
+    python3 tools/rust_runs.py --check    exit 1 where the file is not what would be written
+"""
+import re, sys
+from pathlib import Path
+
+ROOT = Path(__file__).resolve().parent.parent
+FILE = ROOT / "crates/rust_runs/specs/Sessions.antt"
+SESSIONS = 20
+HEAD = """-- Sessions that the Rust has answered (crates/recorded), as equations of its transcription, by computation. tools/rust_runs.py writes this file.
+-- Assumes nothing.
+use mathlib.Core.Path.{_≡_, refl}
+use mathlib.Core.Bool.{true, false}
+use mathlib.Core.List.{[], _∷_}
+use mathlib.Core.Option.{some, none}
+use lib.IntN.{pos, negsuc}
+use Rattle.types.specs.KeyRanges.{keyRange, kindOf, numbersOf}
+use Rattle.packed_int.specs.Be.{bytesOf}
+use Rattle.utf8.specs.Table.{table, fits, sequenceIn, sequenceOf, textAfter, isUtf8}
+use Rattle.topic.specs.Names.{hex4, decimalWithin, decimal}
+use Rattle.wire.specs.Varints.{varintOf}
+use Rattle.wire.specs.Field.{keyOf, numberOf, partOf}
+use Rattle.wire.specs.Fields.{fieldsOf}
+use Rattle.schema.specs.Schema.{ruleFor, complete}
+use Rattle.schema.specs.FirstFault.{firstFault}
+use Rattle.values.specs.Integers.{int32Of}
+use Rattle.readers.specs.Messages.{intRangeOf, segmentOf, assignmentOf, updateOf, responseOf}
+use Rattle.session.specs.Trace.{update, response, drain, begin, invalidate}
+use Rattle.rust_runs.specs.Seen.{refused, accepted, unchanged, changed, runOf, seen, list, segment, on}
+"""
+UNFOLD = """unfolding bytesOf table fits sequenceIn sequenceOf textAfter isUtf8 hex4 decimalWithin decimal varintOf keyOf numberOf partOf fieldsOf ruleFor
+    complete firstFault int32Of intRangeOf segmentOf assignmentOf updateOf responseOf kindOf numbersOf
+"""
+
+
+def row(items):
+    return " ∷ ".join(items + ["[]"])
+
+
+def octets(data):
+    return f"bytesOf {len(data)} 0x{data.hex()}" if data else "[]"
+
+
+def text(word):
+    """The bytes of a word as station quotes it."""
+    parts = re.findall(rb"\\x([0-9a-f]{2})|([^\\])", word.encode())
+    return b"".join(bytes.fromhex(code.decode()) if code else plain for code, plain in parts)
+
+
+def integer(word):
+    n = int(word)
+    return f"pos {n}" if n >= 0 else f"negsuc {-n - 1}"
+
+
+def ranges(word):
+    pairs = [] if word == "-" else [pair.split("-") for pair in word.split(",")]
+    return f"({row([f'keyRange 0x{a} 0x{b}' for a, b in pairs])})"
+
+
+def segment(words):
+    number, span, buckets = words
+    start, end = span.split("-")
+    return f"segment {number} 0x{start} 0x{end} {ranges(buckets)}"
+
+
+def line(words, answer, rows):
+    """The answer of a call, with the rows of its delta."""
+    if words[0] == "refused":
+        quoted = re.search(r' text "(.*)"$', answer)
+        values = answer[:quoted.start()].split()[3:] if quoted else words[3:]
+        return f"refused {words[1]} ({row([integer(v) for v in values])}) ({octets(text(quoted[1])) if quoted else '[]'})"
+    if words[0] in ("delta", "replay"):
+        epoch = words[words.index("epoch") + 1]
+        lost = [r.split()[1] for r in rows if r.startswith("  lost")]
+        gained = [segment(r.split()[1:]) for r in rows if r.startswith("  gained")]
+        return f"changed {epoch} ({row(lost)}) ({row(gained)})"
+    return {"accepted": "accepted", "none": "unchanged"}[words[0]]
+
+
+def shown(block):
+    """What is seen behind a call, from its lines."""
+    answer = block[0].split(" ", 2)[2]
+    state = block[1].split()
+    value = dict(zip(state[1::2], state[2::2]))
+    held = next(r for r in block if r.startswith("  held"))
+    segments = [segment(r.split()) for r in block if r.startswith("    ")]
+    kept = "none" if held == "  held none" else f"(some (list {held.split()[2]} ({row(segments)})))"
+    floor = "none" if value["floor"] == "none" else f"(some {value['floor']})"
+    flags = " ".join("true" if value[flag] == "yes" else "false" for flag in ("registered", "invalidated"))
+    return f"seen ({line(answer.split(), answer, block)}) {kept} {floor} {value['incarnation']} {flags}"
+
+
+def call(words):
+    name = words[0]
+    if name in ("update", "response"):
+        end = " []" if name == "update" else ""
+        return f"{name} ({octets(bytes.fromhex(words[2][2:]))}) (on {words[1]}){end}"
+    return {"drain": "drain []", "begin": f"begin (on {words[-1]})", "invalidate": "invalidate"}[name]
+
+
+def sessions():
+    """For each session its topic, its calls and what is seen behind each."""
+    answers = {}
+    for text_line in (ROOT / "crates/recorded/stdout").read_text().splitlines()[:-1]:
+        if not text_line.startswith(" "):
+            block = answers.setdefault(int(text_line.split()[0]), [])
+        block.append(text_line)
+    found = []
+    for number, text_line in enumerate((ROOT / "crates/recorded/stdin").read_text().splitlines(), 1):
+        words = text_line.split()
+        if words[0] == "open":
+            found.append((words[3], [], []))
+        elif words[0] != "#":
+            found[-1][1].append(call(words))
+            found[-1][2].append(shown(answers[number]))
+    return found[:SESSIONS]
+
+
+def written():
+    out = HEAD
+    for number, (topic, calls, seen) in enumerate(sessions()):
+        cells = lambda items: "".join(f"        ({item})\n        ∷ " for item in items) + "[]"
+        out += f"\npub session-{number} : runOf ({octets(topic.encode())})\n        ({cells(calls).strip()})\n    ≡ {cells(seen).strip()}\n{UNFOLD}session-{number} = refl\n"
+    return out
+
+
+if __name__ == "__main__":
+    new = written()
+    if "--check" in sys.argv[1:]:
+        same = "".join(new.split()) == "".join(FILE.read_text().split())
+        print("rust_runs: " + ("as recorded" if same else "Sessions.antt is not what the records say"))
+        sys.exit(not same)
+    FILE.write_text(new)
