@@ -5,8 +5,10 @@
 //
 // The set's buffer has BUFFER bytes, with SET at its front; USED is the length that is given for the set, and the output has OUT bytes. Bytes are given and answered in
 // hexadecimal behind 0x; a line that starts with '#' is passed over. Before the call the bytes behind SET, and all of the output, are aa. `long` is for topics that no
-// line could hold: it has `a` behind SET, and behind MESSAGE until LENGTH bytes are there, and answers lengths alone. Behind each answer stands `same` where all bytes
-// that must stay are so still. What each line should give is reckoned anew by tools/watch_vectors.py, by other means.
+// line could hold: it has `a` behind SET, and behind MESSAGE until LENGTH bytes are there, and answers lengths alone.
+//
+// The answer is `changed` with the lengths of the new set and of the output, then both, or `refused` with the number and what is attached to it, at 16 the broker's
+// text too; then `same`, where all bytes that must stay are so still. What each line should give is reckoned anew by tools/watch_vectors.py, by other means.
 mod print;
 
 use libc::STDIN_FILENO;
@@ -20,6 +22,12 @@ const ROOM: usize = 66560;
 
 // What every byte of an output is before a call.
 const FILL: u8 = 0xaa;
+
+// How many bytes of the buffer and of the output a call wrote.
+struct Written {
+    set: usize,
+    out: usize,
+}
 
 // What the bytes behind a set are before a call.
 fn fill_of(long: bool) -> u8 {
@@ -59,7 +67,7 @@ fn call(line: &[u8], buffer: &mut [u8], message: &[u8], out: &mut [u8]) -> Watch
     )
 }
 
-// Writes the answer, and the bytes that it tells of unless they are long. Answers how many bytes of the buffer and of the output were written.
+// Writes an answer, and the new set and the output unless they are long.
 fn told(r: WatchAnswer, long: bool, message: &[u8], buffer: &[u8], out: &[u8]) -> Written {
     match r {
         WatchAnswer::Changed(n, m) => {
@@ -77,10 +85,19 @@ fn told(r: WatchAnswer, long: bool, message: &[u8], buffer: &[u8], out: &[u8]) -
     }
 }
 
-// How many bytes of the buffer and of the output a call wrote.
-struct Written {
-    set: usize,
-    out: usize,
+// Calls the watch, writes the answer, and whether the bytes that must stay are as they were before.
+fn answered(
+    line: &[u8],
+    long: bool,
+    message: &[u8],
+    before: &[u8],
+    buffer: &mut [u8],
+    blank: &[u8],
+    out: &mut [u8],
+) {
+    let r = call(line, buffer, message, out);
+    let w = told(r, long, message, buffer, out);
+    print::stayed(w.set, before, buffer, w.out, blank, out);
 }
 
 // watch, long
@@ -95,9 +112,15 @@ fn run_watch(line: &[u8], long: bool) {
     lines::bytes_at(line, 2, &mut buffer);
     let n = lines::bytes_at(line, 5, &mut message);
     let m = length_of(line, long, n);
-    let r = call(line, &mut buffer, front(&message, m), &mut out);
-    let w = told(r, long, front(&message, m), &buffer, &out);
-    print::stayed(w.set, &before, &buffer, w.out, &blank, &out);
+    answered(
+        line,
+        long,
+        front(&message, m),
+        &before,
+        &mut buffer,
+        &blank,
+        &mut out,
+    );
 }
 
 fn run(line: &[u8]) {
