@@ -1,6 +1,6 @@
 #!/usr/bin/env python3
 """Measures the port beside the Rust and prints the tables of docs/BENCHMARKS.md; with --write they replace those in the file. A table's mark as a word (scan,
-intake, update, watch) makes that one alone.
+intake, update, watch, times, sizes) makes that one alone.
 
 Instructions are counted by callgrind: a run of some turns less a run of none, by their number. It needs rt, gcc and valgrind. The Rust's side is measured where
 CUDDREWYN_RUST names the folder of the Rust's sources and cargo finds Debian's crates (librust-prost-dev, librust-prost-derive-dev, librust-bytes-dev,
@@ -12,6 +12,7 @@ import re
 import subprocess
 import sys
 import tempfile
+import time
 
 HERE = pathlib.Path(__file__).resolve().parent
 ROOT = HERE.parent
@@ -128,7 +129,41 @@ def watch_table(folder, session):
     return rows(["case", "bytes", "prost decode and `handle_update`", "`watch::handle_update`"], lines)
 
 
-TABLES = {"scan": scan_table, "intake": intake_table, "update": update_table, "watch": watch_table}
+def microseconds(told, *words, turns=2000):
+    """The time of one turn, as text: the shortest of five runs of some turns less the shortest of five of none."""
+    if words[0] is None:
+        return "not measured"
+    shortest = []
+    for times in (0, turns):
+        taken = []
+        for _ in range(5):
+            start = time.perf_counter()
+            done = run(*words, times)
+            taken.append(time.perf_counter() - start)
+            assert times == 0 or done.stdout.strip() == told, f"{words} printed {done.stdout}"
+        shortest.append(min(taken))
+    return f"{(shortest[1] - shortest[0]) / turns * 1e6:,.2f}"
+
+
+def times_table(folder, session):
+    ours = port(folder, "update")
+    lines = []
+    for what, first, second, registered, queued, changed in UPDATES:
+        words = [folder / f"{first}.bin", folder / f"{second}.bin", registered, queued]
+        turns = 50 if queued else 1000
+        theirs = microseconds(f"0 {changed}", session, "update", *words, turns=turns)
+        lines.append([what, theirs + " µs", microseconds(f"0 {changed}", ours, *words, turns=turns) + " µs"])
+    return rows(["case", "prost decode and `handle_assignment_update_for`", "`updated`"], lines)
+
+
+def size_table(_, __):
+    run("rt", "staticlib", "export", cwd=ROOT)
+    archive = ROOT / "target/staticlib/libexport.a"
+    text = sum(int(line.split()[0]) for line in run("size", archive).stdout.splitlines()[1:])
+    return rows(["what", "bytes"], [["libexport.a", f"{archive.stat().st_size:,}"], ["machine code and constants in it", f"{text:,}"], ["heap", "none"]])
+
+
+TABLES = {"scan": scan_table, "intake": intake_table, "update": update_table, "watch": watch_table, "times": times_table, "sizes": size_table}
 
 
 def main():

@@ -62,21 +62,38 @@ struct Part {
     over: bool,
 }
 
+impl Part {
+    fn step(&mut self, tally: &mut Tally) {
+        tally.place = format!("{}, step {}", self.name, self.steps);
+        let (start, calls) = (Instant::now(), tally.calls);
+        self.over = !self.work.step(tally);
+        self.time += start.elapsed();
+        self.steps += 1;
+        self.calls += tally.calls - calls;
+    }
+}
+
 pub struct Parts(Vec<Part>);
+
+/// The parts that the self-test asks for.
+pub const SMALL_STORES: &str = "sessions, small stores";
+pub const NAMES: &str = "names, ranges, kinds";
+pub const LISTS: &str = "lists lent alone";
+pub const WATCH: &str = "topics watch";
 
 impl Parts {
     pub fn new(tally: &mut Tally, seed: u64) -> Self {
         let walk = |name, size| Work::Walk(Walk::new(seed, name, size));
         let works = [
             ("short messages", 6, Work::Short(Short::new(seed, tally))),
-            ("sessions, small stores", 5, walk("small", Size::Small)),
+            (SMALL_STORES, 5, walk("small", Size::Small)),
             ("sessions, long queues", 5, walk("middle", Size::Middle)),
             ("sessions, full size", 6, walk("full", Size::Full)),
             ("damaged records and stores", 4, Work::Damaged(Damaged::new(seed))),
-            ("names, ranges, kinds", 1, Work::Names(Names::new(seed))),
-            ("lists lent alone", 2, Work::Lists(Lists::new(seed))),
+            (NAMES, 1, Work::Names(Names::new(seed))),
+            (LISTS, 2, Work::Lists(Lists::new(seed))),
             #[cfg(feature = "watch")]
-            ("topics watch", 5, Work::Watch(crate::watch::Watch::new(seed))),
+            (WATCH, 5, Work::Watch(crate::watch::Watch::new(seed))),
         ];
         let part = |(name, weight, work)| Part { name, weight, work, time: Duration::ZERO, steps: 0, calls: 0, over: false };
         Self(works.into_iter().map(part).collect())
@@ -85,14 +102,12 @@ impl Parts {
     /// A step of the part that is furthest behind its share; false when all are over.
     pub fn step(&mut self, tally: &mut Tally) -> bool {
         let behind = self.0.iter_mut().filter(|part| !part.over).min_by_key(|part| part.time / part.weight);
-        let Some(part) = behind else { return false };
-        tally.place = format!("{}, step {}", part.name, part.steps);
-        let (start, calls) = (Instant::now(), tally.calls);
-        part.over = !part.work.step(tally);
-        part.time += start.elapsed();
-        part.steps += 1;
-        part.calls += tally.calls - calls;
-        true
+        behind.map(|part| part.step(tally)).is_some()
+    }
+
+    /// A step of the part with this name.
+    pub fn step_of(&mut self, name: &str, tally: &mut Tally) {
+        self.0.iter_mut().find(|part| part.name == name).expect("a part").step(tally);
     }
 
     pub fn print(&self) {

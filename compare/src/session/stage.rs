@@ -110,7 +110,8 @@ impl Stage {
         let prediction = predict(ask, &self.record, &self.mirror);
         let mut message = ask.message().to_vec();
         let given = make(ask, self.record, &mut self.store, &mut message, &mut self.out);
-        let fed = twin.filter(|_| !is_ours(&prediction.reply, depth(self.mirror.len())));
+        let due = [&prediction.reply, &given.reply].iter().any(|reply| is_ours(reply, depth(self.mirror.len())));
+        let fed = twin.filter(|_| !due);
         tally.count(ask.call(), &given.reply, fed.is_some());
         let wrong = self.differs(&prediction, &given).or_else(|| (message != ask.message()).then(|| "the message was changed".into()));
         let (wrong_twin, text) = self.compare(ask, &given, fed);
