@@ -72,7 +72,7 @@ typedef struct {
 } cuddrewyn_part;
 
 /* Opens a session over the store: writes the identity to its first slot. kind is the wire's integer: 1 checkpoint, all else stream.
- * ACCEPTED; refuses 1 (store below 6,144 bytes), 7 (a text is not UTF-8), 8 (texts above 2,041 bytes together). */
+ * ACCEPTED; refuses 1 (store below 6,144 bytes), 7 (a text is not UTF-8), 8 (texts above 2,041 bytes together). Where it is refused, do not use state. */
 cuddrewyn_session_reply cuddrewyn_open(uint64_t consumer_id, uint64_t incarnation, const uint8_t *topic, size_t topic_len, const uint8_t *subscription,
                                        size_t subscription_len, const uint8_t *consumer_name, size_t consumer_name_len, int32_t kind, uint8_t *store,
                                        size_t store_len);
