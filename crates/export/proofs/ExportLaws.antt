@@ -23,8 +23,9 @@ use Rattle.session.specs.Calls.{Outcome, OpenOutcome, outcome}
 use Rattle.watch.specs.declared.WatchAnswer.{WatchAnswer}
 use Rattle.watch.specs.Watch as watch
 use Rattle.reply.specs.declared.Reply.{Reply}
-use Rattle.export.specs.declared.SessionReply.{SessionReply}
-use Rattle.export.specs.Exports.{Output, Exported, Opening, writeReply, writeOf, nameReply, nameOf, sessionReply, exportOf, openReply, openOf}
+use Rattle.session_reply.specs.declared.SessionReply.{SessionReply}
+use Rattle.session_reply.specs.Replies.{sessionReply, openReply}
+use Rattle.export.specs.Exports.{Output, Exported, Opening, writeReply, writeOf, nameReply, nameOf, exportOf, openOf}
 use Rattle.export.specs.Exports.{Watched, watchReply, watchOf}
 
 abbrev pub outputs : Reply → List ℕ → Output

@@ -8,29 +8,6 @@ mod range_calls;
 mod session_calls;
 mod watch_calls;
 
-use reply::Reply;
-
-// A session's record.
-#[repr(C)]
-pub struct Record {
-    pub consumer_id: u64,
-    pub incarnation: u64,
-    // 0 where there is no floor.
-    pub epoch_floor: u64,
-    pub queue_count: usize,
-    pub drain_position: usize,
-    pub has_floor: bool,
-    pub registered: bool,
-    pub invalidated: bool,
-}
-
-// What a call of a session gives: the record as it is then, and the answer.
-#[repr(C)]
-pub struct SessionReply {
-    pub state: Record,
-    pub reply: Reply,
-}
-
 // A part of a message.
 #[repr(C)]
 pub struct Part {

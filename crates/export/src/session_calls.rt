@@ -8,87 +8,19 @@ ghost use Rattle.session.specs.Link.{beginOf, invalidateOf};
 ghost use Rattle.session.specs.Calls.{updateOutcome, responseOutcome, drainOutcome, openOutcome, matchOf};
 ghost use Rattle.values.specs.Values.{lastPart, partsOf};
 ghost use Rattle.wire.specs.Fields.{fieldsOf};
-ghost use Rattle.export.specs.Exports.{floorOf, hasFloor, recordOf, exportRecord, answerReply, matchReply, sessionReply, changedReply};
-ghost use Rattle.export.specs.Exports.{exportOf, openReply, openOf, PartIs};
+ghost use Rattle.session_reply.specs.Replies.{recordOf, changedReply};
+ghost use Rattle.export.specs.Exports.{matchReply, exportOf, openOf, PartIs};
 use crate::Part;
-use crate::Record;
-use crate::SessionReply;
 use reply::Reply;
-use session::Answer;
-use session::Floor;
 use session::Match;
-use session::Opened;
-use session::SessionRecord;
+use session_reply::Record;
+use session_reply::SessionReply;
+use session_reply::open_reply;
+use session_reply::record_of;
+use session_reply::session_reply;
 use types::ControllerIncarnation;
 use types::ScalableConsumerType;
 use values::PartStep;
-
-fn floor_of(any: bool, floor: u64) -> Floor
-    ensures { λ x. ⌜ x ≡ floorOf any floor ⌝ }
-{
-    if any { Floor::At(floor) } else { Floor::Unset }
-}
-
-fn record_of(r: Record) -> SessionRecord
-    ensures { λ x. ⌜ x ≡ recordOf r ⌝ }
-{
-    let epoch_floor = floor_of(r.has_floor, r.epoch_floor);
-    SessionRecord {
-        consumer_id: r.consumer_id,
-        incarnation: ControllerIncarnation(r.incarnation),
-        registered: r.registered,
-        invalidated: r.invalidated,
-        epoch_floor,
-        queue_count: r.queue_count,
-        drain_position: r.drain_position,
-    }
-}
-
-fn has_floor(floor: Floor) -> bool
-    ensures { λ x. ⌜ x ≡ hasFloor floor ⌝ }
-{
-    match floor {
-        Floor::Unset => false,
-        Floor::At(_) => true,
-    }
-}
-
-fn export_record(r: SessionRecord) -> Record
-    ensures { λ x. ⌜ x ≡ exportRecord r ⌝ }
-{
-    let link = r.incarnation;
-    let floor = r.epoch_floor;
-    Record {
-        consumer_id: r.consumer_id,
-        incarnation: link.0,
-        epoch_floor: session_record::floor_value(floor),
-        queue_count: r.queue_count,
-        drain_position: r.drain_position,
-        has_floor: has_floor(floor),
-        registered: r.registered,
-        invalidated: r.invalidated,
-    }
-}
-
-fn answer_reply(a: Answer) -> Reply
-    ensures { λ x. ⌜ x ≡ answerReply a ⌝ }
-{
-    match a {
-        Answer::Refused(x) => reply::refused(x),
-        Answer::Accepted => reply::plain(reply::ACCEPTED),
-        Answer::Unchanged => reply::plain(reply::UNCHANGED),
-        Answer::Delta(n) => reply::one(reply::DELTA, n as u64),
-        Answer::Replay(place, n) => reply::two(reply::REPLAY, place as u64, n as u64),
-    }
-}
-
-fn session_reply(a: Answer, next: SessionRecord) -> SessionReply
-    ensures { λ x. ⌜ x ≡ sessionReply a next ⌝ }
-{
-    let state = export_record(next);
-    let reply = answer_reply(a);
-    SessionReply { state, reply }
-}
 
 // Opens a session over the store: `ScalableConsumerSession::new`. The kind is the integer of the wire.
 #[no_mangle]
@@ -122,26 +54,6 @@ pub extern "C" fn cuddrewyn_open(
         store,
     );
     open_reply(consumer_id, link, o)
-}
-
-fn open_reply(consumer_id: u64, incarnation: ControllerIncarnation, o: Opened) -> SessionReply
-    ensures { λ x. ⌜ x ≡ openReply «consumer_id» incarnation o ⌝ }
-{
-    match o {
-        Opened::Session(r) => session_reply(Answer::Accepted, r),
-        Opened::Refused(x) => session_reply(
-            Answer::Refused(x),
-            SessionRecord {
-                consumer_id,
-                incarnation,
-                registered: false,
-                invalidated: false,
-                epoch_floor: Floor::Unset,
-                queue_count: 0,
-                drain_position: 0,
-            },
-        ),
-    }
 }
 
 // A new link to the controller: `begin_incarnation`.

@@ -1,7 +1,7 @@
 -- `cuddrewyn_invalidate` meets its contract: what the call under it gives, in numbers.
 -- Assumes nothing.
 use mathlib.Core.Path.{ap, _∙_}
-use Rattle.export.specs.Exports.{changedReply}
+use Rattle.session_reply.specs.Replies.{changedReply}
 use borrow.Author.Needs.{needs}
 use Rattle.export.proofs.session_calls.cuddrewyn_invalidate.Statement.{statement}
 use Rattle.export.proofs.session_calls.cuddrewyn_invalidate.Tie as tie

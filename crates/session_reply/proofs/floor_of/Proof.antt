@@ -2,10 +2,10 @@
 -- Assumes nothing.
 use mathlib.Core.Path.{ap, sym}
 use mathlib.Core.Bool.{Bool}
-use Rattle.export.specs.Exports.{floorOf}
+use Rattle.session_reply.specs.Replies.{floorOf}
 use borrow.Author.Needs.{needs}
-use Rattle.export.proofs.session_calls.floor_of.Statement.{statement}
-use Rattle.export.proofs.session_calls.floor_of.Tie as tie
+use Rattle.session_reply.proofs.floor_of.Statement.{statement}
+use Rattle.session_reply.proofs.floor_of.Tie as tie
 
 returns : tie.Need-returns
 returns c = ap (λ (b : Bool). floorOf b (c .before .args .floor)) (sym (c .if1 .taken))

@@ -1,9 +1,9 @@
 -- `export_record` meets its contract.
 -- Assumes nothing.
-use Rattle.export.specs.Exports.{exportRecord}
+use Rattle.session_reply.specs.Replies.{exportRecord}
 use borrow.Author.Needs.{needs}
-use Rattle.export.proofs.session_calls.export_record.Statement.{statement}
-use Rattle.export.proofs.session_calls.export_record.Tie as tie
+use Rattle.session_reply.proofs.export_record.Statement.{statement}
+use Rattle.session_reply.proofs.export_record.Tie as tie
 
 floor-value-requires : tie.Need-floor-value-requires
 floor-value-requires c κs = search needs

@@ -1,8 +1,8 @@
 -- `session_reply` meets its contract.
 -- Assumes nothing.
 use borrow.Author.Needs.{needs}
-use Rattle.export.proofs.session_calls.session_reply.Statement.{statement}
-use Rattle.export.proofs.session_calls.session_reply.Tie as tie
+use Rattle.session_reply.proofs.session_reply.Statement.{statement}
+use Rattle.session_reply.proofs.session_reply.Tie as tie
 
 export-record-requires : tie.Need-export-record-requires
 export-record-requires c κs = search needs

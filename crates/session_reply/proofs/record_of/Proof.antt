@@ -1,8 +1,8 @@
 -- `record_of` meets its contract.
 -- Assumes nothing.
 use borrow.Author.Needs.{needs}
-use Rattle.export.proofs.session_calls.record_of.Statement.{statement}
-use Rattle.export.proofs.session_calls.record_of.Tie as tie
+use Rattle.session_reply.proofs.record_of.Statement.{statement}
+use Rattle.session_reply.proofs.record_of.Tie as tie
 
 floor-of-requires : tie.Need-floor-of-requires
 floor-of-requires c κs = search needs

@@ -2,11 +2,11 @@
 -- Assumes nothing.
 use mathlib.Core.Path.{_≡_, ap, sym, _∙_}
 use Rattle.session.specs.declared.Opened.{Opened}
-use Rattle.export.specs.declared.SessionReply.{SessionReply}
-use Rattle.export.specs.Exports.{openReply}
+use Rattle.session_reply.specs.declared.SessionReply.{SessionReply}
+use Rattle.session_reply.specs.Replies.{openReply}
 use borrow.Author.Needs.{needs}
-use Rattle.export.proofs.session_calls.open_reply.Statement.{statement}
-use Rattle.export.proofs.session_calls.open_reply.Tie as tie
+use Rattle.session_reply.proofs.open_reply.Statement.{statement}
+use Rattle.session_reply.proofs.open_reply.Tie as tie
 
 abbrev replyOf : tie.Start → Opened → SessionReply
 replyOf k o = openReply (k .args .consumer-id) (k .args .incarnation) o

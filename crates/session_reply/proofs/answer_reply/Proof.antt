@@ -1,10 +1,10 @@
 -- `answer_reply` meets its contract.
 -- Assumes nothing.
 use mathlib.Core.Path.{ap, sym, _∙_}
-use Rattle.export.specs.Exports.{answerReply}
+use Rattle.session_reply.specs.Replies.{answerReply}
 use borrow.Author.Needs.{needs}
-use Rattle.export.proofs.session_calls.answer_reply.Statement.{statement}
-use Rattle.export.proofs.session_calls.answer_reply.Tie as tie
+use Rattle.session_reply.proofs.answer_reply.Statement.{statement}
+use Rattle.session_reply.proofs.answer_reply.Tie as tie
 
 enum-known-a : tie.Need-enum-known-a
 enum-known-a c = search needs
