@@ -1,69 +1,45 @@
--- `same` meets its contract. The invariant: what is left of both parts decides. The measure is what is left.
+-- `same` meets its contract: parts of two lengths differ, empty ones are the same, the others are compared.
 -- Assumes nothing.
-use Prim.Native.Nat.{_-_, _≤_}
 use native.Mathlib.Omega.{arith}
-use mathlib.Core.Path.{_≡_, refl, sym, _∙_}
+use mathlib.Core.Path.{sym}
 use borrow.Author.Needs.{needs}
-use lib.ListN.{length, drop}
-use Rattle.parts.specs.Same.{sameBytes}
-use Rattle.parts.proofs.SameLaws.{same-length, same-next, same-differs, same-end}
+use Rattle.parts.proofs.SameLaws.{same-length, same-end}
 use Rattle.parts.proofs.same.Statement.{statement}
 use Rattle.parts.proofs.same.Tie as tie
 
-abbrev Inv-loop : tie.InvT-loop
-Inv-loop a b i₀ i = (i ≤ length a) × (length a ≡ length b) × (sameBytes a b ≡ sameBytes (drop i a) (drop i b))
-
-abbrev μ-loop : tie.MeasureT-loop
-μ-loop a b i₀ i = length a - i
-
-returns : tie.Need-returns Inv-loop μ-loop
+returns : tie.Need-returns
 returns c = sym (same-length _ _ (c .if1 .taken))
 
-loop-holds : tie.Need-loop-holds Inv-loop μ-loop
-loop-holds c = (omega arith, c .if1 .left, refl)
+returns-2 : tie.Need-returns-2
+returns-2 c = let a = c .before .before .before .before .args in sym (same-end (a .a .now) (a .b .now) 0 (omega arith) (omega arith))
 
-shared-slice-read-if2 : tie.Need-shared-slice-read-if2 Inv-loop μ-loop
-shared-slice-read-if2 c = search needs
+same-by-requires : tie.Need-same-by-requires
+same-by-requires c κs = search needs
 
-shared-slice-read-if2-2 : tie.Need-shared-slice-read-if2-2 Inv-loop μ-loop
-shared-slice-read-if2-2 c = search needs
+returns-3 : tie.Need-returns-3
+returns-3 c = search needs
 
-returns-2 : tie.Need-returns-2 Inv-loop μ-loop
-returns-2 c =
-    let l = c .before .before .before .before .loop in
-    let a = c .before .before .before .before .before .before .args in
-    sym (l .inv .2 ∙ same-differs (a .a .now) (a .b .now) (l .i) (omega arith) (l .inv .1) (c .if2 .taken))
+same-by-requires-2 : tie.Need-same-by-requires-2
+same-by-requires-2 c κs = search needs
 
-add-i : tie.Need-add-i Inv-loop μ-loop
-add-i c = search needs
+returns-4 : tie.Need-returns-4
+returns-4 c = search needs
 
-loop-less : tie.Need-loop-less Inv-loop μ-loop
-loop-less c = search needs
+same-by-requires-3 : tie.Need-same-by-requires-3
+same-by-requires-3 c κs = search needs
 
-loop-again : tie.Need-loop-again Inv-loop μ-loop
-loop-again c =
-    let l = c .before .before .before .before .loop in
-    let a = c .before .before .before .before .before .before .args in
-    (omega arith, l .inv .1, l .inv .2 ∙ same-next (a .a .now) (a .b .now) (l .i) (omega arith) (l .inv .1) (c .if2 .left))
-
-returns-3 : tie.Need-returns-3 Inv-loop μ-loop
-returns-3 c =
-    let l = c .before .loop in
-    let a = c .before .before .before .args in
-    sym (l .inv .2 ∙ same-end (a .a .now) (a .b .now) (l .i) (omega arith) (omega arith))
+returns-5 : tie.Need-returns-5
+returns-5 c = search needs
 
 pub same-spec : {M : Type 1} → statement M
 same-spec =
     tie.close
     (tie.spec
-    Inv-loop
-    μ-loop
     returns
-    loop-holds
-    shared-slice-read-if2
-    shared-slice-read-if2-2
     returns-2
-    add-i
-    loop-less
-    loop-again
-    returns-3)
+    same-by-requires
+    returns-3
+    same-by-requires-2
+    returns-4
+    same-by-requires-3
+    returns-5)
