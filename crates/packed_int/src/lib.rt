@@ -1,6 +1,6 @@
 // Numbers of 2, 4 and 8 bytes in a slice, most significant byte first, and bytes written at a place.
 //
-// All functions are helpers: the caller shows that the bytes lie inside the slice. A width is two of the width below it, so one law,
+// All functions are helpers: the caller shows that the bytes lie inside the slice. A number is one of fewer bytes and another behind it, so one law,
 // over the two widths, serves each of them (proofs/BeLaws).
 ghost use mathlib.Core.Path.{_≡_};
 ghost use Prim.Native.Nat.{_+_, _≤_};
@@ -24,12 +24,15 @@ pub fn read_u32(s: &[u8], at: usize) -> u32
     (read_u16(s, at) as u32) * 65536 + (read_u16(s, at + 2) as u32)
 }
 
-// The 8 bytes from the place at on.
+// The 8 bytes from the place at on, two at a time: the compiler makes one read of it.
 pub fn read_u64(s: &[u8], at: usize) -> u64
     requires { ⌜ at + 8 ≤ length (now s) ⌝ }
     ensures { λ r. ⌜ r ≡ beAt 8 (now (s .entry)) at ⌝ }
 {
-    (read_u32(s, at) as u64) * 4294967296 + (read_u32(s, at + 4) as u64)
+    let two = read_u16(s, at) as u64;
+    let four = two * 65536 + (read_u16(s, at + 2) as u64);
+    let six = four * 65536 + (read_u16(s, at + 4) as u64);
+    six * 65536 + (read_u16(s, at + 6) as u64)
 }
 
 // Writes v as 2 bytes from the place at on.
