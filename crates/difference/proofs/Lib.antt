@@ -1,3 +1,4 @@
+mod CopyLaws
 mod StepLaws
 mod TurnLaws
 mod WholeLaws

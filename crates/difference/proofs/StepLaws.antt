@@ -1,7 +1,7 @@
 -- A step of the merge, over records whose ids rise: what the answer of `next_step` says of the records that the other list has not.
 --
--- In order: the answer where records are left (`step-at`, `step-below`, `step-first`); an id below a list is not in it (`has-above`), and
--- takes nothing away (`without-below`); the three answers (`skip-some`, `skip-step`, `same-step`, `keep-step`).
+-- In order: records with different ids (`ids-differ`); the answer where records are left (`step-at`, `step-below`, `step-above`, `step-first`); an id below a list is
+-- not in it (`has-above`), and takes nothing away (`without-below`); the three answers (`skip-some`, `skip-step`, `same-step`, `keep-step`).
 -- Assumes nothing.
 use Prim.Native.Nat.{ℕ, suc, _≤_, _<_}
 use native.Mathlib.Omega.{arith}
@@ -20,6 +20,11 @@ use Rattle.difference.specs.declared.Step.the-variants.{Keep, Same, Skip
 
 -- ---- the answer where records are left
 
+-- records with different ids differ
+ids-differ : (g h : AssignedSegment) → (g .segmentId ≡ h .segmentId → ⊥) → sameSegment g h ≡ false
+unfolding sameSegment
+ids-differ g h k = simp (ne-eqb (g .segmentId) (h .segmentId) k)
+
 module _ (g : AssignedSegment) (y : List ℕ) (q n : ℕ) (h : 0 < n) where
   step-at : stepOf g (segmentsOf n (drop q y))
       ≡ cond (ltb (segmentOf (drop q y) .segmentId) (g .segmentId)) Skip (cond (sameSegment g (segmentOf (drop q y))) Same Keep)
@@ -29,16 +34,16 @@ module _ (g : AssignedSegment) (y : List ℕ) (q n : ℕ) (h : 0 < n) where
   pub step-below : segmentOf (drop q y) .segmentId < g .segmentId → Skip ≡ stepOf g (segmentsOf n (drop q y))
   step-below k = sym (step-at ∙ simp (lt-ltb _ _ k))
 
+  pub step-above : g .segmentId < segmentOf (drop q y) .segmentId → Keep ≡ stepOf g (segmentsOf n (drop q y))
+  step-above k =
+      let h : g .segmentId ≤ segmentOf (drop q y) .segmentId = omega arith in
+      sym (step-at ∙ simp (le-ltb _ _ h, ids-differ g (segmentOf (drop q y)) (λ e. absurd (omega arith))))
+
   pub step-first : (t : Bool) → g .segmentId ≤ segmentOf (drop q y) .segmentId → sameSegment g (segmentOf (drop q y)) ≡ t
       → cond t Same Keep ≡ stepOf g (segmentsOf n (drop q y))
   step-first t k e = sym (step-at ∙ simp (le-ltb _ _ k, e))
 
 -- ---- ids below a list's
-
--- records with different ids differ
-ids-differ : (g h : AssignedSegment) → (g .segmentId ≡ h .segmentId → ⊥) → sameSegment g h ≡ false
-unfolding sameSegment
-ids-differ g h k = simp (ne-eqb (g .segmentId) (h .segmentId) k)
 
 has-above : (low : ℕ) (hs : List AssignedSegment) (g : AssignedSegment) → okFrom low hs ≡ true → g .segmentId < low
     → hasSame hs g ≡ false

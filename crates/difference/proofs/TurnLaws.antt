@@ -1,7 +1,7 @@
 -- The merge, turn by turn, over the records of two packed assignments where they lie.
 --
 -- In order: what a packed assignment has room for (`starts-slot`, `starts-long`); what is written of a record (`length-entry`,
--- `size-within`, `entry-bytes`, `entries-append`); the loop's invariant (`Turn`), its start (`begin`), its end (`finish`), and a turn
+-- `entry-least`, `size-within`, `entry-bytes`, `entries-append`); the loop's invariant (`Turn`), its start (`begin`), its end (`finish`), and a turn
 -- for each answer (`skipped`, `matched`, `kept`, with `room-here`).
 -- Assumes nothing.
 use Prim.Native.Nat.{ℕ, _+_, _-_, _≤_, _<_}
@@ -56,6 +56,10 @@ unfolding entry encodeSegment
 front-entry true g =
     let k : length (encodeSegment g) ≡ sizeSegment g = length-encodeSegment g in take-all (sizeSegment g) (encodeSegment g) (omega arith)
 front-entry false g = take-at (bytesOf 8 (g .segmentId)) _ 8 (length-bytesOf 8 (g .segmentId))
+
+pub entry-least : (w : Bool) (z : ℕ) → 8 ≤ z → 8 ≤ entrySize w z
+entry-least true z h = h
+entry-least false z h = omega arith
 
 pub size-within : (w : Bool) (z : ℕ) → 8 ≤ z → entrySize w z ≤ z
 size-within true z h = omega arith

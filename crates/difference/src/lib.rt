@@ -3,7 +3,7 @@
 ghost use mathlib.Core.Path.{_≡_};
 ghost use mathlib.Core.Bool.{true};
 ghost use Prim.Native.Nat.{_+_, _≤_, _<_};
-ghost use lib.ListN.{length, drop};
+ghost use lib.ListN.{length, take, drop};
 ghost use Rattle.packed_int.specs.Put.{put};
 ghost use Rattle.packed.specs.Assignment.{segmentOf, segmentsOf, sizeSegment, assignmentOf, startsAssignment};
 ghost use Rattle.delta.specs.Delta.{encodeDelta, sizeDelta};
@@ -38,8 +38,13 @@ fn next_step(x: &[u8], p: usize, y: &[u8], q: usize, n: usize) -> Step
     if n == 0 {
         return Step::Keep;
     }
-    if records::id_at(y, q) < records::id_at(x, p) {
+    let own = records::id_at(x, p);
+    let other = records::id_at(y, q);
+    if other < own {
         return Step::Skip;
+    }
+    if own < other {
+        return Step::Keep;
     }
     if records::same_record(x, p, y, q) {
         return Step::Same;
@@ -52,6 +57,20 @@ fn entry_size(whole: bool, size: usize) -> usize
     ensures { λ r. ⌜ r ≡ entrySize whole size ⌝ }
 {
     if whole { size } else { 8 }
+}
+
+// Copies the n bytes of x from the place p on to out from the place at on: eight at a time, and the last eight once more where fewer are left.
+fn copy_bytes(x: &[u8], p: usize, n: usize, out: &mut [u8], at: usize)
+    requires { ⌜ (8 ≤ n) × (p + n ≤ length (now x)) × (at + n ≤ length (now out)) ⌝ }
+    ensures { λ _. ⌜ now (out .exit) ≡ put (now (out .entry)) at (take n (drop p (now (x .entry)))) ⌝ }
+{
+    let last = n - 8;
+    let mut i: usize = 0;
+    while i < last {
+        packed_int::write_u64(out, at + i, packed_int::read_u64(x, p + i));
+        i = i + 8;
+    }
+    packed_int::write_u64(out, at + last, packed_int::read_u64(x, p + last));
 }
 
 // Writes the records of x that y has no identical one of, whole or their ids alone, to out from the place at on.
@@ -80,7 +99,7 @@ fn merge(x: &[u8], y: &[u8], whole: bool, out: &mut [u8], at: usize) -> Merged
             Step::Keep => {
                 let size = records::size_at(x, p);
                 let len = entry_size(whole, size);
-                packed_int::put_bytes(out, next, &x[p..p + len]);
+                copy_bytes(x, p, len, out, next);
                 next = next + len;
                 count = count + 1;
                 p = p + size;

@@ -1,18 +1,17 @@
 -- `difference::merge` meets its contract. The invariant is `Turn` of proofs/TurnLaws; the measure is how many records are left of both.
 -- Assumes nothing.
-use Prim.Native.Nat.{ℕ, _+_, _-_, _≤_, _<_}
+use Prim.Native.Nat.{_+_, _≤_, _<_}
 use native.Mathlib.Omega.{arith}
 use borrow.Author.Needs.{needs}
-use mathlib.Core.Path.{_≡_, refl, sym, ap, _∙_}
-use lib.ListN.{length, take, drop, length-take}
-use Rattle.packed_int.specs.Put.{put}
+use mathlib.Core.Path.{_≡_, refl, sym, _∙_}
+use lib.ListN.{length, drop}
 use Rattle.packed.specs.Assignment.{segmentOf, segmentsOf, sizeSegment}
 use Rattle.packed.proofs.AssignmentLaws.{size-least, length-segmentsOf, rest-head}
 use Rattle.difference.specs.Merge.{stepOf, entrySize}
 use Rattle.difference.specs.declared.Step.{Step}
 use Rattle.difference.specs.declared.Step.the-variants.{Keep, Same, Skip}
 use Rattle.difference.proofs.StepLaws.{skip-some}
-use Rattle.difference.proofs.TurnLaws.{starts-long, size-within, Turn, begin, skipped, matched, kept, room-here, finish}
+use Rattle.difference.proofs.TurnLaws.{starts-long, entry-least, size-within, Turn, begin, skipped, matched, kept, room-here, finish}
 use Rattle.difference.proofs.merge.Statement.{statement}
 use Rattle.difference.proofs.merge.Tie as tie
 
@@ -153,10 +152,11 @@ size-at-requires-3 c κs = omega (arith, x-within (c .before .before .before))
 entry-size-requires : tie.Need-entry-size-requires Inv-loop μ-loop
 entry-size-requires c κs = search needs
 
--- the bytes that are written are within the record, and there is room for them
+-- the bytes that are copied are eight at least and within the record, and there is room for them
 entry-fits : (c : tie.After-entry-size Inv-loop μ-loop)
     → let l = c .before .before .before .before .before .before in
-    (c .entry-size .result ≤ c .before .size-at3 .result)
+    (8 ≤ c .entry-size .result)
+    × (c .entry-size .result ≤ c .before .size-at3 .result)
     × (l .loop .next + c .entry-size .result ≤ length (start l .args .out .now))
 entry-fits c =
     let k = c .before in
@@ -164,6 +164,7 @@ entry-fits c =
     let a = start (i .before) .args in
     let e : c .entry-size .result ≡ entrySize (a .whole) (k .size-at3 .result) = c .entry-size .ensures in
     let z : k .size-at3 .result ≡ sizeSegment (segmentOf (drop (i .before .loop .p) (a .x .now))) = k .size-at3 .ensures in (
+      omega (arith, e, entry-least (a .whole) (k .size-at3 .result) (omega (arith, x-within i))),
       omega (arith, e, size-within (a .whole) (k .size-at3 .result) (omega (arith, x-within i))),
       omega (arith, e, room-here (i .before .loop .inv) (i .loop-test .taken) (k .size-at3 .result) z),
     )
@@ -174,62 +175,43 @@ size-fits : (c : tie.After-size-at3 Inv-loop μ-loop)
     l .loop .p + c .size-at3 .result ≤ length (start l .args .x .now)
 size-fits c = omega (arith, c .size-at3 .ensures, x-within (c .before .before .before .before))
 
-add-put-bytes : tie.Need-add-put-bytes Inv-loop μ-loop
-add-put-bytes c =
+copy-bytes-requires : tie.Need-copy-bytes-requires Inv-loop μ-loop
+copy-bytes-requires c κs =
     let e = c .before in
-    omega (arith, entry-fits e, size-fits (e .before), start (e .before .before .before .before .before .before) .good)
-
-sub-put-bytes : tie.Need-sub-put-bytes Inv-loop μ-loop
-sub-put-bytes c = search needs
-
-part-put-bytes-start : tie.Need-part-put-bytes-start Inv-loop μ-loop
-part-put-bytes-start c = search needs
-
-part-put-bytes-end : tie.Need-part-put-bytes-end Inv-loop μ-loop
-part-put-bytes-end c = omega (arith, entry-fits (c .before), size-fits (c .before .before))
-
-put-bytes-requires : tie.Need-put-bytes-requires Inv-loop μ-loop
-put-bytes-requires c κs =
-    let e = c .before .before in
-    let l = e .before .before .before .before .before .before in
-    let x = start l .args .x .now in
-    let p = l .loop .p in
-    omega (arith, entry-fits e, l .loop .inv .long, length-take (p + e .entry-size .result - p) (drop p x))
+    let k = e .before in
+    let l = k .before .before .before .before .before in
+    (entry-fits e .0, omega (arith, entry-fits e .1, size-fits k), omega (arith, entry-fits e .2, l .loop .inv .long))
 
 add-next : tie.Need-add-next Inv-loop μ-loop
 add-next c =
-    let e = c .before .before .before .before .before in
-    omega (arith, entry-fits e, start (e .before .before .before .before .before .before) .good)
+    let e = c .before .before .before .before in
+    omega (arith, entry-fits e .2, start (e .before .before .before .before .before .before) .good)
 
 add-count : tie.Need-add-count Inv-loop μ-loop
-add-count c = omega (arith, c .before .before .before .before .before .before .before .before .before .before .before .loop .inv .few)
+add-count c = omega (arith, c .before .before .before .before .before .before .before .before .before .before .loop .inv .few)
 
 add-p-2 : tie.Need-add-p-2 Inv-loop μ-loop
 add-p-2 c =
-    let k = c .before .before .before .before .before .before in
+    let k = c .before .before .before .before .before in
     omega (arith, size-fits k, start (k .before .before .before .before .before) .good)
 
 sub-m-2 : tie.Need-sub-m-2 Inv-loop μ-loop
-sub-m-2 c = omega (arith, c .before .before .before .before .before .before .before .before .before .before .loop-test .taken)
+sub-m-2 c = omega (arith, c .before .before .before .before .before .before .before .before .before .loop-test .taken)
 
 loop-less-3 : tie.Need-loop-less-3 Inv-loop μ-loop
-loop-less-3 c = omega (arith, c .before .before .before .before .before .before .before .before .before .before .loop-test .taken)
+loop-less-3 c = omega (arith, c .before .before .before .before .before .before .before .before .before .loop-test .taken)
 
 loop-again-3 : tie.Need-loop-again-3 Inv-loop μ-loop
 loop-again-3 c =
-    let b = c .before .before .put-bytes in
-    let e = c .before .before .before .before .before in
+    let b = c .before .before .copy-bytes in
+    let e = c .before .before .before .before in
     let k = e .before in
     let r = k .before .before .before in
     let i = r .before in
-    let v = i .before .loop in
     let u = i .before .before .before .before .before .before in
-    let x = u .before .args .x .now in
-    let len : ℕ = e .entry-size .result in
-    let f : v .p + len - v .p ≡ len = omega arith in
-    kept (v .inv) (i .loop-test .taken) (k .size-at3 .result) (k .size-at3 .ensures) len (b .last .0)
-    (λ j. u .shared-slice-known .given j .fits) (told r Keep (k .before .enum-told3 .given .1)) (e .entry-size .ensures)
-    (b .ensures ∙ ap (λ (n : ℕ). put (v .out) (v .next) (take n (drop (v .p) x))) f) (b .kept .0)
+    kept (i .before .loop .inv) (i .loop-test .taken) (k .size-at3 .result) (k .size-at3 .ensures) (e .entry-size .result)
+    (b .last .1 .1 .1 .0) (λ j. u .shared-slice-known .given j .fits) (told r Keep (k .before .enum-told3 .given .1))
+    (e .entry-size .ensures) (b .ensures) (b .kept .1 .1 .1 .0)
 
 same-length : tie.Need-same-length Inv-loop μ-loop
 same-length c = c .before .loop .inv .long
@@ -264,11 +246,7 @@ merge-spec =
     enum-told-3
     size-at-requires-3
     entry-size-requires
-    add-put-bytes
-    sub-put-bytes
-    part-put-bytes-start
-    part-put-bytes-end
-    put-bytes-requires
+    copy-bytes-requires
     add-next
     add-count
     add-p-2

@@ -9,7 +9,7 @@ use Rattle.packed.specs.Assignment.{segmentOf, segmentsOf}
 use Rattle.packed.proofs.AssignmentLaws.{size-least}
 use Rattle.difference.specs.Merge.{stepOf}
 use Rattle.difference.specs.declared.Step.the-variants.{Keep, Same}
-use Rattle.difference.proofs.StepLaws.{step-below, step-first}
+use Rattle.difference.proofs.StepLaws.{step-below, step-above, step-first}
 use Rattle.difference.proofs.next_step.Statement.{statement}
 use Rattle.difference.proofs.next_step.Tie as tie
 
@@ -35,10 +35,10 @@ returns c =
     ap (λ (n : ℕ). stepOf (segmentOf (drop (a .p) (a .x .now))) (segmentsOf n (drop (a .q) (a .y .now)))) (sym (c .if1 .taken))
 
 id-at-requires : tie.Need-id-at-requires
-id-at-requires c κs = within c .1
+id-at-requires c κs = within c .0
 
 id-at-requires-2 : tie.Need-id-at-requires-2
-id-at-requires-2 c κs = within (c .before) .0
+id-at-requires-2 c κs = within (c .before) .1
 
 returns-2 : tie.Need-returns-2
 returns-2 c =
@@ -48,29 +48,46 @@ returns-2 c =
     step-below (segmentOf (drop (a .p) (a .x .now))) (a .y .now) (a .q) (a .n) (some e)
     (omega (arith, c .if2 .taken, i .id-at2 .ensures, i .before .id-at .ensures))
 
-same-record-requires : tie.Need-same-record-requires
-same-record-requires c κs =
-    let e = c .before .before .before in
-    let s = e .before .before .before in
-    (s .pre .0, s .pre .1 (some e))
-
--- the first record of y is not below that of x
-not-below : (c : tie.After-same-record) (t : Bool) → c .same-record .result ≡ t
-    → let a = c .before .before .before .before .before .before .before .args in
-    cond t Same Keep ≡ stepOf (segmentOf (drop (a .p) (a .x .now))) (segmentsOf (a .n) (drop (a .q) (a .y .now)))
-not-below c t r =
+returns-3 : tie.Need-returns-3
+returns-3 c =
     let i = c .before .before in
     let e = i .before .before in
     let a = e .before .before .before .args in
-    step-first (segmentOf (drop (a .p) (a .x .now))) (a .y .now) (a .q) (a .n) (some e) t
-    (omega (arith, c .before .if2 .left, i .id-at2 .ensures, i .before .id-at .ensures)) (sym (c .same-record .ensures) ∙ r)
+    step-above (segmentOf (drop (a .p) (a .x .now))) (a .y .now) (a .q) (a .n) (some e)
+    (omega (arith, c .if3 .taken, i .id-at2 .ensures, i .before .id-at .ensures))
 
-returns-3 : tie.Need-returns-3
-returns-3 c = not-below (c .before) true (c .if3 .taken)
+same-record-requires : tie.Need-same-record-requires
+same-record-requires c κs =
+    let e = c .before .before .before .before in
+    let s = e .before .before .before in
+    (s .pre .0, s .pre .1 (some e))
+
+-- the first record of y has the id
+same-id : (c : tie.After-same-record) (t : Bool) → c .same-record .result ≡ t
+    → let a = c .before .before .before .before .before .before .before .before .args in
+    cond t Same Keep ≡ stepOf (segmentOf (drop (a .p) (a .x .now))) (segmentsOf (a .n) (drop (a .q) (a .y .now)))
+same-id c t r =
+    let i = c .before .before .before in
+    let e = i .before .before in
+    let a = e .before .before .before .args in
+    step-first (segmentOf (drop (a .p) (a .x .now))) (a .y .now) (a .q) (a .n) (some e) t
+    (omega (arith, c .before .before .if2 .left, i .id-at2 .ensures, i .before .id-at .ensures)) (sym (c .same-record .ensures) ∙ r)
 
 returns-4 : tie.Need-returns-4
-returns-4 c = not-below (c .before) false (c .if3 .left)
+returns-4 c = same-id (c .before) true (c .if4 .taken)
+
+returns-5 : tie.Need-returns-5
+returns-5 c = same-id (c .before) false (c .if4 .left)
 
 pub next-step-spec : {M : Type 1} → statement M
 next-step-spec =
-    tie.close (tie.spec returns id-at-requires id-at-requires-2 returns-2 same-record-requires returns-3 returns-4)
+    tie.close
+    (tie.spec
+    returns
+    id-at-requires
+    id-at-requires-2
+    returns-2
+    returns-3
+    same-record-requires
+    returns-4
+    returns-5)
