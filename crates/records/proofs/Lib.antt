@@ -1,4 +1,3 @@
 pub mod CompareLaws
 pub mod InsertLaws
-mod MoveLaws
 pub mod PlaceLaws

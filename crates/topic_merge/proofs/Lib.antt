@@ -1,3 +1,2 @@
-pub mod MoveLaws
 pub mod TakeLaws
 pub mod MergeLaws

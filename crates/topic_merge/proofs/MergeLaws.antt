@@ -24,7 +24,7 @@ use Rattle.topics.proofs.PlaceLaws.{lower, upper, lower-upper, place-at, lower-
 use Rattle.topics.proofs.PlaceLaws.{FirstBehind, insert-absent, insertAll-behind, lower-bytes, upper-topics, upper-whole}
 use Rattle.topics.proofs.WalkLaws.{part-is, entry-topics, entry-fits, entry-rest, entry-length, entry-bytes, topics-end}
 use Rattle.topic_merge.specs.Merge.{Apart, Rises}
-use Rattle.topic_merge.proofs.MoveLaws.{drop-behind, put-same, put-over}
+use Rattle.moves.proofs.MoveLaws.{drop-behind, put-same, put-over}
 
 -- ---- over lists: the first of the new topics, between those before it and those behind it
 

@@ -27,7 +27,7 @@ use Rattle.topics.proofs.PackedLaws.{write-back, front-bytes, rest-topics, rest
 use Rattle.topics.proofs.PlaceLaws.{lower, lower-below, below-in, place-at, place-has}
 use Rattle.topics.proofs.WalkLaws.{part-is, entry-topics, entry-fits, entry-rest, entry-length, topics-end}
 use Rattle.topic_merge.specs.Merge.{without, Rises}
-use Rattle.topic_merge.proofs.MoveLaws.{drop-behind}
+use Rattle.moves.proofs.MoveLaws.{drop-behind}
 
 -- ---- a topic parts a rising list
 

@@ -1,38 +1,12 @@
 // Changes a packed set in place: the topics of a packed list taken out of it, or merged into it. Each goes once through both.
 ghost use mathlib.Core.Path.{_≡_};
 ghost use mathlib.Core.Bool.{cond};
-ghost use Prim.Native.Nat.{_+_, _-_, _≤_};
-ghost use lib.ListN.{length, take, drop};
+ghost use Prim.Native.Nat.{_+_, _≤_};
+ghost use lib.ListN.{length, take};
 ghost use Rattle.packed_int.specs.Put.{put};
 ghost use Rattle.topics.specs.Topics.{insertAll};
 ghost use Rattle.topics.specs.Packed.{topicsOf, encodeTopics, sizeTopics};
 ghost use Rattle.topic_merge.specs.Merge.{without, Apart, Rises};
-
-// z bytes from index from, moved down to index to.
-fn move_down(b: &mut [u8], from: usize, to: usize, z: usize)
-    requires { ⌜ (to ≤ from) × (from + z ≤ length (now b)) ⌝ }
-    ensures { λ _. ⌜ now (b .exit) ≡ put (now (b .entry)) to (take z (drop from (now (b .entry)))) ⌝ }
-{
-    let mut i: usize = 0;
-    while i < z {
-        let v = b[from + i];
-        b[to + i] = v;
-        i += 1;
-    }
-}
-
-// The bytes from index from to index to, moved up by z.
-fn move_up(b: &mut [u8], from: usize, to: usize, z: usize)
-    requires { ⌜ (from ≤ to) × (to + z ≤ length (now b)) ⌝ }
-    ensures { λ _. ⌜ now (b .exit) ≡ put (now (b .entry)) (from + z) (take (to - from) (drop from (now (b .entry)))) ⌝ }
-{
-    let mut i = to;
-    while from < i {
-        i -= 1;
-        let v = b[i];
-        b[i + z] = v;
-    }
-}
 
 // z bytes are passed over where the topic is present.
 fn skip(present: bool, z: usize) -> usize
@@ -54,13 +28,13 @@ pub fn take_out(b: &mut [u8], gone: &[u8]) -> usize
         let n = packed_int::read_u16(gone, at) as usize;
         let end = at + 2 + n;
         let place = topics::find(&b[from..], &gone[at + 2..end]);
-        move_down(b, from, to, place.at);
+        moves::move_down(b, from, to, place.at);
         to = to + place.at;
         from = from + place.at + skip(place.present, 2 + n);
         at = end;
     }
     let rest = b.len() - from;
-    move_down(b, from, to, rest);
+    moves::move_down(b, from, to, rest);
     to + rest
 }
 
@@ -74,7 +48,7 @@ pub fn merge(b: &mut [u8], used: usize, new: &[u8]) -> usize
 {
     let z = new.len();
     let end = used + z;
-    move_up(b, 0, used, z);
+    moves::move_up(b, 0, used, z);
     let mut to: usize = 0;
     let mut from = z;
     let mut at: usize = 0;
@@ -82,7 +56,7 @@ pub fn merge(b: &mut [u8], used: usize, new: &[u8]) -> usize
         let n = packed_int::read_u16(new, at) as usize;
         let next = at + 2 + n;
         let place = topics::find(&b[from..end], &new[at + 2..next]);
-        move_down(b, from, to, place.at);
+        moves::move_down(b, from, to, place.at);
         to = to + place.at;
         from = from + place.at;
         packed_int::put_bytes(b, to, &new[at..next]);

@@ -22,7 +22,7 @@ use Rattle.topic_window.specs.declared.Orders.{Orders}
 use Rattle.topic_window.specs.Lists.{namedIn, kept, addedOf, removedOf}
 use Rattle.topic_lists.proofs.SizeLaws.{size-filter}
 use Rattle.topic_merge.specs.Merge.{without, Apart, Rises}
-use Rattle.topic_merge.proofs.MoveLaws.{put-over}
+use Rattle.moves.proofs.MoveLaws.{put-over}
 use Rattle.watch.specs.declared.WatchAnswer.the-variants.{Changed}
 use Rattle.watch.specs.Watch.{diffChange, diffIn, done}
 use Rattle.watch.specs.Steps.{DiffFits}

@@ -1,9 +1,11 @@
--- `topic_merge::move_up` meets its contract. The invariant is `Raised` of proofs/MoveLaws; the measure is the place that is reached.
+-- `moves::raise_bytes` meets its contract. The invariant is `Raised` of specs/Moved; the measure is the place that is reached.
 -- Assumes nothing.
+use Prim.Native.Nat.{_+_, _-_}
 use native.Mathlib.Omega.{arith}
-use Rattle.topic_merge.proofs.MoveLaws.{Raised, up-start, up-turn, up-end}
-use Rattle.topic_merge.proofs.move_up.Statement.{statement}
-use Rattle.topic_merge.proofs.move_up.Tie as tie
+use Rattle.moves.specs.Moved.{Raised}
+use Rattle.moves.proofs.MoveLaws.{up-start, up-turn, up-end, one-byte}
+use Rattle.moves.proofs.raise_bytes.Statement.{statement}
+use Rattle.moves.proofs.raise_bytes.Tie as tie
 
 abbrev Inv-loop : tie.InvT-loop
 Inv-loop b₀ from to z i₀ b i = Raised b₀ from to z b i
@@ -33,7 +35,10 @@ loop-again : tie.Need-loop-again Inv-loop μ-loop
 loop-again c =
     let l = c .before .before in
     let a = l .before .args in
-    up-turn (a .b .now) (a .from) (a .to) (a .z) (l .loop .b) (l .loop .i) (l .loop .inv) (omega arith) (omega arith)
+    let b = l .loop .b in
+    let i = l .loop .i in
+    rw (one-byte b (i - 1) (i - 1 + a .z) (omega arith) (omega arith))
+    (up-turn (a .b .now) (a .from) (a .to) (a .z) b i (l .loop .inv) (i - 1) 1 (omega arith) (omega arith) (omega arith))
 
 same-length : tie.Need-same-length Inv-loop μ-loop
 same-length c = c .before .loop .inv .long
@@ -44,8 +49,8 @@ returns c =
     let a = l .before .args in
     up-end (a .b .now) (a .from) (a .to) (a .z) (l .loop .b) (l .loop .i) (l .loop .inv) (omega arith)
 
-pub move-up-spec : {M : Type 1} → statement M
-move-up-spec =
+pub raise-bytes-spec : {M : Type 1} → statement M
+raise-bytes-spec =
     tie.close
     (tie.spec
     Inv-loop

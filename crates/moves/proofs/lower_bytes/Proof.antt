@@ -1,10 +1,11 @@
--- `topic_merge::move_down` meets its contract. The invariant is `Lowered` of proofs/MoveLaws; the measure is what is left to move.
+-- `moves::lower_bytes` meets its contract. The invariant is `Lowered` of specs/Moved; the measure is what is left to move.
 -- Assumes nothing.
-use Prim.Native.Nat.{_-_}
+use Prim.Native.Nat.{_+_, _-_}
 use native.Mathlib.Omega.{arith}
-use Rattle.topic_merge.proofs.MoveLaws.{Lowered, down-start, down-turn, down-end}
-use Rattle.topic_merge.proofs.move_down.Statement.{statement}
-use Rattle.topic_merge.proofs.move_down.Tie as tie
+use Rattle.moves.specs.Moved.{Lowered}
+use Rattle.moves.proofs.MoveLaws.{down-start, down-turn, down-end, one-byte}
+use Rattle.moves.proofs.lower_bytes.Statement.{statement}
+use Rattle.moves.proofs.lower_bytes.Tie as tie
 
 abbrev Inv-loop : tie.InvT-loop
 Inv-loop b₀ from to z i₀ b i = Lowered b₀ from to z b i
@@ -37,7 +38,10 @@ loop-again : tie.Need-loop-again Inv-loop μ-loop
 loop-again c =
     let l = c .before .before in
     let a = l .before .args in
-    down-turn (a .b .now) (a .from) (a .to) (a .z) (l .loop .b) (l .loop .i) (l .loop .inv) (omega arith) (omega arith) (omega arith)
+    let b = l .loop .b in
+    let i = l .loop .i in
+    rw (one-byte b (a .from + i) (a .to + i) (omega arith) (omega arith))
+    (down-turn (a .b .now) (a .from) (a .to) (a .z) b i (l .loop .inv) 1 (omega arith) (omega arith) (omega arith))
 
 same-length : tie.Need-same-length Inv-loop μ-loop
 same-length c = c .before .loop .inv .long
@@ -48,8 +52,8 @@ returns c =
     let a = l .before .args in
     down-end (a .b .now) (a .from) (a .to) (a .z) (l .loop .b) (l .loop .i) (l .loop .inv) (omega arith)
 
-pub move-down-spec : {M : Type 1} → statement M
-move-down-spec =
+pub lower-bytes-spec : {M : Type 1} → statement M
+lower-bytes-spec =
     tie.close
     (tie.spec
     Inv-loop

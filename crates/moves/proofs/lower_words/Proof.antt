@@ -1,0 +1,76 @@
+-- `moves::lower_words` meets its contract. The invariant is what it ensures, and that the elements are bytes; the measure is what is left to move.
+-- Assumes nothing.
+use Prim.Native.Nat.{_+_, _-_}
+use native.Mathlib.Omega.{arith}
+use Rattle.parts.proofs.PartLaws.{Bytes}
+use Rattle.moves.specs.Moved.{Lowered}
+use Rattle.moves.proofs.MoveLaws.{down-start, down-turn, one-word}
+use Rattle.moves.proofs.lower_words.Statement.{statement}
+use Rattle.moves.proofs.lower_words.Tie as tie
+
+abbrev Inv-loop : tie.InvT-loop
+Inv-loop b₀ from to z i₀ b i = Lowered b₀ from to z b i × Bytes b
+
+abbrev μ-loop : tie.MeasureT-loop
+μ-loop b₀ from to z i₀ b i = z - i
+
+loop-holds : tie.Need-loop-holds Inv-loop μ-loop
+loop-holds c = let a = c .before .args in (down-start (a .b .now) (a .from) (a .to) (a .z), λ k. c .slice-known .given k .fits)
+
+sub-loop : tie.Need-sub-loop Inv-loop μ-loop
+sub-loop c = omega arith
+
+add-read-u64 : tie.Need-add-read-u64 Inv-loop μ-loop
+add-read-u64 c = omega arith
+
+read-u64-requires : tie.Need-read-u64-requires Inv-loop μ-loop
+read-u64-requires c κs = omega arith
+
+add-write-u64 : tie.Need-add-write-u64 Inv-loop μ-loop
+add-write-u64 c = omega arith
+
+write-u64-requires : tie.Need-write-u64-requires Inv-loop μ-loop
+write-u64-requires c κs = omega arith
+
+add-i : tie.Need-add-i Inv-loop μ-loop
+add-i c = omega arith
+
+loop-less : tie.Need-loop-less Inv-loop μ-loop
+loop-less c = omega arith
+
+loop-again : tie.Need-loop-again Inv-loop μ-loop
+loop-again c =
+    let w = c .before .before in
+    let l = w .before .before .before .before .before in
+    let a = l .before .before .args in
+    let b = l .loop .b in
+    let i = l .loop .i in
+    let r = w .before .before in
+    let v : Lowered (a .b .now) (a .from) (a .to) (a .z) (w .write-u64 .last .0) (i + 8) =
+    rw (w .write-u64 .ensures, r .read-u64 .ensures, one-word 8 b (a .from + i) (a .to + i) (l .loop .inv .1) (omega arith))
+    (down-turn (a .b .now) (a .from) (a .to) (a .z) b i (l .loop .inv .0) 8 (omega arith) (omega arith) (omega arith)) in
+    (v, λ k. c .slice-known2 .given k .fits)
+
+same-length : tie.Need-same-length Inv-loop μ-loop
+same-length c = c .before .loop .inv .0 .long
+
+returns : tie.Need-returns Inv-loop μ-loop
+returns c = c .before .loop .inv .0
+
+pub lower-words-spec : {M : Type 1} → statement M
+lower-words-spec =
+    tie.close
+    (tie.spec
+    Inv-loop
+    μ-loop
+    loop-holds
+    sub-loop
+    add-read-u64
+    read-u64-requires
+    add-write-u64
+    write-u64-requires
+    add-i
+    loop-less
+    loop-again
+    same-length
+    returns)

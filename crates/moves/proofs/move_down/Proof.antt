@@ -1,0 +1,46 @@
+-- `moves::move_down` meets its contract: the bytes that the words leave are moved next (proofs/MoveLaws).
+-- Assumes nothing.
+use borrow.Author.Needs.{needs}
+use mathlib.Core.Path.{_∙_}
+use Rattle.moves.proofs.MoveLaws.{down-rest}
+use Rattle.moves.proofs.move_down.Statement.{statement}
+use Rattle.moves.proofs.move_down.Tie as tie
+
+lower-words-requires : tie.Need-lower-words-requires
+lower-words-requires c κs = search needs
+
+add-lower-bytes : tie.Need-add-lower-bytes
+add-lower-bytes c = search needs
+
+add-lower-bytes-2 : tie.Need-add-lower-bytes-2
+add-lower-bytes-2 c = search needs
+
+sub-lower-bytes : tie.Need-sub-lower-bytes
+sub-lower-bytes c = search needs
+
+lower-bytes-requires : tie.Need-lower-bytes-requires
+lower-bytes-requires c κs = search needs
+
+same-length : tie.Need-same-length
+same-length c = search needs
+
+returns : tie.Need-returns
+returns c =
+    let m = c .before .before in
+    let w = m .before .before .before .before in
+    let s = w .before .before .before in
+    let a = s .args in
+    m .lower-bytes .ensures
+    ∙ down-rest (a .b .now) (a .from) (a .to) (a .z) (w .lower-words .last .0) (w .lower-words .result) (w .lower-words .ensures) (s .pre .0) (s .pre .1)
+
+pub move-down-spec : {M : Type 1} → statement M
+move-down-spec =
+    tie.close
+    (tie.spec
+    lower-words-requires
+    add-lower-bytes
+    add-lower-bytes-2
+    sub-lower-bytes
+    lower-bytes-requires
+    same-length
+    returns)
