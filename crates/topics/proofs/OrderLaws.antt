@@ -1,7 +1,9 @@
 -- Laws of byte order: it turns around (`order-flip`), is equal for equal lists alone (`order-refl`, `order-equal`, `same-order`), and goes on
--- (`order-trans`, `before-trans`); what a loop over both lists asks at the index i, by bytes and by words (`order-word`).
+-- (`order-trans`, `before-trans`); what a loop over both lists asks at the index i, by bytes and by words (`order-word`, `order-word-less`).
 -- Assumes nothing.
-use Prim.Native.Nat.{ℕ, suc, _+_, _≤_, _<_}
+use Prim.Native.Nat.{ℕ, suc, _+_, _*_, _^_, _≤_, _<_}
+use native.Mathlib.Nat.{mul-le-mul-right, suc-mul}
+use native.Mathlib.Decide.{decLe}
 use native.Mathlib.Numerals.{add-one}
 use native.Mathlib.Omega.{arith}
 use mathlib.Core.Path.{_≡_, refl, sym, ap, ap₂, _∙_}
@@ -9,14 +11,14 @@ use mathlib.Core.Bool.{Bool, true, false, cond, false≢true}
 use mathlib.Core.Logic.{_⊎_, inl, inr}
 use mathlib.Core.List.{List, [], _∷_, _++_}
 use lib.ListN.{length, take, drop, getD, length-drop, take-append-drop, drop-of-length-le}
-use lib.Seq.{drop-cons, drop-drop}
+use lib.Seq.{drop-cons, drop-drop, length-take-le}
 use lib.Dec.{ltb}
 use borrow.Author.Tests.{lt-ltb, le-ltb, ltb-true, ltb-false}
 use Rattle.parts.specs.Same.{sameBytes}
 use Rattle.parts.proofs.SameLaws.{same-refl, same-eq}
-use Rattle.parts.proofs.PartLaws.{Bytes, Bytes-drop}
-use Rattle.packed_int.specs.Be.{beAt, bytesOf}
-use Rattle.packed_int.proofs.BeLaws.{bytesOf-front}
+use Rattle.parts.proofs.PartLaws.{Bytes, Bytes-take, Bytes-drop}
+use Rattle.packed_int.specs.Be.{be, beAt, bytesOf}
+use Rattle.packed_int.proofs.BeLaws.{be-nil, be-append, be-snoc, be-below, bytesOf-front}
 use Rattle.topics.specs.declared.Order.{Order}
 use Rattle.topics.specs.declared.Order.the-variants.{Less, Equal, Greater}
 use Rattle.topics.specs.Topics.{order, byOrder, before}
@@ -210,3 +212,52 @@ order-word w a b i ba bb h k e =
     let g : drop i b ≡ p ++ drop (i + w) b =
     sym (take-append-drop w (drop i b)) ∙ ap₂ (λ (x y : List ℕ). x ++ y) (sym (same-word w a b i ba bb h k e)) (drop-drop w i b) in
     ap₂ order f g ∙ order-append p (drop (i + w) a) (drop (i + w) b)
+
+-- the first byte counts most
+be-cons : (x : ℕ) (xs : List ℕ) → be (x ∷ xs) ≡ x * 256 ^ length xs + be xs
+be-cons x xs =
+    let e : be [] * 256 + x ≡ x = rw be-nil (omega arith) in
+    be-append (x ∷ []) xs ∙ ap (λ (n : ℕ). n * 256 ^ length xs + be xs) (be-snoc [] x ∙ e)
+
+-- of two words the lower one stands first
+word-less : (x y s t : List ℕ) → length x ≡ length y → Bytes x → Bytes y → be x < be y → order (x ++ s) (y ++ t) ≡ Less
+word-less [] [] s t e bx by h = absurd (omega arith)
+word-less [] (y ∷ ys) s t e bx by h = absurd (omega arith)
+word-less (x ∷ xs) [] s t e bx by h = absurd (omega arith)
+word-less (x ∷ xs) (y ∷ ys) s t e bx by h =
+    go (decLe (suc x) y) (decLe (suc y) x) (λ k. word-less xs ys s t (omega arith) (λ i. bx (suc i)) (λ i. by (suc i)) k)
+  where
+    p : ℕ
+    p = 256 ^ length xs
+
+    front : be (x ∷ xs) ≡ x * p + be xs
+    front = be-cons x xs
+
+    other : be (y ∷ ys) ≡ y * p + be ys
+    other = be-cons y ys ∙ ap (λ (n : ℕ). y * 256 ^ n + be ys) (omega arith)
+
+    low : be ys < p
+    low = be-below (length xs) ys (omega arith) (λ i. by (suc i))
+
+    go : Dec (suc x ≤ y) → Dec (suc y ≤ x) → (be xs < be ys → order (xs ++ s) (ys ++ t) ≡ Less) → order ((x ∷ xs) ++ s) ((y ∷ ys) ++ t) ≡ Less
+    go (yes k) g f = first-less x y (xs ++ s) (ys ++ t) k
+    go (no k) (yes l) f =
+        let m : suc y * p ≤ x * p = mul-le-mul-right p l in
+        let n : suc y * p ≡ y * p + p = suc-mul y p in
+        absurd (omega (arith, front, other, low))
+    go (no k) (no l) f =
+        let m : x ≡ y = omega arith in
+        let n : x * p ≡ y * p = ap (λ (j : ℕ). j * p) m in
+        first-alike x y (xs ++ s) (ys ++ t) m ∙ f (omega (arith, front, other))
+
+pub order-word-less : (w : ℕ) (a b : List ℕ) (i : ℕ) → Bytes a → Bytes b → i + w ≤ length a → i + w ≤ length b → beAt w a i < beAt w b i
+    → order (drop i a) (drop i b) ≡ Less
+unfolding beAt
+order-word-less w a b i ba bb h k e =
+    let x : List ℕ = take w (drop i a) in
+    let y : List ℕ = take w (drop i b) in
+    let lx : length x ≡ w = length-take-le w (drop i a) (rw length-drop (omega arith)) in
+    let ly : length y ≡ w = length-take-le w (drop i b) (rw length-drop (omega arith)) in
+    ap₂ order (sym (take-append-drop w (drop i a))) (sym (take-append-drop w (drop i b)))
+    ∙ word-less x y (drop w (drop i a)) (drop w (drop i b)) (lx ∙ sym ly) (Bytes-take w (drop i a) (Bytes-drop i a ba))
+    (Bytes-take w (drop i b) (Bytes-drop i b bb)) e

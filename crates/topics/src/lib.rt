@@ -18,28 +18,29 @@ pub struct Place {
     pub present: bool,
 }
 
-// How many bytes at the front of both are alike, by words of 4 bytes, each one load: topics of one namespace begin alike.
+// How many bytes at the front of both are alike, by words of 8 bytes, each one load: topics of one namespace begin alike.
 fn same_words(a: &[u8], b: &[u8]) -> usize
     ensures { λ r. ⌜ Alike (now (a .entry)) (now (b .entry)) r ⌝ }
 {
     let mut i: usize = 0;
-    while 4 <= a.len() - i {
-        if b.len() - i < 4 {
+    while 8 <= a.len() - i {
+        if b.len() - i < 8 {
             return i;
         }
-        if packed_int::read_u32(a, i) != packed_int::read_u32(b, i) {
+        if packed_int::read_u64(a, i) != packed_int::read_u64(b, i) {
             return i;
         }
-        i += 4;
+        i += 8;
     }
     i
 }
 
-// How a stands to b in byte order.
-pub fn compare(a: &[u8], b: &[u8]) -> Order
+// How a stands to b in byte order, by their bytes from index from on.
+fn compare_from(a: &[u8], b: &[u8], from: usize) -> Order
+    requires { ⌜ Alike (now a) (now b) from ⌝ }
     ensures { λ r. ⌜ r ≡ order (now (a .entry)) (now (b .entry)) ⌝ }
 {
-    let mut i = same_words(a, b);
+    let mut i = from;
     while i < a.len() {
         if b.len() <= i {
             return Order::Greater;
@@ -59,6 +60,28 @@ pub fn compare(a: &[u8], b: &[u8]) -> Order
     } else {
         Order::Equal
     }
+}
+
+// How a stands to b in byte order. Of two words, most significant byte first, the lower one stands first.
+pub fn compare(a: &[u8], b: &[u8]) -> Order
+    ensures { λ r. ⌜ r ≡ order (now (a .entry)) (now (b .entry)) ⌝ }
+{
+    let i = same_words(a, b);
+    if a.len() - i < 8 {
+        return compare_from(a, b, i);
+    }
+    if b.len() - i < 8 {
+        return compare_from(a, b, i);
+    }
+    let x = packed_int::read_u64(a, i);
+    let y = packed_int::read_u64(b, i);
+    if x < y {
+        return Order::Less;
+    }
+    if y < x {
+        return Order::Greater;
+    }
+    compare_from(a, b, i)
 }
 
 // Whether a stands before b.

@@ -1,96 +1,88 @@
--- `topics::compare` meets its contract: the bytes before i are alike, so what is behind them decides. The measure is what is left of a.
+-- `topics::compare` meets its contract: the words decide (`order-word-less`), or the bytes from there on.
 -- Assumes nothing.
-use Prim.Native.Nat.{_-_}
 use native.Mathlib.Omega.{arith}
 use borrow.Author.Needs.{needs}
 use mathlib.Core.Path.{sym, _∙_}
-use lib.ListN.{length}
-use Rattle.topics.specs.Alike.{Alike}
-use Rattle.topics.proofs.OrderLaws.{order-less, order-greater, order-next, order-longer, order-shorter, order-end}
+use lib.ListN.{drop}
+use Rattle.topics.proofs.OrderLaws.{less-flip, order-word-less}
 use Rattle.topics.proofs.compare.Statement.{statement}
 use Rattle.topics.proofs.compare.Tie as tie
 
-abbrev Inv-loop : tie.InvT-loop
-Inv-loop a b i₀ i = Alike a b i
-
-abbrev μ-loop : tie.MeasureT-loop
-μ-loop a b i₀ i = length a - i
-
-same-words-requires : tie.Need-same-words-requires Inv-loop μ-loop
+same-words-requires : tie.Need-same-words-requires
 same-words-requires c κs = search needs
 
-loop-holds : tie.Need-loop-holds Inv-loop μ-loop
-loop-holds c = c .same-words .ensures
+sub-if1 : tie.Need-sub-if1
+sub-if1 c = search needs
 
-returns : tie.Need-returns Inv-loop μ-loop
-returns c =
-    let l = c .before .before in
-    let a = l .before .before .before .before .args in
-    sym (l .loop .inv .order-is ∙ order-longer (a .a .now) (a .b .now) (l .loop .i) (omega arith) (omega arith))
+compare-from-requires : tie.Need-compare-from-requires
+compare-from-requires c κs = search needs
 
-shared-slice-read-x : tie.Need-shared-slice-read-x Inv-loop μ-loop
-shared-slice-read-x c = search needs
+returns : tie.Need-returns
+returns c = search needs
 
-shared-slice-read-y : tie.Need-shared-slice-read-y Inv-loop μ-loop
-shared-slice-read-y c = search needs
+sub-if2 : tie.Need-sub-if2
+sub-if2 c = search needs
 
-returns-2 : tie.Need-returns-2 Inv-loop μ-loop
-returns-2 c =
-    let l = c .before .before .before .before .before in
-    let a = l .before .before .before .before .args in
-    sym (l .loop .inv .order-is ∙ order-less (a .a .now) (a .b .now) (l .loop .i) (omega arith) (omega arith) (omega arith))
+compare-from-requires-2 : tie.Need-compare-from-requires-2
+compare-from-requires-2 c κs = search needs
 
-returns-3 : tie.Need-returns-3 Inv-loop μ-loop
+returns-2 : tie.Need-returns-2
+returns-2 c = search needs
+
+read-u64-requires : tie.Need-read-u64-requires
+read-u64-requires c κs = search needs
+
+read-u64-requires-2 : tie.Need-read-u64-requires-2
+read-u64-requires-2 c κs = search needs
+
+returns-3 : tie.Need-returns-3
 returns-3 c =
-    let l = c .before .before .before .before .before .before in
-    let a = l .before .before .before .before .args in
-    sym (l .loop .inv .order-is ∙ order-greater (a .a .now) (a .b .now) (l .loop .i) (omega arith) (omega arith) (omega arith))
+    let r = c .before in
+    let w = r .before .before .before .before in
+    let k = w .before in
+    let a = k .before .before .args in
+    let x = r .before .read-u64 .ensures in
+    let y = r .read-u642 .ensures in
+    sym
+    (w .same-words .ensures .order-is
+    ∙ order-word-less 8 (a .a .now) (a .b .now) (w .same-words .result) (λ i. k .before .shared-slice-known .given i .fits)
+    (λ i. k .shared-slice-known2 .given i .fits) (omega arith) (omega arith) (omega (arith, x, y)))
 
-add-i : tie.Need-add-i Inv-loop μ-loop
-add-i c = search needs
-
-loop-less : tie.Need-loop-less Inv-loop μ-loop
-loop-less c = search needs
-
-loop-again : tie.Need-loop-again Inv-loop μ-loop
-loop-again c =
-    let l = c .before .before .before .before .before .before in
-    let a = l .before .before .before .before .args in
-    record {
-      first = omega arith;
-      second = omega arith;
-      order-is =
-          l .loop .inv .order-is
-          ∙ order-next (a .a .now) (a .b .now) (l .loop .i) (omega arith) (omega arith) (omega arith) (omega arith);
-    }
-
-returns-4 : tie.Need-returns-4 Inv-loop μ-loop
+returns-4 : tie.Need-returns-4
 returns-4 c =
-    let l = c .before .before in
-    let a = l .before .before .before .before .args in
-    sym (l .loop .inv .order-is ∙ order-shorter (a .a .now) (a .b .now) (l .loop .i) (omega arith) (omega arith))
+    let r = c .before .before in
+    let w = r .before .before .before .before in
+    let k = w .before in
+    let a = k .before .before .args in
+    let i = w .same-words .result in
+    let x = r .before .read-u64 .ensures in
+    let y = r .read-u642 .ensures in
+    sym
+    (w .same-words .ensures .order-is
+    ∙ less-flip (drop i (a .b .now)) (drop i (a .a .now))
+    (order-word-less 8 (a .b .now) (a .a .now) i (λ i. k .shared-slice-known2 .given i .fits)
+    (λ i. k .before .shared-slice-known .given i .fits) (omega arith) (omega arith) (omega (arith, x, y))))
 
-returns-5 : tie.Need-returns-5 Inv-loop μ-loop
-returns-5 c =
-    let l = c .before .before in
-    let a = l .before .before .before .before .args in
-    sym (l .loop .inv .order-is ∙ order-end (a .a .now) (a .b .now) (l .loop .i) (omega arith) (omega arith))
+compare-from-requires-3 : tie.Need-compare-from-requires-3
+compare-from-requires-3 c κs = search needs
+
+returns-5 : tie.Need-returns-5
+returns-5 c = search needs
 
 pub compare-spec : {M : Type 1} → statement M
 compare-spec =
     tie.close
     (tie.spec
-    Inv-loop
-    μ-loop
     same-words-requires
-    loop-holds
+    sub-if1
+    compare-from-requires
     returns
-    shared-slice-read-x
-    shared-slice-read-y
+    sub-if2
+    compare-from-requires-2
     returns-2
+    read-u64-requires
+    read-u64-requires-2
     returns-3
-    add-i
-    loop-less
-    loop-again
     returns-4
+    compare-from-requires-3
     returns-5)

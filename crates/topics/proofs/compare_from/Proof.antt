@@ -1,0 +1,92 @@
+-- `topics::compare_from` meets its contract: the bytes before i are alike, so what is behind them decides. The measure is what is left of a.
+-- Assumes nothing.
+use Prim.Native.Nat.{_-_}
+use native.Mathlib.Omega.{arith}
+use borrow.Author.Needs.{needs}
+use mathlib.Core.Path.{sym, _∙_}
+use lib.ListN.{length}
+use Rattle.topics.specs.Alike.{Alike}
+use Rattle.topics.proofs.OrderLaws.{order-less, order-greater, order-next, order-longer, order-shorter, order-end}
+use Rattle.topics.proofs.compare_from.Statement.{statement}
+use Rattle.topics.proofs.compare_from.Tie as tie
+
+abbrev Inv-loop : tie.InvT-loop
+Inv-loop a b from i₀ i = Alike a b i
+
+abbrev μ-loop : tie.MeasureT-loop
+μ-loop a b from i₀ i = length a - i
+
+loop-holds : tie.Need-loop-holds Inv-loop μ-loop
+loop-holds c = c .pre
+
+returns : tie.Need-returns Inv-loop μ-loop
+returns c =
+    let l = c .before .before in
+    let a = l .before .args in
+    sym (l .loop .inv .order-is ∙ order-longer (a .a .now) (a .b .now) (l .loop .i) (omega arith) (omega arith))
+
+shared-slice-read-x : tie.Need-shared-slice-read-x Inv-loop μ-loop
+shared-slice-read-x c = search needs
+
+shared-slice-read-y : tie.Need-shared-slice-read-y Inv-loop μ-loop
+shared-slice-read-y c = search needs
+
+returns-2 : tie.Need-returns-2 Inv-loop μ-loop
+returns-2 c =
+    let l = c .before .before .before .before .before in
+    let a = l .before .args in
+    sym (l .loop .inv .order-is ∙ order-less (a .a .now) (a .b .now) (l .loop .i) (omega arith) (omega arith) (omega arith))
+
+returns-3 : tie.Need-returns-3 Inv-loop μ-loop
+returns-3 c =
+    let l = c .before .before .before .before .before .before in
+    let a = l .before .args in
+    sym (l .loop .inv .order-is ∙ order-greater (a .a .now) (a .b .now) (l .loop .i) (omega arith) (omega arith) (omega arith))
+
+add-i : tie.Need-add-i Inv-loop μ-loop
+add-i c = search needs
+
+loop-less : tie.Need-loop-less Inv-loop μ-loop
+loop-less c = search needs
+
+loop-again : tie.Need-loop-again Inv-loop μ-loop
+loop-again c =
+    let l = c .before .before .before .before .before .before in
+    let a = l .before .args in
+    record {
+      first = omega arith;
+      second = omega arith;
+      order-is =
+          l .loop .inv .order-is
+          ∙ order-next (a .a .now) (a .b .now) (l .loop .i) (omega arith) (omega arith) (omega arith) (omega arith);
+    }
+
+returns-4 : tie.Need-returns-4 Inv-loop μ-loop
+returns-4 c =
+    let l = c .before .before in
+    let a = l .before .args in
+    sym (l .loop .inv .order-is ∙ order-shorter (a .a .now) (a .b .now) (l .loop .i) (omega arith) (omega arith))
+
+returns-5 : tie.Need-returns-5 Inv-loop μ-loop
+returns-5 c =
+    let l = c .before .before in
+    let a = l .before .args in
+    sym (l .loop .inv .order-is ∙ order-end (a .a .now) (a .b .now) (l .loop .i) (omega arith) (omega arith))
+
+pub compare-from-spec : {M : Type 1} → statement M
+compare-from-spec =
+    tie.close
+    (tie.spec
+    Inv-loop
+    μ-loop
+    loop-holds
+    returns
+    shared-slice-read-x
+    shared-slice-read-y
+    returns-2
+    returns-3
+    add-i
+    loop-less
+    loop-again
+    returns-4
+    returns-5)
