@@ -1,24 +1,21 @@
 -- Laws of the event that the walk over a watch update keeps.
 --
 -- In order: an event by its place (`placed`, `EventInside`); one more field (`eventStep`); a walk's event (`EventKept`), and its cases from
--- `event-start` on; the answer (`watch-says`).
+-- `event-start` on.
 -- Assumes nothing.
 use Prim.Native.Nat.{ℕ, _+_, _≤_}
 use native.Mathlib.Omega.{arith}
-use mathlib.Core.Path.{_≡_, refl, sym, ap}
+use mathlib.Core.Path.{_≡_, refl, sym}
 use mathlib.Core.List.{List, [], _∷_, foldl}
 use lib.ListN.{length, take, drop}
 use borrow.Author.Tests.{eq-eqb, ne-eqb}
 use Rattle.wire.specs.Fields.{number, bytes, fixed, cut, Field, badKey, field, fieldsOf}
-use Rattle.values.specs.declared.Last.{Last}
-use Rattle.values.specs.Values.{numbersOf, lastOf, numberIn}
 use Rattle.values.proofs.FrontLaws.{NumberAt, PartAt, FixedAt, BrokenRow, bad-key, cut-short, BrokenAt, fields-end}
 use Rattle.values.proofs.WalkLaws.{Kept, kept-done, kept-next}
 use Rattle.readers.specs.declared.Event.{Event}
 use Rattle.readers.specs.declared.Event.the-variants as event
-use Rattle.readers.specs.declared.WatchHead.{WatchHead}
-use Rattle.readers.specs.Messages.{WireEvent, none, snapshot, diff, eventBy, eventAfter, eventOf, codeOf, watchUpdateOf}
-use Rattle.readers.specs.Places.{EventIs, watchHeadOf, WatchIs}
+use Rattle.readers.specs.Messages.{WireEvent, none, snapshot, diff, eventBy, eventAfter, eventOf}
+use Rattle.readers.specs.Places.{EventIs}
 
 -- ---- an event by its place
 
@@ -89,17 +86,9 @@ broken-done : {total x : WireEvent} {fs : List Field} → BrokenRow fs → Kept 
 broken-done bad-key k = sym (k .is)
 broken-done (cut-short f w) k = sym (k .is)
 
-pub event-broken : {m : List ℕ} {at : ℕ} {v : Event} → EventKept m at v → BrokenAt m at → placed m v ≡ eventOf (fieldsOf m)
-event-broken k q = broken-done (q .fields) (k .kept)
+module _ {m : List ℕ} {at : ℕ} {v : Event} (k : EventKept m at v) where
+  pub event-broken : BrokenAt m at → EventIs m (eventOf (fieldsOf m)) v
+  event-broken q = event-is m v (eventOf (fieldsOf m)) (k .inside) (broken-done (q .fields) (k .kept))
 
-pub event-done : {m : List ℕ} {at : ℕ} {v : Event} → EventKept m at v → length m ≤ at → placed m v ≡ eventOf (fieldsOf m)
-event-done {m} {at} k h = kept-done (fields-end m at h) (k .kept)
-
--- ---- the answer
-
-pub watch-says : (m : List ℕ) (id : ℕ) (v : Event) (error : Last) (r : WatchHead) → r ≡ watchHeadOf id v error
-    → id ≡ numberIn 1 (fieldsOf m) → EventInside m v → placed m v ≡ eventOf (fieldsOf m) → error ≡ lastOf (numbersOf 4 (fieldsOf m))
-    → WatchIs m r
-unfolding watchUpdateOf
-watch-says m id v error r e a i g b =
-    rw e (record { id = a; event = event-is m v (eventOf (fieldsOf m)) i g; error = ap codeOf b })
+  pub event-done : length m ≤ at → EventIs m (eventOf (fieldsOf m)) v
+  event-done h = event-is m v (eventOf (fieldsOf m)) (k .inside) (kept-done (fields-end m at h) (k .kept))

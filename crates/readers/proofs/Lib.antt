@@ -1,2 +1,1 @@
-mod HeadLaws
 mod EventLaws

@@ -2,12 +2,8 @@
 -- Assumes nothing.
 use Prim.Native.Nat.{ℕ, _+_, _≤_}
 use mathlib.Core.Path.{_≡_}
-use mathlib.Core.Bool.{Bool}
 use mathlib.Core.List.{List}
 use lib.ListN.{length, take, drop, getD}
-use Rattle.values.specs.declared.Last.{Last}
-use Rattle.values.specs.declared.Last.the-variants as last
-use Rattle.values.specs.Values.{lastAfter, orZero}
 use Rattle.values.specs.Integers.{uint32Of}
 use Rattle.readers.specs.declared.SegmentHead.{SegmentHead}
 use Rattle.readers.specs.declared.UpdateHead.{UpdateHead}
@@ -15,13 +11,7 @@ use Rattle.readers.specs.declared.ResponseHead.{ResponseHead}
 use Rattle.readers.specs.declared.WatchHead.{WatchHead}
 use Rattle.readers.specs.declared.Event.{Event}
 use Rattle.readers.specs.declared.Event.the-variants as event
-use Rattle.readers.specs.Messages.{segmentOf, updateOf, codeOf, responseOf, WireEvent, none, snapshot, diff, watchUpdateOf}
-
--- ---- what a walk has kept
-
--- the last of the numbers, or the one before them
-abbrev pub numberAfter : ℕ → List ℕ → ℕ
-numberAfter v l = orZero (lastAfter (last.Found v) l)
+use Rattle.readers.specs.Messages.{segmentOf, updateOf, responseOf, WireEvent, none, snapshot, diff, watchUpdateOf}
 
 -- a segment's head, from the numbers of its fields and the place of its topic
 abbrev pub headOf : List ℕ → ℕ → ℕ → SegmentHead
@@ -33,15 +23,6 @@ headOf numbers start len =
       «topic_start» = start;
       «topic_len» = len;
     }
-
-abbrev pub responseHeadOf : ℕ → Last → Bool → ℕ → ResponseHead
-responseHeadOf id error has epoch =
-    record { «request_id» = id; error = codeOf error; «has_assignment» = has; «layout_epoch» = epoch }
-
-abbrev pub watchHeadOf : ℕ → Event → Last → WatchHead
-watchHeadOf id event error = record { «watch_id» = id; event = event; error = codeOf error }
-
--- ---- the answers
 
 -- a segment's numbers, and where its topic stands
 pub record SegmentIs (p : List ℕ) (r : SegmentHead) : Type 0 where

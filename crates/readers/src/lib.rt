@@ -1,15 +1,16 @@
-// The messages read: the numbers of an update, a response, a segment, a bucket range and a watch update, each in one walk over its fields.
+// The messages read: what an update, a response, a bucket range and a watch update say, and the head of a segment.
 //
-// The readers ask nothing of an earlier pass: see specs/Messages. Segments are gone over by `values::next_inner` (field 2 of an update's field 2 or a response's
-// field 4), buckets by `values::next_part` (field 5 of a segment), texts are parts of the message (`values::text`).
+// The readers ask nothing of an earlier pass: see specs/Messages. Each number has a walk of its own: a message has few fields, and its parts are passed over
+// unread. Segments are gone over by `values::next_inner` (field 2 of an update's field 2 or a response's field 4), a segment's own fields by
+// `segment_scan::scan_segment`; texts are parts of the message (`values::text`).
 ghost use mathlib.Core.Path.{_≡_};
 ghost use Rattle.wire.specs.Fields.{fieldsOf};
-ghost use Rattle.values.specs.Integers.{int32Of};
-ghost use Rattle.values.specs.Values.{numbersOf};
-ghost use Rattle.readers.specs.Messages.{intRangeOf, codeOf, responseOf, watchUpdateOf};
-ghost use Rattle.readers.specs.Places.{numberAfter, headOf, responseHeadOf, watchHeadOf, SegmentIs, UpdateIs, ResponseIs, WatchIs};
+ghost use Rattle.values.specs.Values.{numbersOf, partsOf, lastOf};
+ghost use Rattle.readers.specs.Messages.{intRangeOf, codeOf, present, responseOf, eventOf, watchUpdateOf};
+ghost use Rattle.readers.specs.Places.{headOf, UpdateIs, ResponseIs, EventIs, WatchIs};
 use values::Front;
 use values::Last;
+use values::PartStep;
 
 // The ends of a bucket range, as they came.
 pub struct IntRange {
@@ -39,44 +40,13 @@ pub enum Event {
     Diff(usize, usize),
 }
 
-fn int_range(start: u64, end: u64) -> IntRange
-    ensures { λ r. ⌜ r ≡ record { start = int32Of start; end = int32Of end } ⌝ }
-{
-    let a = values::int32(start);
-    let b = values::int32(end);
-    IntRange { start: a, end: b }
-}
-
 // The bucket range in the part p.
 pub fn read_range(p: &[u8]) -> IntRange
     ensures { λ r. ⌜ r ≡ intRangeOf (now (p .entry)) ⌝ }
 {
-    let mut start: u64 = 0;
-    let mut end: u64 = 0;
-    let mut at: usize = 0;
-    while at < p.len() {
-        match values::read_front(&p[at..]) {
-            Front::Broken => {
-                return int_range(start, end);
-            }
-            Front::Number(f, v, size) => {
-                if f == 1 {
-                    start = v;
-                }
-                if f == 2 {
-                    end = v;
-                }
-                at = at + size;
-            }
-            Front::Part(_, from, len) => {
-                at = at + from + len;
-            }
-            Front::Fixed(size) => {
-                at = at + size;
-            }
-        }
-    }
-    int_range(start, end)
+    let start = values::int32(values::number(p, 1));
+    let end = values::int32(values::number(p, 2));
+    IntRange { start, end }
 }
 
 // A segment's head, from the numbers of its fields and the place of its topic.
@@ -94,51 +64,6 @@ pub fn segment_head(numbers: [u64; 4], start: usize, len: usize) -> SegmentHead
     }
 }
 
-// A segment's numbers and topic, in the part p.
-pub fn read_segment(p: &[u8]) -> SegmentHead
-    ensures { λ r. ⌜ SegmentIs (now (p .entry)) r ⌝ }
-{
-    let mut numbers = [0u64; 4];
-    let mut topic_start: usize = 0;
-    let mut topic_len: usize = 0;
-    let mut at: usize = 0;
-    while at < p.len() {
-        match values::read_front(&p[at..]) {
-            Front::Broken => {
-                return segment_head(numbers, topic_start, topic_len);
-            }
-            Front::Number(f, v, size) => {
-                if f < 4 {
-                    numbers[f as usize] = v;
-                }
-                at = at + size;
-            }
-            Front::Part(f, from, len) => {
-                let start = at + from;
-                if f == 4 {
-                    topic_start = start;
-                    topic_len = len;
-                }
-                at = start + len;
-            }
-            Front::Fixed(size) => {
-                at = at + size;
-            }
-        }
-    }
-    segment_head(numbers, topic_start, topic_len)
-}
-
-// The last number of field n in the part p, or what was there before it.
-fn number_after(p: &[u8], n: u64, before: u64) -> u64
-    ensures { λ r. ⌜ r ≡ numberAfter before (numbersOf n (fieldsOf (now (p .entry)))) ⌝ }
-{
-    match values::last_number(p, n) {
-        Last::Found(v) => v,
-        Last::Absent => before,
-    }
-}
-
 // An update's numbers.
 pub struct UpdateHead {
     pub consumer_id: u64,
@@ -149,46 +74,19 @@ pub struct UpdateHead {
 pub fn read_update(m: &[u8]) -> UpdateHead
     ensures { λ r. ⌜ UpdateIs (now (m .entry)) r ⌝ }
 {
-    let mut consumer_id: u64 = 0;
-    let mut layout_epoch: u64 = 0;
-    let mut at: usize = 0;
-    while at < m.len() {
-        match values::read_front(&m[at..]) {
-            Front::Broken => {
-                return UpdateHead {
-                    consumer_id,
-                    layout_epoch,
-                };
-            }
-            Front::Number(f, v, size) => {
-                if f == 1 {
-                    consumer_id = v;
-                }
-                at = at + size;
-            }
-            Front::Part(f, from, len) => {
-                let start = at + from;
-                let end = start + len;
-                if f == 2 {
-                    layout_epoch = number_after(&m[start..end], 1, layout_epoch);
-                }
-                at = end;
-            }
-            Front::Fixed(size) => {
-                at = at + size;
-            }
-        }
-    }
+    let consumer_id = values::number(m, 1);
+    let layout_epoch = values::inner_number(m, 2, 1);
     UpdateHead {
         consumer_id,
         layout_epoch,
     }
 }
 
-fn error_code(last: Last) -> ErrorCode
-    ensures { λ r. ⌜ r ≡ codeOf last ⌝ }
+// The error code that field n of the message m holds.
+fn error_code(m: &[u8], n: u64) -> ErrorCode
+    ensures { λ r. ⌜ r ≡ codeOf (lastOf (numbersOf n (fieldsOf (now (m .entry))))) ⌝ }
 {
-    match last {
+    match values::last_number(m, n) {
         Last::Found(v) => ErrorCode::Given(values::int32(v)),
         Last::Absent => ErrorCode::Absent,
     }
@@ -202,15 +100,13 @@ pub struct ResponseHead {
     pub layout_epoch: u64,
 }
 
-fn response_head(id: u64, last: Last, has: bool, epoch: u64) -> ResponseHead
-    ensures { λ r. ⌜ r ≡ responseHeadOf id last has epoch ⌝ }
+// Whether the message m has a part of field n.
+fn has_part(m: &[u8], n: u64) -> bool
+    ensures { λ r. ⌜ r ≡ present (partsOf n (fieldsOf (now (m .entry)))) ⌝ }
 {
-    let error = error_code(last);
-    ResponseHead {
-        request_id: id,
-        error,
-        has_assignment: has,
-        layout_epoch: epoch,
+    match values::next_part(m, 0, n) {
+        PartStep::Found(_, _, _) => true,
+        PartStep::Absent => false,
     }
 }
 
@@ -218,40 +114,16 @@ fn response_head(id: u64, last: Last, has: bool, epoch: u64) -> ResponseHead
 pub fn read_response(m: &[u8]) -> ResponseHead
     ensures { λ r. ⌜ ResponseIs (now (m .entry)) r ⌝ }
 {
-    let mut request_id: u64 = 0;
-    let mut error = Last::Absent;
-    let mut has_assignment = false;
-    let mut layout_epoch: u64 = 0;
-    let mut at: usize = 0;
-    while at < m.len() {
-        match values::read_front(&m[at..]) {
-            Front::Broken => {
-                return response_head(request_id, error, has_assignment, layout_epoch);
-            }
-            Front::Number(f, v, size) => {
-                if f == 1 {
-                    request_id = v;
-                }
-                if f == 2 {
-                    error = Last::Found(v);
-                }
-                at = at + size;
-            }
-            Front::Part(f, from, len) => {
-                let start = at + from;
-                let end = start + len;
-                if f == 4 {
-                    has_assignment = true;
-                    layout_epoch = number_after(&m[start..end], 1, layout_epoch);
-                }
-                at = end;
-            }
-            Front::Fixed(size) => {
-                at = at + size;
-            }
-        }
+    let request_id = values::number(m, 1);
+    let error = error_code(m, 2);
+    let has_assignment = has_part(m, 4);
+    let layout_epoch = values::inner_number(m, 4, 1);
+    ResponseHead {
+        request_id,
+        error,
+        has_assignment,
+        layout_epoch,
     }
-    response_head(request_id, error, has_assignment, layout_epoch)
 }
 
 // The response's text, a part of the message.
@@ -268,37 +140,18 @@ pub struct WatchHead {
     pub error: ErrorCode,
 }
 
-fn watch_head(id: u64, event: Event, last: Last) -> WatchHead
-    ensures { λ r. ⌜ r ≡ watchHeadOf id event last ⌝ }
+// The event of the watch update m: its last part of field 2 or 3.
+fn read_event(m: &[u8]) -> Event
+    ensures { λ r. ⌜ EventIs (now (m .entry)) (eventOf (fieldsOf (now (m .entry)))) r ⌝ }
 {
-    let error = error_code(last);
-    WatchHead {
-        watch_id: id,
-        event,
-        error,
-    }
-}
-
-// The numbers and the event of the watch update m.
-pub fn read_watch_update(m: &[u8]) -> WatchHead
-    ensures { λ r. ⌜ WatchIs (now (m .entry)) r ⌝ }
-{
-    let mut watch_id: u64 = 0;
     let mut event = Event::Nothing;
-    let mut error = Last::Absent;
     let mut at: usize = 0;
     while at < m.len() {
         match values::read_front(&m[at..]) {
             Front::Broken => {
-                return watch_head(watch_id, event, error);
+                return event;
             }
-            Front::Number(f, v, size) => {
-                if f == 1 {
-                    watch_id = v;
-                }
-                if f == 4 {
-                    error = Last::Found(v);
-                }
+            Front::Number(_, _, size) => {
                 at = at + size;
             }
             Front::Part(f, from, len) => {
@@ -316,7 +169,21 @@ pub fn read_watch_update(m: &[u8]) -> WatchHead
             }
         }
     }
-    watch_head(watch_id, event, error)
+    event
+}
+
+// The numbers and the event of the watch update m.
+pub fn read_watch_update(m: &[u8]) -> WatchHead
+    ensures { λ r. ⌜ WatchIs (now (m .entry)) r ⌝ }
+{
+    let watch_id = values::number(m, 1);
+    let event = read_event(m);
+    let error = error_code(m, 4);
+    WatchHead {
+        watch_id,
+        event,
+        error,
+    }
 }
 
 // The watch update's text, a part of the message.

@@ -1,25 +1,27 @@
--- Laws of the parts that lie before a cursor: `innerFrom`, `NextInner`.
+-- Laws of what a singular message holds in its parts: `innerFrom`, `NextInner`, and the last number of a field.
 --
 -- In order: a cursor by its numbers (`place`); the cursor before the first part (`inside-first`, `inner-first`) and that at the start of
 -- a part of field n (`inside-later`); the next part in this part of field n (`inner-found`), none anywhere (`inner-none`), none here
--- (`inner-later`).
+-- (`inner-later`); the last number so far (`InnerKept`), and its cases from `inner-start` on.
 --
--- A caller that goes over all parts starts with the first two; the others serve `next_inner`.
+-- A caller that goes over all parts starts with the first two; the others serve `next_inner` and `inner_number`.
 -- Assumes nothing.
 use Prim.Native.Nat.{ℕ, _+_, _-_, _≤_, _<_}
 use native.Mathlib.Omega.{arith}
-use mathlib.Core.Path.{_≡_, refl, ap, _∙_}
+use mathlib.Core.Path.{_≡_, refl, sym, ap, _∙_}
 use mathlib.Core.List.{List, [], _++_}
 use lib.ListN.{length, take, drop}
 use lib.Seq.{take-take, length-take-le}
 use Rattle.parts.proofs.PartLaws.{drop-take}
 use Rattle.wire.specs.Fields.{fieldsOf}
+use Rattle.values.specs.declared.Last.{Last}
+use Rattle.values.specs.declared.Last.the-variants as last
 use Rattle.values.specs.declared.PartStep.the-variants as step
 use Rattle.values.specs.declared.Cursor.{Cursor}
 use Rattle.values.specs.declared.InnerStep.the-variants as inner
-use Rattle.values.specs.Values.{partsOf, joinFields, mergedFields}
+use Rattle.values.specs.Values.{numbersOf, partsOf, lastAfter, lastOf, joinFields, mergedFields, orZero, numberIn}
 use Rattle.values.specs.Places.{NextPart, innerFrom, Inside, NextInner}
-use Rattle.values.proofs.ValueLaws.{parts-join}
+use Rattle.values.proofs.ValueLaws.{numbers-join, parts-join, last-append}
 
 abbrev pub place : ℕ → ℕ → ℕ → Cursor
 place outer at end = record { outer = outer; at = at; end = end }
@@ -75,3 +77,26 @@ module _ (n k : ℕ) (m : List ℕ) (outer at end : ℕ) where
         → innerFrom n k m (place outer at end) ≡ innerFrom n k m (place next start (start + len))
     inner-later start len next q =
         rw (e, q .3, drop-take start len m) (parts-join k (take len (drop start m)) (partsOf n (fieldsOf (drop next m))))
+
+-- ---- the last number of field k in the singular message of field n
+
+-- x is the last of those in the parts before the place `at`
+pub record InnerKept (n k : ℕ) (m : List ℕ) (at : ℕ) (x : Last) : Type 0 where
+  pub is : lastOf (numbersOf k (mergedFields n (fieldsOf m))) ≡ lastAfter x (numbersOf k (joinFields (partsOf n (fieldsOf (drop at m)))))
+
+pub inner-start : (n k : ℕ) (m : List ℕ) → InnerKept n k m 0 last.Absent
+inner-start n k m = record { is = refl }
+
+module _ {n k : ℕ} {m : List ℕ} {at : ℕ} {x : Last} (h : InnerKept n k m at x) where
+  -- one more part, `&m[start..end]`
+  pub inner-next : (start len end : ℕ) {y : Last} → NextPart n m at (step.Found start len end)
+      → y ≡ lastAfter x (numbersOf k (fieldsOf (take (end - start) (drop start m)))) → InnerKept n k m end y
+  inner-next start len end q e =
+      let p = take len (drop start m) in
+      let ps = partsOf n (fieldsOf (drop end m)) in
+      let a : end - start ≡ len = omega (arith, q .1) in
+      let b = ap (lastAfter x) (ap (λ (l : List (List ℕ)). numbersOf k (joinFields l)) (q .3) ∙ numbers-join k p ps) in
+      record { is = rw (e, a) (h .is ∙ b ∙ last-append x (numbersOf k (fieldsOf p)) (numbersOf k (joinFields ps))) }
+
+  pub inner-done : NextPart n m at step.Absent → orZero x ≡ numberIn k (mergedFields n (fieldsOf m))
+  inner-done q = ap orZero (sym (h .is ∙ ap (λ (l : List (List ℕ)). lastAfter x (numbersOf k (joinFields l))) q))

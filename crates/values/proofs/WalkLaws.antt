@@ -1,14 +1,13 @@
 -- Laws of a walk that keeps a value: what it has kept, carried on over what is left, is what the whole comes to.
 --
--- In order: `Kept`, and its cases at the end (`kept-done`), at one more element (`kept-next`), at none (`kept-stays`), at several
--- (`kept-append`); a walk's start, where it keeps the last number (`last-start`), the last number or 0 (`number-start`), the last part
--- (`part-start`).
+-- In order: `Kept`, and its cases at the end (`kept-done`), at one more element (`kept-next`), at none (`kept-stays`); a walk's start,
+-- where it keeps the last number (`last-start`), the last number or 0 (`number-start`), the last part (`part-start`).
 --
 -- The equations that `kept-next` and `kept-stays` want of what is left are those of FrontLaws: `number-same`, `q .numbers n` ..
 -- Assumes nothing.
 use Prim.Native.Nat.{ℕ}
 use mathlib.Core.Path.{_≡_, refl, sym, ap, _∙_}
-use mathlib.Core.List.{List, [], _∷_, _++_, foldl, foldl-append}
+use mathlib.Core.List.{List, [], _∷_, foldl}
 use Rattle.values.specs.declared.Last.{Last}
 use Rattle.values.specs.declared.Last.the-variants as last
 use Rattle.values.specs.Values.{lastAfter, lastOf, lastPartAfter, lastPart, orZero}
@@ -28,9 +27,6 @@ module _ {A X : Type 0} {step : X → A → X} {total x : X} {left : List A} whe
     pub kept-stays : left ≡ rest → y ≡ x → Kept step total x left → Kept step total y rest
     kept-stays e g k = record { is = rw g (k .is ∙ ap (foldl step x) e) }
 
-    pub kept-append : (l : List A) → left ≡ l ++ rest → y ≡ foldl step x l → Kept step total x left → Kept step total y rest
-    kept-append l e g k = record { is = rw g (k .is ∙ ap (foldl step x) e ∙ foldl-append step x l rest) }
-
 -- ---- the start
 
 -- the later one is kept
@@ -45,11 +41,11 @@ last-fold : (x : Last) (l : List ℕ) → lastAfter x l ≡ foldl found x l
 last-fold x [] = refl
 last-fold x (v ∷ l) = last-fold (last.Found v) l
 
-pub last-start : (l : List ℕ) → Kept found (lastOf l) last.Absent l
-last-start l = record { is = last-fold last.Absent l }
+pub last-start : (x : Last) (l : List ℕ) → Kept found (lastAfter x l) x l
+last-start x l = record { is = last-fold x l }
 
 -- once a number is found, there is one
-pub found-fold : (x : ℕ) (l : List ℕ) → lastAfter (last.Found x) l ≡ last.Found (foldl later x l)
+found-fold : (x : ℕ) (l : List ℕ) → lastAfter (last.Found x) l ≡ last.Found (foldl later x l)
 found-fold x [] = refl
 found-fold x (v ∷ l) = found-fold v l
 

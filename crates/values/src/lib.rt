@@ -3,11 +3,10 @@
 // Everything is said of the message's row of fields and asks nothing of an earlier pass: on a message that no reader would take, the answers are those of
 // the fields before its first broken one.
 ghost use mathlib.Core.Path.{_≡_};
-ghost use mathlib.Core.List.{[]};
 ghost use Rattle.wire.specs.Fields.{fieldsOf};
 ghost use Rattle.values.specs.Integers.{uint32Of, int32Of};
 ghost use Rattle.values.specs.Places.{frontOf, NextPart, Inside, NextInner};
-ghost use Rattle.values.specs.Values.{numbersOf, partsOf, lastOf, lastPart};
+ghost use Rattle.values.specs.Values.{numbersOf, partsOf, lastAfter, lastOf, lastPart, mergedFields, orZero, numberIn};
 use wire::Body;
 use wire::Key;
 
@@ -43,11 +42,21 @@ pub enum Last {
     Absent,
 }
 
-// The last number of field n.
-pub fn last_number(s: &[u8], n: u64) -> Last
-    ensures { λ r. ⌜ r ≡ lastOf (numbersOf n (fieldsOf (now (s .entry)))) ⌝ }
+// The number, 0 where it is absent.
+fn or_zero(last: Last) -> u64
+    ensures { λ r. ⌜ r ≡ orZero last ⌝ }
 {
-    let mut last = Last::Absent;
+    match last {
+        Last::Found(v) => v,
+        Last::Absent => 0,
+    }
+}
+
+// The last number of field n, or the one before.
+fn last_after(s: &[u8], n: u64, before: Last) -> Last
+    ensures { λ r. ⌜ r ≡ lastAfter before (numbersOf n (fieldsOf (now (s .entry)))) ⌝ }
+{
+    let mut last = before;
     let mut at: usize = 0;
     while at < s.len() {
         match read_front(&s[at..]) {
@@ -69,6 +78,20 @@ pub fn last_number(s: &[u8], n: u64) -> Last
         }
     }
     last
+}
+
+// The last number of field n.
+pub fn last_number(s: &[u8], n: u64) -> Last
+    ensures { λ r. ⌜ r ≡ lastOf (numbersOf n (fieldsOf (now (s .entry)))) ⌝ }
+{
+    last_after(s, n, Last::Absent)
+}
+
+// The last number of field n, 0 where there is none.
+pub fn number(s: &[u8], n: u64) -> u64
+    ensures { λ r. ⌜ r ≡ numberIn n (fieldsOf (now (s .entry))) ⌝ }
+{
+    or_zero(last_number(s, n))
 }
 
 // The next part of a field: where it starts, its length, and the place behind it.
@@ -122,6 +145,25 @@ pub fn text<'m, 's>(message: &'m [u8], store: &'s [u8], n: u64) -> &'m [u8]
                 start = from;
                 end = from + len;
                 at = next;
+            }
+        }
+    }
+}
+
+// The last number of field k in the singular message of field n, 0 where there is none.
+pub fn inner_number(m: &[u8], n: u64, k: u64) -> u64
+    ensures { λ r. ⌜ r ≡ numberIn k (mergedFields n (fieldsOf (now (m .entry)))) ⌝ }
+{
+    let mut last = Last::Absent;
+    let mut at: usize = 0;
+    loop {
+        match next_part(m, at, n) {
+            PartStep::Absent => {
+                return or_zero(last);
+            }
+            PartStep::Found(start, _, end) => {
+                last = last_after(&m[start..end], k, last);
+                at = end;
             }
         }
     }

@@ -1,10 +1,15 @@
 -- `error_code` meets its contract: each arm is a case of `codeOf`. Assumes nothing.
+use mathlib.Core.Path.{sym, ap, _∙_}
 use borrow.Author.Needs.{needs}
+use Rattle.readers.specs.Messages.{codeOf}
 use Rattle.readers.proofs.error_code.Statement.{statement}
 use Rattle.readers.proofs.error_code.Tie as tie
 
-enum-known-last : tie.Need-enum-known-last
-enum-known-last c = search needs
+last-number-requires : tie.Need-last-number-requires
+last-number-requires c κs = search needs
+
+enum-known-v : tie.Need-enum-known-v
+enum-known-v c = search needs
 
 int32-requires : tie.Need-int32-requires
 int32-requires c κs = search needs
@@ -13,10 +18,12 @@ enum-told : tie.Need-enum-told
 enum-told c = search needs
 
 returns : tie.Need-returns
-returns c = rw (c .before .before .last .given .1) (search needs)
+returns c = rw (sym (c .before .before .before .before .last-number .ensures) ∙ c .before .before .v .given .1) (search needs)
 
 returns-2 : tie.Need-returns-2
-returns-2 c = search needs
+returns-2 c = sym (ap codeOf (sym (c .before .before .last-number .ensures) ∙ c .enum-told .given .1))
 
 pub error-code-spec : {M : Type 1} → statement M
-error-code-spec = tie.close (tie.spec enum-known-last int32-requires enum-told returns returns-2)
+error-code-spec =
+    tie.close
+    (tie.spec last-number-requires enum-known-v int32-requires enum-told returns returns-2)

@@ -1,5 +1,5 @@
--- `last_number` meets its contract. The invariant: the last of the numbers from `at` on, or `last` where there is none, is the last of all.
--- The measure is what is left of the message; each front stands inside it. Assumes nothing.
+-- `last_after` meets its contract. The invariant: the last of the numbers from `at` on, or `last` where there is none, is the last of all,
+-- or `before`. The measure is what is left of the message; each front stands inside it. Assumes nothing.
 use Prim.Native.Nat.{_-_}
 use native.Mathlib.Omega.{arith}
 use mathlib.Core.Logic.{⊎-elim}
@@ -8,17 +8,17 @@ use lib.ListN.{length}
 use borrow.Author.Needs.{needs}
 use Rattle.wire.specs.Fields.{fieldsOf}
 use Rattle.values.specs.declared.Front.{Front}
-use Rattle.values.specs.Values.{numbersOf, lastOf}
+use Rattle.values.specs.Values.{numbersOf, lastAfter}
 use Rattle.values.proofs.FrontLaws.{numbersFrom, FrontAt, front-at, numbers-end, number-same, number-other}
 use Rattle.values.proofs.WalkLaws.{Kept, kept-done, kept-next, kept-stays, found, last-start}
-use Rattle.values.proofs.last_number.Statement.{statement}
-use Rattle.values.proofs.last_number.Tie as tie
-use Rattle.values.proofs.last_number.Reads as reads
-use Rattle.values.proofs.last_number.Lts as lts
+use Rattle.values.proofs.last_after.Statement.{statement}
+use Rattle.values.proofs.last_after.Tie as tie
+use Rattle.values.proofs.last_after.Reads as reads
+use Rattle.values.proofs.last_after.Lts as lts
 use Rattle.values.proofs.read_front.Reads as read-front-reads
 
 abbrev Inv-loop : tie.InvT-loop
-Inv-loop s n last₀ at₀ last at = Kept found (lastOf (numbersOf n (fieldsOf s))) last (numbersFrom n s at)
+Inv-loop s n last₀ at₀ last at = Kept found (lastAfter last₀ (numbersOf n (fieldsOf s))) last (numbersFrom n s at)
 
 abbrev μ-loop : tie.MeasureT-loop
 μ-loop s n last₀ at₀ last at = length s - at
@@ -32,7 +32,7 @@ front : (c : Read) (q : Front) → c .read-front .result ≡ q
 front c q e = front-at _ _ (c .before .before .loop-test .taken) q (sym (c .read-front .ensures) ∙ e)
 
 loop-holds : tie.Need-loop-holds Inv-loop μ-loop
-loop-holds c = last-start _
+loop-holds c = last-start _ _
 
 sub-read-front : tie.Need-sub-read-front Inv-loop μ-loop
 sub-read-front c = search needs
@@ -104,8 +104,8 @@ loop-again-3 c =
 returns-2 : tie.Need-returns-2 Inv-loop μ-loop
 returns-2 c = kept-done (numbers-end _ _ (c .before .loop .at) (omega arith)) (c .before .loop .inv)
 
-pub last-number-spec : {M : Type 1} → statement M
-last-number-spec =
+pub last-after-spec : {M : Type 1} → statement M
+last-after-spec =
     tie.close
     (tie.spec
     Inv-loop

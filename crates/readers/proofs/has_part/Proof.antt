@@ -1,0 +1,25 @@
+-- `has_part` meets its contract: each arm is a case of `present`. Assumes nothing.
+use mathlib.Core.Path.{sym, ap, subst}
+use borrow.Author.Needs.{needs}
+use Rattle.values.specs.Places.{NextPart}
+use Rattle.readers.specs.Messages.{present}
+use Rattle.readers.proofs.has_part.Statement.{statement}
+use Rattle.readers.proofs.has_part.Tie as tie
+
+next-part-requires : tie.Need-next-part-requires
+next-part-requires c κs = search needs
+
+enum-told : tie.Need-enum-told
+enum-told c = search needs
+
+enum-told-2 : tie.Need-enum-told-2
+enum-told-2 c = search needs
+
+returns : tie.Need-returns
+returns c = sym (ap present (subst (NextPart _ _ _) (c .enum-told .given .1) (c .before .before .next-part .ensures) .3))
+
+returns-2 : tie.Need-returns-2
+returns-2 c = sym (ap present (subst (NextPart _ _ _) (c .enum-told2 .given .1) (c .before .before .next-part .ensures)))
+
+pub has-part-spec : {M : Type 1} → statement M
+has-part-spec = tie.close (tie.spec next-part-requires enum-told enum-told-2 returns returns-2)
