@@ -1,5 +1,7 @@
 #!/usr/bin/env python3
-"""Makes the vectors of the program `assignment_vectors`: writes crates/assignment_vectors/stdin. The random ones come from one seed.
+"""Makes the vectors of packed assignments, deltas, the calls with an output and the intake: writes their part of crates/vectors/stdin.
+
+The random ones come from one seed.
 
 The values are put into bytes by tools/assignment_vectors.py, which judges what the program makes of them.
 """
@@ -7,11 +9,10 @@ import random
 
 from assignment_vectors import Assignment, Delta, Segment, difference, join, name_of, number_field, pack_assignment, pack_delta, part_field
 from assignment_vectors import segment_message, to_pb
-from vectors import CRATES
+from vectors import replace
 
 PARENT = b"topic://a/b/c"
 PATH = b"a/b/c"
-INPUT = 524288
 HIGHEST = (1 << 64) - 1
 
 
@@ -368,10 +369,7 @@ def main():
     groups = (
         assignments(), deltas(), differences(pairs), applies(pairs), joins(pairs), writes(pairs), good_messages(), long_messages(), refused_messages(),
     )
-    text = "".join(told + "\n" for group in groups for told in group)
-    assert len(text) <= INPUT
-    (CRATES / "assignment_vectors" / "stdin").write_text(text, encoding="utf-8")
-    print(f"assignment_vectors: {text.count(chr(10))} lines, {len(text)} bytes")
+    replace("# ==== packed assignments, deltas, the calls with an output, the intake: by tools/assignment_lines.py", (told for group in groups for told in group))
 
 
 main()

@@ -1,14 +1,13 @@
-#!/usr/bin/env python3
-"""Reckons anew what the program `assignment_vectors` should write, by other means than the code's, and compares it with crates/assignment_vectors/stdout.
+"""Packed assignments, deltas, the calls with an output and the intake, reckoned for tools/vectors.py. tools/assignment_lines.py makes the vectors.
 
-The vectors are the lines of crates/assignment_vectors/stdin; tools/assignment_lines.py makes them. The forms, what changed, apply, join, the writer and the
-order of refusals are read from the specification's words: bytes are taken apart into values and put together again, ranges are sets of values, and rows of
-segments are dictionaries. `--write` writes stdout anew.
+The forms, what changed, apply, join, the writer and the order of refusals are read from the specification's words: bytes are taken apart into values and put
+together again, ranges are sets of values, and rows of segments are dictionaries.
 """
 import struct
 from collections import namedtuple
 
-from vectors import Refused, contents, hold, int32, key_range, parent_path, utf8
+from name_vectors import Refused, key_range, parent_path, utf8
+from wire_vectors import contents, int32
 
 SLOT = 2048
 LONGEST_DELTA = 3210
@@ -246,7 +245,7 @@ def with_output(command):
         except Malformed:
             return "refused 20 same"
         except Refused as refusal:
-            return f"refused {refusal.args[0]} same"
+            return f"{refusal} same"
     return answer
 
 
@@ -277,6 +276,3 @@ COMMANDS = {
     "to_pb": ("bbn", with_output(lambda a, parent: to_pb(whole_assignment(a), parent))),
     "intake": ("nbb", lambda field, parent, message: "taken 0x" + taken(field, parent, message).hex()),
 }
-
-if __name__ == "__main__":
-    hold("assignment_vectors", COMMANDS)

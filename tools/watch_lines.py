@@ -1,5 +1,5 @@
 #!/usr/bin/env python3
-"""Makes the vectors of the program `watch_vectors`: writes crates/watch_vectors/stdin. The random ones come from one seed.
+"""Makes the vectors of the topics watch: writes their part of crates/vectors/stdin. The random ones come from one seed.
 
 Sets are put into bytes by tools/watch_vectors.py, which judges what the program makes of them.
 """
@@ -7,10 +7,9 @@ import itertools
 import random
 
 from assignment_vectors import number_field, part_field, varint
-from vectors import CRATES
+from vectors import replace
 from watch_vectors import LONGEST_TOPIC, packed
 
-INPUT = 524288
 HIGHEST = (1 << 64) - 1
 WATCH = 9
 WATCH_ID = number_field(1, WATCH)
@@ -325,10 +324,7 @@ def some_sets():
 
 def main():
     groups = (snapshots(), diffs(), sizes(), malformed_sets(), faulty_messages(), other_answers(), long_topics(), windows(), some_sets())
-    written = "".join(line + "\n" for group in groups for line in group)
-    assert len(written) <= INPUT
-    (CRATES / "watch_vectors" / "stdin").write_text(written, encoding="utf-8")
-    print(f"watch_vectors: {written.count(chr(10))} lines, {len(written)} bytes")
+    replace("# ==== the topics watch: by tools/watch_lines.py", (line for group in groups for line in group))
 
 
 main()

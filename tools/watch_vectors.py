@@ -1,10 +1,10 @@
-#!/usr/bin/env python3
-"""Reckons anew what the program `watch_vectors` should write, by other means than the code's, and compares it with crates/watch_vectors/stdout.
+"""The topics watch, reckoned for tools/vectors.py. tools/watch_lines.py makes the vectors.
 
-The vectors are the lines of crates/watch_vectors/stdin; tools/watch_lines.py makes them. The watch is read from the specification's words: sets of topics are
-Python's own, put in order when they are packed, and the message is tested and taken apart by the reader of tools/vectors.py. `--write` writes stdout anew.
+It is read from the specification's words: sets of topics are Python's own, put in order when they are packed, and the message is tested and taken apart by the
+reader of tools/wire_vectors.py.
 """
-from vectors import WATCH, Refused, check, contents, hold, int32, utf8
+from name_vectors import Refused, utf8
+from wire_vectors import WATCH, check, contents, int32
 
 # the most bytes of a buffer, of a message and of an output
 ROOM = 66560
@@ -63,7 +63,7 @@ def read(watch_id, old, message):
     for part in contents(3, (2,), message):
         return changed(old, part)
     for code in contents(4, (0,), message):
-        raise Refused(16, int32(code) % (1 << 64), "0x" + b"".join(contents(5, (2,), message)).hex())
+        raise Refused(16, int32(code), "0x" + b"".join(contents(5, (2,), message)).hex())
     raise Refused(17, got)
 
 
@@ -86,7 +86,7 @@ def told(shown, watch_id, buffer, used, message, room):
     try:
         results = updated(watch_id, buffer, used, message, room)
     except Refused as refusal:
-        return " ".join(["refused", *map(str, refusal.args), "same"])
+        return f"{refusal} same"
     return " ".join(["changed", *(str(len(result)) for result in results), *(shown(result) for result in results if shown), "same"])
 
 
@@ -100,6 +100,3 @@ def long(watch_id, front, size, used, message, room, length):
 
 # the commands: how each argument is read (n a number, b bytes), and the answer
 COMMANDS = {"watch": ("nbnnbn", watch), "long": ("nbnnbnn", long)}
-
-if __name__ == "__main__":
-    hold("watch_vectors", COMMANDS)

@@ -4,7 +4,7 @@
 mod print;
 mod refusals;
 
-pub use print::attached_signed;
+pub use print::attached;
 pub use print::decimal;
 pub use print::hex4;
 pub use print::labelled;

@@ -1,5 +1,9 @@
 // Names of segments built and read, and the parents of names.
+use crate::buffers;
 use crate::print;
+use call_text::attached;
+use call_text::decimal;
+use call_text::text;
 use segment_source::SourceAnswer;
 use topic::NameAnswer;
 use types::SegmentId;
@@ -7,8 +11,8 @@ use types::SegmentId;
 fn answer(r: NameAnswer, out: &[u8]) {
     match r {
         NameAnswer::Written(n) => {
-            print::front(out, n);
-            print::text(b"\n");
+            text(buffers::front(out, n));
+            text(b"\n");
         }
         NameAnswer::Refused(x) => print::refused(x),
     }
@@ -40,29 +44,24 @@ fn source(line: &[u8]) {
     let id = SegmentId(lines::number_at(line, 1));
     match segment_source::segment_source(id, &name[..n]) {
         SourceAnswer::Source(s) => {
-            print::number(s.segment_id.0);
-            print::attached(s.key_range.start as u64);
-            print::attached(s.key_range.end as u64);
-            print::text(b"\n");
+            decimal(s.segment_id.0);
+            attached(s.key_range.start as u64);
+            attached(s.key_range.end as u64);
+            text(b"\n");
         }
         SourceAnswer::Refused(x) => print::refused(x),
     }
-}
-
-// The first n bytes of a slice, all of them where there are fewer.
-fn front_of(s: &mut [u8], n: usize) -> &mut [u8] {
-    if n <= s.len() { &mut s[..n] } else { s }
 }
 
 pub fn run(name: &[u8], line: &[u8]) -> bool {
     let mut buffer = [0u8; 256];
     let room = lines::number_at(line, 1) as usize;
     if parts::same(name, b"build") {
-        build(line, front_of(&mut buffer, room));
+        build(line, buffers::front_mut(&mut buffer, room));
         return true;
     }
     if parts::same(name, b"parent") {
-        parent(line, front_of(&mut buffer, room));
+        parent(line, buffers::front_mut(&mut buffer, room));
         return true;
     }
     if parts::same(name, b"source") {

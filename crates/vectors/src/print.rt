@@ -1,26 +1,19 @@
 // Answers written to standard output.
+use call_text::attached;
+use call_text::decimal;
+use call_text::text;
 use libc::STDOUT_FILENO;
 use refusal::Refusal;
-use types::KeyRangeError;
-
-pub fn text(s: &[u8]) {
-    io::write_all(STDOUT_FILENO, s);
-}
-
-// The first n bytes.
-pub fn front(s: &[u8], n: usize) {
-    if n <= s.len() {
-        text(&s[..n]);
-    }
-}
 
 pub fn number(n: u64) {
-    io::print_decimal(STDOUT_FILENO, n);
+    decimal(n);
+    text(b"\n");
 }
 
-pub fn attached(n: u64) {
-    text(b" ");
-    number(n);
+pub fn pair(a: u64, b: u64) {
+    decimal(a);
+    attached(b);
+    text(b"\n");
 }
 
 pub fn yes(b: bool) {
@@ -31,39 +24,50 @@ pub fn yes(b: bool) {
     }
 }
 
-// The kind of an invalid range, then its numbers.
-fn source(e: KeyRangeError) {
-    match e {
-        KeyRangeError::StartOutOfBounds { start } => {
-            attached(1);
-            attached(start as u64);
-        }
-        KeyRangeError::EndOutOfBounds { end } => {
-            attached(2);
-            attached(end as u64);
-        }
-        KeyRangeError::Reversed { start, end } => {
-            attached(3);
-            attached(start as u64);
-            attached(end as u64);
-        }
+pub fn malformed() {
+    text(b"malformed\n");
+}
+
+// Bytes in hexadecimal.
+pub fn bytes(s: &[u8]) {
+    text(b" 0x");
+    let mut i: usize = 0;
+    while i < s.len() {
+        io::print_hex(STDOUT_FILENO, parts::wide(s[i]), 2);
+        i = i + 1;
     }
 }
 
-// A refusal's number and the numbers attached to it.
-pub fn refused(r: Refusal) {
+// A refusal's number and the numbers attached to it, one that is negative as a word of 64 bits in two's complement.
+pub fn refusal(x: Refusal) {
+    let r = reply::refused(x);
     text(b"refused");
-    attached(refusal::number(r) as u64);
-    match r {
-        Refusal::InvalidKeyRange { source: e } => source(e),
-        Refusal::SegmentIdMismatch {
-            segment_id,
-            topic_id,
-        } => {
-            attached(segment_id.0);
-            attached(topic_id.0);
-        }
-        _ => {}
+    attached(r.number as u64);
+    if 0 < r.count {
+        attached(r.first);
     }
+    if 1 < r.count {
+        attached(r.second);
+    }
+    if 2 < r.count {
+        attached(r.third);
+    }
+    if 3 < r.count {
+        attached(r.fourth);
+    }
+}
+
+// A refusal of a call that writes nothing.
+pub fn refused(x: Refusal) {
+    refusal(x);
     text(b"\n");
+}
+
+// Whether the bytes that must stay are as they were.
+pub fn stayed(b: bool) {
+    if b {
+        text(b" same\n");
+    } else {
+        text(b" changed\n");
+    }
 }

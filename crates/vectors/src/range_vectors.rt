@@ -7,10 +7,7 @@ use types::KeyRange;
 // length START END
 fn length(line: &[u8]) {
     match key_range::len(lines::number32_at(line, 1), lines::number32_at(line, 2)) {
-        LengthAnswer::Length(n) => {
-            print::number(n as u64);
-            print::text(b"\n");
-        }
+        LengthAnswer::Length(n) => print::number(n as u64),
         LengthAnswer::Refused(x) => print::refused(x),
     }
 }

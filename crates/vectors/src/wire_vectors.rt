@@ -1,5 +1,7 @@
 // Varints, messages and their values.
+use crate::buffers::filled;
 use crate::print;
+use call_text::text;
 use messages::Checked;
 use messages::MessageKind;
 use values::Last;
@@ -24,21 +26,17 @@ fn varint(line: &[u8]) {
     let mut buffer = [0u8; 256];
     let n = lines::bytes_at(line, 1, &mut buffer);
     match wire::read_varint(&buffer[..n]) {
-        Varint::Value(v, len) => {
-            print::number(v);
-            print::attached(len as u64);
-            print::text(b"\n");
-        }
-        Varint::Broken => print::text(b"broken\n"),
+        Varint::Value(v, len) => print::pair(v, len as u64),
+        Varint::Broken => text(b"broken\n"),
     }
 }
 
 // fault KIND BYTES: the first fault of a message
 fn fault(line: &[u8]) {
-    let mut buffer = [0u8; 16384];
+    let mut buffer = filled(0);
     let n = lines::bytes_at(line, 2, &mut buffer);
     match messages::first_fault(kind(lines::number_at(line, 1)), &buffer[..n]) {
-        Checked::Valid => print::text(b"valid\n"),
+        Checked::Valid => text(b"valid\n"),
         Checked::Refused(x) => print::refused(x),
     }
 }
@@ -48,27 +46,23 @@ fn last(line: &[u8]) {
     let mut buffer = [0u8; 256];
     let n = lines::bytes_at(line, 2, &mut buffer);
     match values::last_number(&buffer[..n], lines::number_at(line, 1)) {
-        Last::Found(v) => {
-            print::number(v);
-            print::text(b"\n");
-        }
-        Last::Absent => print::text(b"absent\n"),
+        Last::Found(v) => print::number(v),
+        Last::Absent => text(b"absent\n"),
     }
 }
 
 // text FIELD BYTES: the last part of a field
-fn text(line: &[u8]) {
+fn last_text(line: &[u8]) {
     let mut buffer = [0u8; 256];
     let n = lines::bytes_at(line, 2, &mut buffer);
     let message = &buffer[..n];
-    print::text(values::text(message, line, lines::number_at(line, 1)));
-    print::text(b"\n");
+    text(values::text(message, line, lines::number_at(line, 1)));
+    text(b"\n");
 }
 
 // uint32 NUMBER: a varint's value as an unsigned 32-bit integer
 fn uint32(line: &[u8]) {
     print::number(values::uint32(lines::number_at(line, 1)) as u64);
-    print::text(b"\n");
 }
 
 // int32 NUMBER NUMBER: how two varints' values compare as signed 32-bit integers
@@ -76,11 +70,11 @@ fn int32(line: &[u8]) {
     let a = values::int32(lines::number_at(line, 1));
     let b = values::int32(lines::number_at(line, 2));
     if a < b {
-        print::text(b"less\n");
+        text(b"less\n");
     } else if a == b {
-        print::text(b"equal\n");
+        text(b"equal\n");
     } else {
-        print::text(b"greater\n");
+        text(b"greater\n");
     }
 }
 
@@ -98,7 +92,7 @@ pub fn run(name: &[u8], line: &[u8]) -> bool {
         return true;
     }
     if parts::same(name, b"text") {
-        text(line);
+        last_text(line);
         return true;
     }
     if parts::same(name, b"uint32") {
