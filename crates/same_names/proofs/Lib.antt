@@ -5,3 +5,4 @@ pub mod BuildAgrees
 pub mod DescriptorAgrees
 pub mod ParseAgrees
 pub mod SourceAgrees
+pub mod FaultLaws
