@@ -99,102 +99,48 @@ on-local self done = go-on self (done .result) (λ a. pure (done .after))
 abbrev pub on : ScalableConsumerSession → Run (Unit {0}) → Run ScalableConsumerSession
 on local m self = on-local self (m local)
 
--- a session with one field set
-abbrev pub with-incarnation : ControllerIncarnation → ScalableConsumerSession → ScalableConsumerSession
-with-incarnation value self =
+-- a session with the six fields that methods assign to
+abbrev pub with-fields : ControllerIncarnation → Option ConsumerAssignment → Option ℕ → List ConsumerAssignment → List AssignmentReplay → Bool
+    → ScalableConsumerSession → ScalableConsumerSession
+with-fields incarnation assignment epoch-floor buffered-updates replayed-updates invalidated self =
     record {
       consumer-id = self .consumer-id;
       topic = self .topic;
       subscription = self .subscription;
       consumer-name = self .consumer-name;
       consumer-type = self .consumer-type;
-      incarnation = value;
-      assignment = self .assignment;
-      epoch-floor = self .epoch-floor;
-      buffered-updates = self .buffered-updates;
-      replayed-updates = self .replayed-updates;
-      invalidated = self .invalidated;
+      incarnation = incarnation;
+      assignment = assignment;
+      epoch-floor = epoch-floor;
+      buffered-updates = buffered-updates;
+      replayed-updates = replayed-updates;
+      invalidated = invalidated;
     }
+
+-- a session with one of them set
+abbrev pub with-incarnation : ControllerIncarnation → ScalableConsumerSession → ScalableConsumerSession
+with-incarnation value self =
+    with-fields value (self .assignment) (self .epoch-floor) (self .buffered-updates) (self .replayed-updates) (self .invalidated) self
 
 abbrev pub with-assignment : Option ConsumerAssignment → ScalableConsumerSession → ScalableConsumerSession
 with-assignment value self =
-    record {
-      consumer-id = self .consumer-id;
-      topic = self .topic;
-      subscription = self .subscription;
-      consumer-name = self .consumer-name;
-      consumer-type = self .consumer-type;
-      incarnation = self .incarnation;
-      assignment = value;
-      epoch-floor = self .epoch-floor;
-      buffered-updates = self .buffered-updates;
-      replayed-updates = self .replayed-updates;
-      invalidated = self .invalidated;
-    }
+    with-fields (self .incarnation) value (self .epoch-floor) (self .buffered-updates) (self .replayed-updates) (self .invalidated) self
 
 abbrev pub with-epoch-floor : Option ℕ → ScalableConsumerSession → ScalableConsumerSession
 with-epoch-floor value self =
-    record {
-      consumer-id = self .consumer-id;
-      topic = self .topic;
-      subscription = self .subscription;
-      consumer-name = self .consumer-name;
-      consumer-type = self .consumer-type;
-      incarnation = self .incarnation;
-      assignment = self .assignment;
-      epoch-floor = value;
-      buffered-updates = self .buffered-updates;
-      replayed-updates = self .replayed-updates;
-      invalidated = self .invalidated;
-    }
+    with-fields (self .incarnation) (self .assignment) value (self .buffered-updates) (self .replayed-updates) (self .invalidated) self
 
 abbrev pub with-buffered-updates : List ConsumerAssignment → ScalableConsumerSession → ScalableConsumerSession
 with-buffered-updates value self =
-    record {
-      consumer-id = self .consumer-id;
-      topic = self .topic;
-      subscription = self .subscription;
-      consumer-name = self .consumer-name;
-      consumer-type = self .consumer-type;
-      incarnation = self .incarnation;
-      assignment = self .assignment;
-      epoch-floor = self .epoch-floor;
-      buffered-updates = value;
-      replayed-updates = self .replayed-updates;
-      invalidated = self .invalidated;
-    }
+    with-fields (self .incarnation) (self .assignment) (self .epoch-floor) value (self .replayed-updates) (self .invalidated) self
 
 abbrev pub with-replayed-updates : List AssignmentReplay → ScalableConsumerSession → ScalableConsumerSession
 with-replayed-updates value self =
-    record {
-      consumer-id = self .consumer-id;
-      topic = self .topic;
-      subscription = self .subscription;
-      consumer-name = self .consumer-name;
-      consumer-type = self .consumer-type;
-      incarnation = self .incarnation;
-      assignment = self .assignment;
-      epoch-floor = self .epoch-floor;
-      buffered-updates = self .buffered-updates;
-      replayed-updates = value;
-      invalidated = self .invalidated;
-    }
+    with-fields (self .incarnation) (self .assignment) (self .epoch-floor) (self .buffered-updates) value (self .invalidated) self
 
 abbrev pub with-invalidated : Bool → ScalableConsumerSession → ScalableConsumerSession
 with-invalidated value self =
-    record {
-      consumer-id = self .consumer-id;
-      topic = self .topic;
-      subscription = self .subscription;
-      consumer-name = self .consumer-name;
-      consumer-type = self .consumer-type;
-      incarnation = self .incarnation;
-      assignment = self .assignment;
-      epoch-floor = self .epoch-floor;
-      buffered-updates = self .buffered-updates;
-      replayed-updates = self .replayed-updates;
-      invalidated = value;
-    }
+    with-fields (self .incarnation) (self .assignment) (self .epoch-floor) (self .buffered-updates) (self .replayed-updates) value self
 
 -- ---- ScalableConsumerSession::new
 
