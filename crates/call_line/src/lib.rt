@@ -5,6 +5,7 @@
 use call_text::quoted;
 use call_text::text;
 use libc::STDOUT_FILENO;
+use lines::Decimal;
 
 // The most bytes that a word may stand for: those of `io::large_buffer`.
 const MAX_BYTES: usize = 65536;
@@ -121,10 +122,9 @@ fn kind_of(name: CallName, k: usize) -> WordKind {
 }
 
 fn test_number(word: &[u8], k: usize) -> Verdict {
-    if lines::is_number(word) {
-        Verdict::Good
-    } else {
-        Verdict::Damaged(Fault::NotANumber(k))
+    match lines::number(word) {
+        Decimal::Value(_) => Verdict::Good,
+        Decimal::Invalid => Verdict::Damaged(Fault::NotANumber(k)),
     }
 }
 

@@ -1,7 +1,6 @@
 // Texts and numbers.
-ghost use Prim.Native.Nat.{_≤_};
-ghost use lib.ListN.{length};
 use libc::STDOUT_FILENO;
+use lines::ByteClass;
 
 pub fn text(s: &[u8]) {
     io::write_all(STDOUT_FILENO, s);
@@ -46,30 +45,6 @@ pub fn attached_signed(v: i32) {
     }
 }
 
-// A byte that is written as it stands between quotes: 20 to 7e, but no quote and no backslash.
-fn is_plain(b: u8) -> bool {
-    match b {
-        0x22 | 0x5c => false,
-        0x20..=0x7e => true,
-        _ => false,
-    }
-}
-
-// Where the plain bytes from a place on end.
-fn plain_end(s: &[u8], from: usize) -> usize
-    requires { ⌜ from ≤ length (now s) ⌝ }
-    ensures { λ r. ⌜ (from ≤ r) × (r ≤ length (now (s .entry))) ⌝ }
-{
-    let mut i = from;
-    while i < s.len() {
-        if !is_plain(s[i]) {
-            return i;
-        }
-        i = i + 1;
-    }
-    i
-}
-
 // A byte as \xHH.
 fn escaped(fd: i32, b: u8) {
     io::write_all(fd, b"\\x");
@@ -81,7 +56,7 @@ pub fn quoted(fd: i32, s: &[u8]) {
     io::write_all(fd, b"\"");
     let mut at: usize = 0;
     while at < s.len() {
-        let end = plain_end(s, at);
+        let end = lines::end_of(s, at, ByteClass::Plain);
         io::write_all(fd, &s[at..end]);
         at = end;
         if at < s.len() {

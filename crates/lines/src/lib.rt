@@ -1,20 +1,55 @@
 // Words, numbers and bytes in lines of text: what the programs read from their input.
 //
 // A word is what stands between two spaces. It is a decimal number, or bytes: as they stand, or in hexadecimal behind 0x. The readers take any word for one of
-// these; a program that wants to know asks `is_number` and `is_hexadecimal` first. The contracts say only what keeps the programs in bounds; what a program
+// these; a program that wants to know asks `number` and `is_hexadecimal` first. The contracts say only what keeps the programs in bounds; what a program
 // reads is not proved.
 ghost use Prim.Native.Nat.{_≤_, _<_};
 ghost use Rattle.io.specs.Counts.{Counts};
 ghost use lib.ListN.{length};
 
-// The place of the first byte b from a place on, or the end.
-fn find(s: &[u8], from: usize, b: u8) -> usize
+// The bytes that stand in a row.
+pub enum ByteClass {
+    // Any byte but this one.
+    Not(u8),
+    // A hexadecimal digit.
+    Digit,
+    // One that may be written as it stands between quotes: 20 to 7e, but no quote and no backslash.
+    Plain,
+}
+
+fn is_digit(b: u8) -> bool {
+    match b {
+        0x30..=0x39 => true,
+        0x41..=0x46 => true,
+        0x61..=0x66 => true,
+        _ => false,
+    }
+}
+
+fn is_plain(b: u8) -> bool {
+    match b {
+        0x22 | 0x5c => false,
+        0x20..=0x7e => true,
+        _ => false,
+    }
+}
+
+fn is_of(b: u8, class: ByteClass) -> bool {
+    match class {
+        ByteClass::Not(x) => b != x,
+        ByteClass::Digit => is_digit(b),
+        ByteClass::Plain => is_plain(b),
+    }
+}
+
+// Where the bytes of a class, from a place on, end.
+pub fn end_of(s: &[u8], from: usize, class: ByteClass) -> usize
     requires { ⌜ from ≤ length (now s) ⌝ }
     ensures { λ r. ⌜ (from ≤ r) × (r ≤ length (now (s .entry))) ⌝ }
 {
     let mut i = from;
     while i < s.len() {
-        if s[i] == b {
+        if !is_of(s[i], class) {
             return i;
         }
         i = i + 1;
@@ -27,7 +62,7 @@ pub fn line_end(s: &[u8], from: usize) -> usize
     requires { ⌜ from ≤ length (now s) ⌝ }
     ensures { λ r. ⌜ (from ≤ r) × (r ≤ length (now (s .entry))) ⌝ }
 {
-    find(s, from, b'\n')
+    end_of(s, from, ByteClass::Not(b'\n'))
 }
 
 // Word k of a line, counted from 0; empty where there are not as many.
@@ -35,14 +70,14 @@ pub fn word(line: &[u8], k: usize) -> &[u8] {
     let mut at: usize = 0;
     let mut left = k;
     while 0 < left {
-        at = find(line, at, b' ');
+        at = end_of(line, at, ByteClass::Not(b' '));
         if line.len() <= at {
             return &line[at..];
         }
         at = at + 1;
         left = left - 1;
     }
-    let end = find(line, at, b' ');
+    let end = end_of(line, at, ByteClass::Not(b' '));
     &line[at..end]
 }
 
@@ -59,53 +94,43 @@ pub fn word_count(line: &[u8]) -> usize {
     n + 1
 }
 
-// The word is a decimal number that fits 64 bits.
-pub fn is_number(s: &[u8]) -> bool {
+// A word as a decimal number.
+pub enum Decimal {
+    Value(u64),
+    // It is none, or one that does not fit 64 bits.
+    Invalid,
+}
+
+pub fn number(s: &[u8]) -> Decimal {
     let mut v: u64 = 0;
     let mut i: usize = 0;
     while i < s.len() {
         let b = s[i];
         if b < b'0' {
-            return false;
+            return Decimal::Invalid;
         }
         if b'9' < b {
-            return false;
+            return Decimal::Invalid;
         }
         let d = (b - b'0') as u64;
         if (18446744073709551615 - d) / 10 < v {
-            return false;
+            return Decimal::Invalid;
         }
         v = v * 10 + d;
         i = i + 1;
     }
-    0 < i
-}
-
-// A decimal number; anything else is the part of it before the first other byte, and what does not fit 64 bits is cut.
-pub fn number(s: &[u8]) -> u64 {
-    let mut v: u64 = 0;
-    let mut i: usize = 0;
-    while i < s.len() {
-        let b = s[i];
-        if b < b'0' {
-            return v;
-        }
-        if b'9' < b {
-            return v;
-        }
-        let d = (b - b'0') as u64;
-        if (18446744073709551615 - d) / 10 < v {
-            return v;
-        }
-        v = v * 10 + d;
-        i = i + 1;
+    if i == 0 {
+        return Decimal::Invalid;
     }
-    v
+    Decimal::Value(v)
 }
 
-// Number k of a line.
+// Number k of a line; 0 where the word is none.
 pub fn number_at(line: &[u8], k: usize) -> u64 {
-    number(word(line, k))
+    match number(word(line, k)) {
+        Decimal::Value(v) => v,
+        Decimal::Invalid => 0,
+    }
 }
 
 // The same, cut to 32 bits.
@@ -125,23 +150,13 @@ fn digit(b: u8) -> u8
     }
 }
 
-fn is_digit(b: u8) -> bool {
-    match b {
-        0x30..=0x39 => true,
-        0x41..=0x46 => true,
-        0x61..=0x66 => true,
-        _ => false,
-    }
-}
-
 // Behind the 0x of a word stand digits alone, two for each byte.
 pub fn is_hexadecimal(s: &[u8]) -> bool {
-    let mut i: usize = 2;
-    while i < s.len() {
-        if !is_digit(s[i]) {
-            return false;
-        }
-        i = i + 1;
+    if s.len() < 2 {
+        return false;
+    }
+    if end_of(s, 2, ByteClass::Digit) < s.len() {
+        return false;
     }
     s.len() % 2 == 0
 }

@@ -51,6 +51,9 @@ loop-again c = search needs
 returns-4 : tie.Need-returns-4 Inv-loop μ-loop
 returns-4 c = search needs
 
+returns-5 : tie.Need-returns-5 Inv-loop μ-loop
+returns-5 c = search needs
+
 pub number-spec : {M : Type 1} → statement M
 number-spec =
     tie.close
@@ -69,4 +72,5 @@ number-spec =
     add-i
     loop-less
     loop-again
-    returns-4)
+    returns-4
+    returns-5)

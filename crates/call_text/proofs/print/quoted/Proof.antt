@@ -20,8 +20,8 @@ write-all-requires c κs = search needs
 loop-holds : tie.Need-loop-holds Inv-loop μ-loop
 loop-holds c = search needs
 
-plain-end-requires : tie.Need-plain-end-requires Inv-loop μ-loop
-plain-end-requires c κs = search needs
+end-of-requires : tie.Need-end-of-requires Inv-loop μ-loop
+end-of-requires c κs = search needs
 
 sub-write-all : tie.Need-sub-write-all Inv-loop μ-loop
 sub-write-all c = search needs
@@ -74,7 +74,7 @@ quoted-spec =
     slice-aggregate-write-all
     write-all-requires
     loop-holds
-    plain-end-requires
+    end-of-requires
     sub-write-all
     part-write-all-start
     part-write-all-end
