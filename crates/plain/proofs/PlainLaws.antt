@@ -1,6 +1,6 @@
 -- Laws of messages in their usual form: what the walk reads is a field, and a message of such fields is valid at any depth.
 --
--- In order: a one-byte key (`key-one`), and the field behind it (`number-field`, `part-field`); the fields up to a place (`passed-start`,
+-- In order: a one-byte key (`key-one`), and the field behind it (`number-field`, `part-field`, `number-some`); the fields up to a place (`passed-start`,
 -- `passed-number`, `passed-part`), and the whole message (`passed-end`); a place that is not told (`none-above`).
 --
 -- The conditions of the laws on `Passed` hold by computation for a kind of message that is known: whoever cites them opens `ruleFor` or
@@ -28,7 +28,7 @@ use Rattle.schema.specs.declared.MessageKind.{MessageKind}
 use Rattle.schema.specs.declared.Checked.the-variants.{Valid}
 use Rattle.schema.specs.Schema.{ruleFor, fitsWire, complete}
 use Rattle.schema.specs.FirstFault.{elem, note, checkValue, faultWithin}
-use Rattle.plain.specs.Plain.{NumberField, PartField, Passed}
+use Rattle.plain.specs.Plain.{NumberIs, NumberField, PartField, Passed}
 use Rattle.schema.proofs.FaultLaws.{fault-end, fault-once}
 
 -- ---- a field with a one-byte key
@@ -45,7 +45,7 @@ module _ (f : ℕ) (s : List ℕ) (at : ℕ) (h : at < length s) (low : 0 < f) (
       key-typed (drop at s) (8 * f + t) 1 v (omega arith) (λ q. omega arith) t m ∙ rw d
 
   pub number-field : getD s at 0 ≡ 8 * f → (v n : ℕ) → varintOf (take (length s - (at + 1)) (drop (at + 1) s)) ≡ varint.Value v n
-      → NumberField f s at (at + 1 + n)
+      → NumberIs f s at v (at + 1 + n)
   number-field e v n g =
       let k = key-one 0 (omega arith) (omega arith) in
       let q : varintOf (drop (at + 1) s) ≡ varint.Value v n = ap varintOf (sym (rest s (at + 1))) ∙ g in
@@ -55,7 +55,6 @@ module _ (f : ℕ) (s : List ℕ) (at : ℕ) (h : at < length s) (low : 0 < f) (
       record {
         moved = omega arith;
         within = omega (arith, length-drop (at + 1) s);
-        value = v;
         fields =
             fields-number (drop at s) (omega (arith, length-drop at s)) f wire.Varint 1 k v n b ∙ rw (drop-drop (1 + n) at s, a);
       }
@@ -77,6 +76,10 @@ module _ (f : ℕ) (s : List ℕ) (at : ℕ) (h : at < length s) (low : 0 < f) (
             fields-part (drop at s) (omega (arith, length-drop at s)) f wire.Len 1 k n len b
             ∙ rw (drop-drop (1 + (n + len)) at s, drop-drop 1 at s, drop-drop n (at + 1) s, a, add-sub-cancel-left (at + 1 + n) len);
       }
+
+-- a number's field, whatever the number
+pub number-some : {f : ℕ} {s : List ℕ} {at v to : ℕ} → NumberIs f s at v to → NumberField f s at to
+number-some {v = v} n = record { moved = n .moved; within = n .within; value = v; fields = n .fields }
 
 -- ---- the fields up to a place
 

@@ -9,6 +9,8 @@ use lib.ListN.{length, take, drop}
 use Rattle.wire.specs.declared.WireType.the-variants as wire
 use Rattle.wire.specs.Fields.{number, bytes, field, fieldsOf}
 use Rattle.schema.specs.declared.MessageKind.{MessageKind}
+use Rattle.plain.specs.declared.NumberAt.{NumberAt}
+use Rattle.plain.specs.declared.NumberAt.the-variants as number-at
 use Rattle.plain.specs.declared.Part.{Part}
 use Rattle.plain.specs.declared.Part.the-variants.{Found, Absent}
 use Rattle.schema.specs.FirstFault.{checkFields, faultWithin}
@@ -19,6 +21,16 @@ pub record NumberField (f : ℕ) (s : List ℕ) (at to : ℕ) : Type 0 where
   pub within : to ≤ length s
   pub value : ℕ
   pub fields : fieldsOf (drop at s) ≡ field f wire.Varint (number value) ∷ fieldsOf (drop to s)
+
+-- field f stands in s from a place to another, and holds the number v
+pub record NumberIs (f : ℕ) (s : List ℕ) (at v to : ℕ) : Type 0 where
+  pub moved : at < to
+  pub within : to ≤ length s
+  pub fields : fieldsOf (drop at s) ≡ field f wire.Varint (number v) ∷ fieldsOf (drop to s)
+
+abbrev pub NumberSays : ℕ → List ℕ → ℕ → NumberAt → Type 0
+NumberSays f s at (number-at.Found v to) = NumberIs f s at v to
+NumberSays f s at number-at.Absent = Unit {0}
 
 -- field f stands in s from a place to another, and holds the part that starts at `from`
 pub record PartField (f : ℕ) (s : List ℕ) (at from to : ℕ) : Type 0 where

@@ -7,18 +7,43 @@ ghost use mathlib.Core.Bool.{true};
 ghost use mathlib.Core.List.{[], _∷_};
 ghost use Prim.Native.Nat.{ℕ, _<_};
 ghost use Rattle.schema.specs.FirstFault.{faultWithin};
-ghost use Rattle.plain.specs.Plain.{NumberField, PartSays, Passed};
+ghost use Rattle.plain.specs.Plain.{NumberField, NumberSays, PartSays, Passed};
 use schema::Checked;
 use schema::MessageKind;
 use wire::Body;
 use wire::Varint;
 use wire::WireType;
 
+// A number that a field holds.
+pub enum NumberAt {
+    // The number, and the place behind the field.
+    Found(u64, usize),
+    Absent,
+}
+
 // A part that a field holds.
-enum Part {
+pub enum Part {
     // Where it starts and where it ends.
     Found(usize, usize),
     Absent,
+}
+
+// The number of field f at a place.
+pub fn number_at(f: u8, s: &[u8], at: usize) -> NumberAt
+    requires { ⌜ (0 < f) × (f < 16) ⌝ }
+    ensures { λ r. ⌜ NumberSays f (now (s .entry)) at r ⌝ }
+{
+    if s.len() <= at {
+        return NumberAt::Absent;
+    }
+    if s[at] != 8 * f {
+        return NumberAt::Absent;
+    }
+    let from = at + 1;
+    match wire::read_short_varint(&s[from..]) {
+        Varint::Value(v, n) => NumberAt::Found(v, from + n),
+        Varint::Broken => NumberAt::Absent,
+    }
 }
 
 // The place behind field f, a number, at a place; 0 where it does not stand there.
@@ -26,21 +51,14 @@ fn number_end(f: u8, s: &[u8], at: usize) -> usize
     requires { ⌜ (0 < f) × (f < 16) ⌝ }
     ensures { λ r. ⌜ (0 < r → NumberField f (now (s .entry)) at r) ⌝ }
 {
-    if s.len() <= at {
-        return 0;
-    }
-    if s[at] != 8 * f {
-        return 0;
-    }
-    let from = at + 1;
-    match wire::read_short_varint(&s[from..]) {
-        Varint::Value(_, n) => from + n,
-        Varint::Broken => 0,
+    match number_at(f, s, at) {
+        NumberAt::Found(_, to) => to,
+        NumberAt::Absent => 0,
     }
 }
 
 // The part of field f at a place.
-fn part_at(f: u8, s: &[u8], at: usize) -> Part
+pub fn part_at(f: u8, s: &[u8], at: usize) -> Part
     requires { ⌜ (0 < f) × (f < 16) ⌝ }
     ensures { λ r. ⌜ PartSays f (now (s .entry)) at r ⌝ }
 {
