@@ -1,6 +1,6 @@
-mod TextLaws
-mod RowLaws
+pub mod TextLaws
+pub mod RowLaws
 pub mod WireLaws
-mod ValidLaws
+pub mod ValidLaws
 pub mod SizeLaws
 pub mod ReadBack

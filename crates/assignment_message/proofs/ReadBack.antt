@@ -24,16 +24,15 @@ use Rattle.schema.specs.Schema.{ruleFor, complete}
 use Rattle.schema.specs.FirstFault.{checkFields, faultWithin, firstFault}
 use Rattle.readers.specs.declared.ErrorCode.the-variants as code
 use Rattle.readers.specs.Messages.{assignmentOf, WireUpdate, updateOf, WireResponse, responseOf}
-use Rattle.packed.specs.Assignment.{AssignedSegment, ConsumerAssignment, slotSize, sizeAssignment, okFrom, okAssignment}
+use Rattle.packed.specs.Assignment.{ConsumerAssignment, slotSize, sizeAssignment, okFrom, okAssignment}
 use Rattle.packed.proofs.RoundLaws.{FitAssignment}
 use Rattle.content.specs.Content.{taken, contentOf}
 use Rattle.content.proofs.EachLaws.{Each, each-map}
 use Rattle.content.proofs.OrderLaws.{Passing}
-use Rattle.content.proofs.ContentLaws.{content-rising}
 use Rattle.assignment_message.specs.Message.{assignmentMessage, updateMessage, responseMessage}
 use Rattle.assignment_message.proofs.RowLaws.{segments-within, assignment-row, carrier-row}
-use Rattle.assignment_message.proofs.WireLaws.{wireSegment, wireAssignment, segments-back, Written, each-written, written-passes}
-use Rattle.assignment_message.proofs.WireLaws.{assignment-says}
+use Rattle.assignment_message.proofs.WireLaws.{wireSegment, wireAssignment, Written, each-written, written-passes}
+use Rattle.assignment_message.proofs.WireLaws.{assignment-says, content-says}
 use Rattle.assignment_message.proofs.ValidLaws.{assignment-valid}
 
 module _ (parent : List ℕ) (a : ConsumerAssignment) (f : FitAssignment a) (o : okAssignment a ≡ true)
@@ -57,12 +56,8 @@ module _ (parent : List ℕ) (a : ConsumerAssignment) (f : FitAssignment a) (o :
   -- what is read comes to what was written
   content-back : contentOf parent (wireAssignment (pathOf parent) a) ≡ taken a
   content-back =
-      let e = segments-back (pathOf parent) (a .segments) in
-      let p : Each (Passing parent) (wireAssignment (pathOf parent) a .segments) =
-      each-map (Written parent) (Passing parent) (wireSegment (pathOf parent)) (written-passes parent) (a .segments) written in
-      content-rising parent (wireAssignment (pathOf parent) a) p
-      (ap (λ (gs : List AssignedSegment). okAssignment (record { layoutEpoch = a .layoutEpoch; segments = gs })) e ∙ o)
-      ∙ ap (λ (gs : List AssignedSegment). taken (record { layoutEpoch = a .layoutEpoch; segments = gs })) e
+      content-says parent a o
+      (each-map (Written parent) (Passing parent) (wireSegment (pathOf parent)) (written-passes parent) (a .segments) written)
 
   -- the fields of the message's only part
   part-says : (fs : List Field) → fs ≡ fieldsOf message → assignmentOf fs ≡ wireAssignment (pathOf parent) a

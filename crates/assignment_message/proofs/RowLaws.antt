@@ -87,16 +87,13 @@ unfolding segmentFields
 segments-parts path [] = refl
 segments-parts path (g ∷ gs) = ap (λ (l : List ℕ). partField 2 (segmentMessage path g) ++ l) (segments-parts path gs)
 
-abbrev pub segmentRow : List ℕ → AssignedSegment → List Field
-segmentRow path g =
-    numbered 1 (g .segmentId)
-    ∷ numbered 2 (g .range .start)
-    ∷ numbered 3 (g .range .end)
-    ∷ parted 4 (topicOf path g)
-    ∷ partRow 5 (map rangeMessage (g .buckets))
+-- a segment's row, with the parts of its buckets
+abbrev pub segmentRowOf : List ℕ → AssignedSegment → List (List ℕ) → List Field
+segmentRowOf path g ps =
+    numbered 1 (g .segmentId) ∷ numbered 2 (g .range .start) ∷ numbered 3 (g .range .end) ∷ parted 4 (topicOf path g) ∷ partRow 5 ps
 
 pub segment-row : (path : List ℕ) (g : AssignedSegment) → FitSegment g → length (segmentMessage path g) < 2 ^ 64
-    → fieldsOf (segmentMessage path g) ≡ segmentRow path g
+    → fieldsOf (segmentMessage path g) ≡ segmentRowOf path g (map rangeMessage (g .buckets))
 unfolding segmentMessage
 segment-row path g f s =
     let bs : List (List ℕ) = map rangeMessage (g .buckets) in

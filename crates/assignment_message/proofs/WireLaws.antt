@@ -1,9 +1,10 @@
 -- What the readers say of the written messages, and that it passes the tests of a content.
 --
 -- In order: the values of a row whose fields each hold a part (`row-numbers`, `row-parts`, `row-others`); a range, a segment and an
--- assignment as they are read (`wireRange`, `wireSegment`, `wireAssignment`), of which the readers say the first two (`range-says`,
--- `segment-says`); they stand for what was written (`segment-back`, `segments-back`); a written segment (`Written`, `each-written`)
--- passes (`written-passes`); what is read of an assignment (`assignment-says`).
+-- assignment as they are read (`wireRange`, `wireSegment`, `wireAssignment`), of which the readers say the first two, by their rows
+-- (`range-row-says`, `segment-row-says`) and as they are written (`segment-says`); they stand for what was written (`segment-back`,
+-- `segments-back`); a good segment passes (`good-passes`), and so a written one (`Written`, `each-written`, `written-passes`); what is read of an
+-- assignment, by its row (`assignment-row-says`) and as it is written (`assignment-says`), and what it comes to (`content-says`).
 -- Assumes nothing.
 use Prim.Native.Nat.{ℕ, suc, _+_, _%_, _^_, _≤_, _<_}
 use native.Mathlib.Omega.{arith}
@@ -24,19 +25,22 @@ use Rattle.ranges.specs.Overlap.{anyOverlap}
 use Rattle.utf8.specs.Table.{isUtf8}
 use Rattle.parents.specs.Parents.{isParent, pathOf}
 use Rattle.topic.specs.Names.{segmentTopic}
-use Rattle.wire.specs.Fields.{Field}
+use Rattle.wire.specs.Fields.{Field, fieldsOf}
 use Rattle.values.specs.Values.{numbersOf, partsOf}
 use Rattle.values.specs.Integers.{int32Of}
 use Rattle.readers.specs.declared.IntRange.{IntRange}
 use Rattle.readers.specs.Messages.{intRangeOf, WireSegment, segmentOf, WireAssignment, assignmentOf}
-use Rattle.packed.specs.Assignment.{AssignedSegment, ConsumerAssignment, inOrder, allInOrder, okBuckets, okSegment, okFrom}
+use Rattle.packed.specs.Assignment.{AssignedSegment, ConsumerAssignment, inOrder, allInOrder, okBuckets, okSegment}
+use Rattle.packed.specs.Assignment.{okFrom, okAssignment}
 use Rattle.packed.proofs.AssignmentLaws.{ok-good, ok-tail}
 use Rattle.packed.proofs.RoundLaws.{FitRange, FitRanges, FitSegment, FitSegments}
-use Rattle.content.specs.Content.{rangeFaultBy, bucketFault, bucketOf, segmentFault, assignedSegment}
+use Rattle.content.specs.Content.{rangeFaultBy, bucketFault, bucketOf, segmentFault, assignedSegment, taken, contentOf}
 use Rattle.content.proofs.EachLaws.{Each}
 use Rattle.content.proofs.SoundLaws.{passes}
+use Rattle.content.proofs.OrderLaws.{Passing}
+use Rattle.content.proofs.ContentLaws.{content-rising}
 use Rattle.assignment_message.specs.Message.{rangeMessage, topicOf, segmentMessage, segmentFields}
-use Rattle.assignment_message.proofs.RowLaws.{numbered, partRow, range-row, segment-row, segment-within}
+use Rattle.assignment_message.proofs.RowLaws.{numbered, partRow, range-row, segmentRowOf, segment-row, segment-within}
 
 -- ---- a row whose fields each hold a part
 
@@ -75,32 +79,28 @@ small : (v : ℕ) → v < 256 ^ 2 → int32Of v ≡ pos v
 unfolding int32Of
 small v h = let e : v % 2 ^ 32 ≡ v = omega arith in rw (e, lt-ltb v (2 ^ 31) (omega arith))
 
-range-says : (r : KeyRange) → FitRange r → intRangeOf (rangeMessage r) ≡ wireRange r
+pub range-row-says : (p : List ℕ) (r : KeyRange) → FitRange r → fieldsOf p ≡ numbered 1 (r .start) ∷ numbered 2 (r .end) ∷ []
+    → intRangeOf p ≡ wireRange r
 unfolding intRangeOf
-range-says r f = rw (range-row r f, small (r .start) (f .start), small (r .end) (f .end))
+range-row-says p r f e = rw (e, small (r .start) (f .start), small (r .end) (f .end))
 
 ranges-say : (rs : List KeyRange) → FitRanges rs → map intRangeOf (map rangeMessage rs) ≡ map wireRange rs
 ranges-say [] f = refl
-ranges-say (r ∷ rs) f = rw (range-says r (f .0), ranges-say rs (f .1))
+ranges-say (r ∷ rs) f = rw (range-row-says (rangeMessage r) r (f .0) (range-row r (f .0)), ranges-say rs (f .1))
+
+pub segment-row-says : (p path : List ℕ) (g : AssignedSegment) → FitRange (g .range) → (ps : List (List ℕ))
+    → fieldsOf p ≡ segmentRowOf path g ps → map intRangeOf ps ≡ map wireRange (g .buckets) → segmentOf p ≡ wireSegment path g
+unfolding segmentOf
+segment-row-says p path g f ps e h =
+    let a : g .range .start % 2 ^ 32 ≡ g .range .start = omega (arith, f .start) in
+    let b : g .range .end % 2 ^ 32 ≡ g .range .end = omega (arith, f .end) in
+    simp (e, row-numbers 1 5 ps, row-numbers 2 5 ps, row-numbers 3 5 ps, row-others 4 5 refl ps, row-parts 5 ps, h, a, b)
 
 module _ (path : List ℕ) (g : AssignedSegment) (f : FitSegment g) (s : length (segmentMessage path g) < 2 ^ 64) where
   pub segment-says : segmentOf (segmentMessage path g) ≡ wireSegment path g
-  unfolding segmentOf
   segment-says =
-      let ps : List (List ℕ) = map rangeMessage (g .buckets) in
-      let a : g .range .start % 2 ^ 32 ≡ g .range .start = omega (arith, f .range .start) in
-      let b : g .range .end % 2 ^ 32 ≡ g .range .end = omega (arith, f .range .end) in
-      simp (
-        segment-row path g f s,
-        row-numbers 1 5 ps,
-        row-numbers 2 5 ps,
-        row-numbers 3 5 ps,
-        row-others 4 5 refl ps,
-        row-parts 5 ps,
-        ranges-say (g .buckets) (f .buckets),
-        a,
-        b,
-      )
+      segment-row-says (segmentMessage path g) path g (f .range) (map rangeMessage (g .buckets)) (segment-row path g f s)
+      (ranges-say (g .buckets) (f .buckets))
 
 -- ---- they stand for what was written
 
@@ -151,22 +151,26 @@ no-overlap : (t : Bool) → not t ≡ true → t ≡ false
 no-overlap true e = absurd (false≢true e)
 no-overlap false e = refl
 
-pub written-passes : (parent : List ℕ) (g : AssignedSegment) → Written parent g
-    → segmentFault parent (wireSegment (pathOf parent) g) ≡ none
-unfolding okSegment okBuckets
-written-passes parent g w =
-    let r : KeyRange = g .range in
-    let id : SegmentId = record { 0 = g .segmentId } in
-    let o = both-true (inOrder r) (okBuckets (g .buckets)) (w .good) in
-    let b = both-true (allInOrder (g .buckets)) (not (anyOverlap (g .buckets))) (o .1) in
-    let h : r .start ≤ r .end = leb-true (r .start) (r .end) (o .0) in
-    passes parent (wireSegment (pathOf parent) g) (record {
-      range = ap (rangeFaultBy id) (valid-new (r .start) (r .end) h (omega (arith, w .fit .range .end)));
-      buckets = bucket-none id 0 (g .buckets) (w .fit .buckets) (b .0);
-      apart = ap anyOverlap (buckets-back (g .buckets)) ∙ no-overlap (anyOverlap (g .buckets)) (b .1);
-      parent-ok = w .parent-ok;
-      topic = same-refl (segmentTopic (pathOf parent) r id);
-    })
+module _ (parent : List ℕ) (g : AssignedSegment) where
+  pub good-passes : isParent parent ≡ true → okSegment g ≡ true → FitRange (g .range) → FitRanges (g .buckets)
+      → segmentFault parent (wireSegment (pathOf parent) g) ≡ none
+  unfolding okSegment okBuckets
+  good-passes p good fit fits =
+      let r : KeyRange = g .range in
+      let id : SegmentId = record { 0 = g .segmentId } in
+      let o = both-true (inOrder r) (okBuckets (g .buckets)) good in
+      let b = both-true (allInOrder (g .buckets)) (not (anyOverlap (g .buckets))) (o .1) in
+      let h : r .start ≤ r .end = leb-true (r .start) (r .end) (o .0) in
+      passes parent (wireSegment (pathOf parent) g) (record {
+        range = ap (rangeFaultBy id) (valid-new (r .start) (r .end) h (omega (arith, fit .end)));
+        buckets = bucket-none id 0 (g .buckets) fits (b .0);
+        apart = ap anyOverlap (buckets-back (g .buckets)) ∙ no-overlap (anyOverlap (g .buckets)) (b .1);
+        parent-ok = p;
+        topic = same-refl (segmentTopic (pathOf parent) r id);
+      })
+
+  pub written-passes : Written parent g → segmentFault parent (wireSegment (pathOf parent) g) ≡ none
+  written-passes w = good-passes (w .parent-ok) (w .good) (w .fit .range) (w .fit .buckets)
 
 -- ---- the assignment
 
@@ -176,10 +180,25 @@ segments-say parent [] w = refl
 segments-say parent (g ∷ gs) w =
     let p = segments-say parent gs (w .1) in cc (segment-says (pathOf parent) g (w .0 .fit) (w .0 .short))
 
+-- by its row, whose parts say the segments
+pub assignment-row-says : (path : List ℕ) (a : ConsumerAssignment) (ps : List (List ℕ)) (fs : List Field)
+    → fs ≡ numbered 1 (a .layoutEpoch) ∷ partRow 2 ps → map segmentOf ps ≡ map (wireSegment path) (a .segments)
+    → assignmentOf fs ≡ wireAssignment path a
+unfolding assignmentOf
+assignment-row-says path a ps fs e h = simp (e, row-numbers 1 2 ps, row-parts 2 ps, h)
+
 pub assignment-says : (parent : List ℕ) (a : ConsumerAssignment) → Each (Written parent) (a .segments) → (fs : List Field)
     → fs ≡ numbered 1 (a .layoutEpoch) ∷ partRow 2 (map (segmentMessage (pathOf parent)) (a .segments))
     → assignmentOf fs ≡ wireAssignment (pathOf parent) a
-unfolding assignmentOf
 assignment-says parent a w fs e =
-    let ps : List (List ℕ) = map (segmentMessage (pathOf parent)) (a .segments) in
-    simp (e, row-numbers 1 2 ps, row-parts 2 ps, segments-say parent (a .segments) w)
+    assignment-row-says (pathOf parent) a (map (segmentMessage (pathOf parent)) (a .segments)) fs e (segments-say parent (a .segments) w)
+
+-- it comes to what was written
+pub content-says : (parent : List ℕ) (a : ConsumerAssignment) → okAssignment a ≡ true
+    → Each (Passing parent) (map (wireSegment (pathOf parent)) (a .segments))
+    → contentOf parent (wireAssignment (pathOf parent) a) ≡ taken a
+content-says parent a o p =
+    let e = segments-back (pathOf parent) (a .segments) in
+    content-rising parent (wireAssignment (pathOf parent) a) p
+    (ap (λ (gs : List AssignedSegment). okAssignment (record { layoutEpoch = a .layoutEpoch; segments = gs })) e ∙ o)
+    ∙ ap (λ (gs : List AssignedSegment). taken (record { layoutEpoch = a .layoutEpoch; segments = gs })) e
