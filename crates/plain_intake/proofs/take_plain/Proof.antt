@@ -1,0 +1,76 @@
+-- `take_plain` meets its contract: an epoch and segments, then the count and the epoch written before their records. Assumes nothing.
+use native.Mathlib.Omega.{arith}
+use mathlib.Core.Path.{sym, subst, _∙_}
+use borrow.Author.Tests.{not-false}
+use Rattle.plain.specs.Plain.{NumberSays}
+use Rattle.plain_intake.specs.Walk.{SegmentsFrom, SegmentsSay}
+use Rattle.plain_intake.proofs.TakeLaws.{segments-few, plain-taken}
+use borrow.Author.Needs.{needs}
+use Rattle.plain_intake.proofs.take_plain.Statement.{statement}
+use Rattle.plain_intake.proofs.take_plain.Tie as tie
+use Rattle.plain_intake.proofs.take_plain.Reads as reads
+use Rattle.plain_intake.proofs.take_plain.Lts as lts
+use Rattle.packed_int.proofs.write_u16.Reads as write-u16-reads
+use Rattle.packed_int.proofs.write_u64.Reads as write-u64-reads
+use Rattle.parents.proofs.is_parent.Reads as is-parent-reads
+use Rattle.plain.proofs.number_at.Reads as number-at-reads
+use Rattle.plain_intake.proofs.take_segments.Reads as take-segments-reads
+
+-- all segments are taken
+abbrev Taken : Type 0
+Taken = lts.After-known-told2 (
+  is-parent-reads.Asked,
+  is-parent-reads.Learnt,
+  number-at-reads.Asked,
+  number-at-reads.Learnt,
+  take-segments-reads.Asked,
+  take-segments-reads.Learnt,
+  write-u16-reads.Asked,
+  write-u16-reads.Learnt,
+  write-u64-reads.Asked,
+  write-u64-reads.Learnt,
+) reads.Pre reads.Post
+
+taken : (c : Taken)
+    → SegmentsFrom (c .before .before .before .before .before .before .before .before .before .before .before .before .before .before .before .before .args .parent .now) (c .before .before .before .before .before .before .before .before .before .before .before .before .before .before .before .before .args .s .now) (c .before .before .before .before .before .before .before .before .epoch .given .0 .1 .0) 0 (c .before .before .before .before .before .before .before .before .before .before .before .before .before .before .before .before .args .b .now) 10
+    (c .before .count .given .0 .0) (c .before .count .given .0 .1 .0) (c .before .before .before .before .before .take-segments .last .1 .1 .1 .0)
+taken c = subst (SegmentsSay _ _ _ _ _) (c .before .count .given .1) (c .before .before .before .before .before .take-segments .ensures)
+
+take-segments-requires : tie.Need-take-segments-requires
+take-segments-requires c κs =
+    let i = c .before .before .before .before .before in
+    let p = c .before .before .before .before .before .before .before .before .before .before .pre in
+    ((sym (i .before .is-parent .ensures) ∙ not-false _ (i .if1 .left), p .1), p .0)
+
+cast-write-u16 : tie.Need-cast-write-u16
+cast-write-u16 c = omega (arith, segments-few (c .before .before .before .before .before .before .before .before .before .before .before .before .before .before .before .before .before .pre .0) (taken (c .before)))
+
+returns-4 : tie.Need-returns-4
+returns-4 c =
+    let e = c .before .before .before .before .before .before .before .before .before .before .before .before .before .before .before .before in
+    plain-taken (c .before .before .before .before .before .before .before .before .before .before .before .before .before .before .before .before .before .before .before .before .before .before .before .before .pre .0) (taken (c .before .before .before .before .before .before .before .before)) _ _ (subst (NumberSays 1 _ _) (e .epoch .given .1) (e .before .before .number-at .ensures))
+    (c .before .before .before .before .before .before .write-u16 .ensures) (c .before .before .write-u64 .ensures)
+
+pub take-plain-spec : {M : Type 1} → statement M
+take-plain-spec =
+    tie.close
+    (tie.spec
+    -- is-parent-requires, returns, number-at-requires, enum-known-epoch, enum-told, returns-2
+    (λ c κs. search needs)
+    (λ c. search needs)
+    (λ c κs. search needs)
+    (λ c. search needs)
+    (λ c. search needs)
+    (λ c. search needs)
+    take-segments-requires
+    -- enum-known-count, enum-told-2, same-length, returns-3
+    (λ c. search needs)
+    (λ c. search needs)
+    (λ c. search needs)
+    (λ c. search needs)
+    cast-write-u16
+    -- write-u16-requires, write-u64-requires, same-length-2
+    (λ c κs. search needs)
+    (λ c κs. search needs)
+    (λ c. search needs)
+    returns-4)

@@ -1,0 +1,111 @@
+-- `take_segments` meets its contract: segments alone, each of an id above the one before it.
+-- The invariant: what is told of the segments from `at` on, written from `used` on, tells those from the first on. The measure is the bytes left. Assumes nothing.
+use Prim.Native.Nat.{ℕ, _+_, _-_, _*_, _≤_}
+use native.Mathlib.Omega.{arith}
+use mathlib.Core.Path.{_≡_, subst, _∙_}
+use mathlib.Core.List.{List}
+use lib.ListN.{length, take, drop}
+use borrow.Author.Needs.{needs}
+use Rattle.plain.specs.Plain.{PartField, PartSays}
+use Rattle.plain_intake.specs.Walk.{SegmentTaken, SegmentSays, SegmentsFrom}
+use Rattle.plain_intake.proofs.TakeLaws.{segment-long, segment-kept, segments-count, segments-end, segments-next}
+use Rattle.plain_intake.proofs.take_segments.Statement.{statement}
+use Rattle.plain_intake.proofs.take_segments.Tie as tie
+use Rattle.plain_intake.proofs.take_segments.Reads as reads
+use Rattle.plain_intake.proofs.take_segments.Lts as lts
+use Rattle.plain.proofs.part_at.Reads as part-at-reads
+use Rattle.plain_intake.proofs.take_segment.Reads as take-segment-reads
+
+abbrev Inv-loop : tie.InvT-loop
+Inv-loop s first parent b₀ at₀ low₀ used₀ count₀ b at low used count =
+    (length b ≡ 2048) × (used ≤ 2048) × (10 + 14 * count ≤ used)
+    × ((n to : ℕ) (b′ : List ℕ) → SegmentsFrom parent s at low b used n to b′ → SegmentsFrom parent s first 0 b₀ 10 (count + n) to b′)
+
+abbrev μ-loop : tie.MeasureT-loop
+μ-loop s first parent b₀ at₀ low₀ used₀ count₀ b at low used count = length s - at
+
+-- field 2 is there
+abbrev Found : Type 0
+Found = lts.After-known-told (
+  part-at-reads.Asked,
+  part-at-reads.Learnt,
+  take-segment-reads.Asked,
+  take-segment-reads.Learnt,
+) reads.Pre reads.Post Inv-loop μ-loop
+
+found : (c : Found)
+    → PartField 2 (c .before .before .before .before .before .before .before .before .before .args .s .now) (c .before .before .before .before .before .loop .at) (c .before .from .given .0 .0) (c .before .from .given .0 .1 .0)
+found c = subst (PartSays 2 _ _) (c .before .from .given .1) (c .before .before .before .part-at .ensures)
+
+-- and a segment in it
+abbrev Taken : Type 0
+Taken = lts.After-known-told2 (
+  part-at-reads.Asked,
+  part-at-reads.Learnt,
+  take-segment-reads.Asked,
+  take-segment-reads.Learnt,
+) reads.Pre reads.Post Inv-loop μ-loop
+
+taken : (c : Taken)
+    → SegmentTaken (c .before .before .before .before .before .before .before .before .before .before .before .before .before .before .before .before .before .args .parent .now)
+    (take (c .before .before .before .before .before .before .before .before .before .from .given .0 .1 .0 - c .before .before .before .before .before .before .before .before .before .from .given .0 .0) (drop (c .before .before .before .before .before .before .before .before .before .from .given .0 .0) (c .before .before .before .before .before .before .before .before .before .before .before .before .before .before .before .before .before .args .s .now)))
+    (c .before .before .before .before .before .before .before .before .before .before .before .before .before .loop .b) (c .before .before .before .before .before .before .before .before .before .before .before .before .before .loop .used) (c .before .id .given .0 .0) (c .before .id .given .0 .1 .0)
+    (c .before .before .before .before .before .take-segment .last .1 .1 .0)
+taken c = subst (SegmentSays _ _ _ _ _) (c .before .id .given .1) (c .before .before .before .before .before .take-segment .ensures)
+
+loop-holds : tie.Need-loop-holds Inv-loop μ-loop
+loop-holds c = (c .before .before .before .pre .1, omega arith, omega arith, λ n to b′ k. segments-count (omega arith) k)
+
+loop-less : tie.Need-loop-less Inv-loop μ-loop
+loop-less c = let h = found (c .before .before .before .before .before .before .before .before .before .before) in omega (arith, h .moved, h .within)
+
+loop-again : tie.Need-loop-again Inv-loop μ-loop
+loop-again c =
+    let f = found (c .before .before .before .before .before .before .before .before .before .before) in
+    let q = taken (c .before .before) in
+    let i = c .before .before .before .before .before .before .before .before .before .before .before .before .before .before .before .loop .inv in (
+      segment-kept q ∙ i .0,
+      omega (arith, q .room, i .0),
+      omega (arith, i .2, segment-long q),
+      λ n to b′ k. segments-count (omega arith) (i .3 (n + 1) to b′ (segments-next _ _ _ _ f q (omega arith) k)),
+    )
+
+returns-5 : tie.Need-returns-5 Inv-loop μ-loop
+returns-5 c =
+    let i = c .before .loop .inv in
+    segments-count (omega arith) (i .3 0 _ _ (segments-end _ _ _ _ _ _ (c .loop-test .left) (omega (arith, i .0, i .1))))
+
+pub take-segments-spec : {M : Type 1} → statement M
+take-segments-spec =
+    tie.close
+    (tie.spec
+    Inv-loop
+    μ-loop
+    loop-holds
+    -- part-at-requires, enum-known-from, enum-told, same-length, returns, sub-take-segment, part-take-segment-start, part-take-segment-end,
+    -- take-segment-requires, enum-known-id, enum-told-2, same-length-2, returns-2, same-length-3, returns-3, same-length-4, returns-4,
+    -- add-low, add-count
+    (λ c κs. search needs)
+    (λ c. search needs)
+    (λ c. search needs)
+    (λ c. search needs)
+    (λ c. search needs)
+    (λ c. let h = found c in omega arith)
+    (λ c. let h = found c in omega arith)
+    (λ c. let h = found c in omega arith)
+    (λ c κs. search needs)
+    (λ c. search needs)
+    (λ c. search needs)
+    (λ c. search needs)
+    (λ c. search needs)
+    (λ c. search needs)
+    (λ c. search needs)
+    (λ c. search needs)
+    (λ c. search needs)
+    (λ c. search needs)
+    (λ c. search needs)
+    loop-less
+    loop-again
+    -- same-length-5
+    (λ c. search needs)
+    returns-5)
