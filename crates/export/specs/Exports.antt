@@ -1,10 +1,8 @@
 -- The exported calls: each is a call of 01, its answer in numbers and the record as a plain struct.
 -- Assumes nothing.
-use Prim.Native.Nat.{ℕ, _+_, _≤_}
-use mathlib.Core.Path.{_≡_}
+use Prim.Native.Nat.{ℕ}
 use mathlib.Core.List.{List, [], _∷_}
 use lib.IntN.{pos}
-use lib.ListN.{length, take, drop}
 use Rattle.types.specs.declared.ControllerIncarnation.{ControllerIncarnation}
 use Rattle.key_range.specs.declared.LengthAnswer.{LengthAnswer}
 use Rattle.key_range.specs.declared.LengthAnswer.the-variants as length′
@@ -28,7 +26,6 @@ use Rattle.reply.specs.declared.Reply.{Reply}
 use Rattle.reply.specs.Replies.{written, yes, no, found, refusedReply, takenReply, testReply}
 use Rattle.session_reply.specs.declared.SessionReply.{SessionReply}
 use Rattle.session_reply.specs.Replies.{sessionReply, openReply}
-use Rattle.export.specs.declared.Part.{Part}
 
 -- ---- answers in numbers
 
@@ -99,8 +96,3 @@ pub record Opening : Type 0 where
 
 abbrev pub openOf : ℕ → ControllerIncarnation → OpenOutcome → Opening
 openOf consumer incarnation o = record { call = openReply consumer incarnation (o .answer); store = o .store }
-
--- a text as a part of the message: where it starts, and its length
-pub record PartIs (message text : List ℕ) (r : Part) : Type 0 where
-  pub inside : r .start + r .length ≤ length message
-  pub is-text : take (r .length) (drop (r .start) message) ≡ text

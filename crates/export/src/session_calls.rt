@@ -6,10 +6,11 @@ ghost use Rattle.types.specs.ConsumerTypes.{fromWire};
 ghost use Rattle.readers.specs.Messages.{responseOf};
 ghost use Rattle.session.specs.Link.{beginOf, invalidateOf};
 ghost use Rattle.session.specs.Calls.{updateOutcome, responseOutcome, drainOutcome, openOutcome, matchOf};
+ghost use Rattle.values.specs.Places.{PartIs};
 ghost use Rattle.values.specs.Values.{lastPart, partsOf};
 ghost use Rattle.wire.specs.Fields.{fieldsOf};
 ghost use Rattle.session_reply.specs.Replies.{recordOf, changedReply};
-ghost use Rattle.export.specs.Exports.{matchReply, exportOf, openOf, PartIs};
+ghost use Rattle.export.specs.Exports.{matchReply, exportOf, openOf};
 use crate::Part;
 use reply::Reply;
 use session::Match;
@@ -20,7 +21,6 @@ use session_reply::record_of;
 use session_reply::session_reply;
 use types::ControllerIncarnation;
 use types::ScalableConsumerType;
-use values::PartStep;
 
 // Opens a session over the store: `ScalableConsumerSession::new`. The kind is the integer of the wire.
 #[no_mangle]
@@ -157,31 +157,21 @@ pub extern "C" fn cuddrewyn_matches_registration(
     }
 }
 
-// The last part of field n.
+// Where the last part of field n stands.
 pub fn last_part(message: &[u8], n: u64) -> Part
-    ensures { λ x. ⌜ PartIs (now (message .entry)) (lastPart (partsOf n (fieldsOf (now (message .entry))))) x ⌝ }
+    ensures { λ x. ⌜ PartIs (now (message .entry)) (lastPart (partsOf n (fieldsOf (now (message .entry))))) (x .start) (x .length) ⌝ }
 {
-    let mut at: usize = 0;
-    let mut start: usize = 0;
-    let mut length: usize = 0;
-    loop {
-        match values::next_part(message, at, n) {
-            PartStep::Absent => {
-                return Part { start, length };
-            }
-            PartStep::Found(from, len, next) => {
-                start = from;
-                length = len;
-                at = next;
-            }
-        }
+    let p = values::last_part(message, n);
+    Part {
+        start: p.start,
+        length: p.length,
     }
 }
 
 // Where the broker's text stands in a response that was refused with 16.
 #[no_mangle]
 pub extern "C" fn cuddrewyn_response_text(message: &[u8]) -> Part
-    ensures { λ x. ⌜ PartIs (now (message .entry)) (responseOf (now (message .entry)) .message) x ⌝ }
+    ensures { λ x. ⌜ PartIs (now (message .entry)) (responseOf (now (message .entry)) .message) (x .start) (x .length) ⌝ }
 {
     last_part(message, 3)
 }

@@ -1,8 +1,9 @@
 // The topics watch.
 ghost use mathlib.Core.Path.{_≡_};
 ghost use Rattle.readers.specs.Messages.{watchUpdateOf};
+ghost use Rattle.values.specs.Places.{PartIs};
 ghost use Rattle.watch.specs.Watch.{handleUpdate};
-ghost use Rattle.export.specs.Exports.{watchReply, watchOf, PartIs};
+ghost use Rattle.export.specs.Exports.{watchReply, watchOf};
 use crate::Part;
 use crate::session_calls::last_part;
 use reply::Reply;
@@ -35,7 +36,7 @@ pub extern "C" fn cuddrewyn_watch(
 // Where the broker's text stands in an update that was refused with 16.
 #[no_mangle]
 pub extern "C" fn cuddrewyn_watch_text(message: &[u8]) -> Part
-    ensures { λ x. ⌜ PartIs (now (message .entry)) (watchUpdateOf (now (message .entry)) .message) x ⌝ }
+    ensures { λ x. ⌜ PartIs (now (message .entry)) (watchUpdateOf (now (message .entry)) .message) (x .start) (x .length) ⌝ }
 {
     last_part(message, 5)
 }

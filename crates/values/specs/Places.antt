@@ -43,6 +43,11 @@ NextPart n s from (step.Found start len next) =
     × (partsOf n (fieldsOf (drop from s)) ≡ take len (drop start s) ∷ partsOf n (fieldsOf (drop next s)))
 NextPart n s from step.Absent = partsOf n (fieldsOf (drop from s)) ≡ []
 
+-- the text is the part of the message that starts at a place and has this length
+pub record PartIs (message text : List ℕ) (start len : ℕ) : Type 0 where
+  pub inside : start + len ≤ length message
+  pub is-text : take len (drop start message) ≡ text
+
 -- ---- the parts of field k in the singular message of field n, one after the other
 
 -- those that a cursor has before it: in this part of field n from its place on, then in the later parts

@@ -5,7 +5,7 @@
 ghost use mathlib.Core.Path.{_≡_};
 ghost use Rattle.wire.specs.Fields.{fieldsOf};
 ghost use Rattle.values.specs.Integers.{uint32Of, int32Of};
-ghost use Rattle.values.specs.Places.{frontOf, NextPart, Inside, NextInner};
+ghost use Rattle.values.specs.Places.{frontOf, NextPart, PartIs, Inside, NextInner};
 ghost use Rattle.values.specs.Values.{numbersOf, partsOf, lastAfter, lastOf, lastPart, mergedFields, orZero, numberIn};
 use wire::Body;
 use wire::Key;
@@ -129,25 +129,41 @@ pub fn next_part(s: &[u8], from: usize, n: u64) -> PartStep
     PartStep::Absent
 }
 
-// The last part of field n, empty where there is none: a part of the message, never of the store.
-pub fn text<'m, 's>(message: &'m [u8], store: &'s [u8], n: u64) -> &'m [u8]
-    ensures { λ r. ⌜ now r ≡ lastPart (partsOf n (fieldsOf (now (message .entry)))) ⌝ }
+// A part of a message: where it starts, and its length.
+pub struct Span {
+    pub start: usize,
+    pub length: usize,
+}
+
+// Where the last part of field n stands; an empty part where there is none.
+pub fn last_part(s: &[u8], n: u64) -> Span
+    ensures { λ r. ⌜ PartIs (now (s .entry)) (lastPart (partsOf n (fieldsOf (now (s .entry))))) (r .start) (r .length) ⌝ }
 {
     let mut at: usize = 0;
     let mut start: usize = 0;
-    let mut end: usize = 0;
+    let mut length: usize = 0;
     loop {
-        match next_part(message, at, n) {
+        match next_part(s, at, n) {
             PartStep::Absent => {
-                return &message[start..end];
+                return Span { start, length };
             }
             PartStep::Found(from, len, next) => {
                 start = from;
-                end = from + len;
+                length = len;
                 at = next;
             }
         }
     }
+}
+
+// The last part of field n, empty where there is none: a part of the message, never of the store.
+pub fn text<'m, 's>(message: &'m [u8], store: &'s [u8], n: u64) -> &'m [u8]
+    ensures { λ r. ⌜ now r ≡ lastPart (partsOf n (fieldsOf (now (message .entry)))) ⌝ }
+{
+    let p = last_part(message, n);
+    let start = p.start;
+    let end = start + p.length;
+    &message[start..end]
 }
 
 // The last number of field k in the singular message of field n, 0 where there is none.

@@ -7,31 +7,31 @@ use lib.ListN.{take, drop}
 use lib.ListN as list
 use borrow.Author.Needs.{needs}
 use Rattle.wire.specs.Fields.{fieldsOf}
 use Rattle.values.specs.declared.PartStep.{PartStep}
 use Rattle.values.specs.Values.{partsOf, lastPart}
 use Rattle.values.specs.Places.{NextPart}
 use Rattle.values.proofs.FrontLaws.{partsFrom}
 use Rattle.values.proofs.WalkLaws.{Kept, kept-done, kept-next, later, part-start}
-use Rattle.export.proofs.session_calls.last_part.Statement.{statement}
-use Rattle.export.proofs.session_calls.last_part.Tie as tie
-use Rattle.export.proofs.session_calls.last_part.Reads as reads
-use Rattle.export.proofs.session_calls.last_part.Lts as lts
+use Rattle.values.proofs.last_part.Statement.{statement}
+use Rattle.values.proofs.last_part.Tie as tie
+use Rattle.values.proofs.last_part.Reads as reads
+use Rattle.values.proofs.last_part.Lts as lts
 use Rattle.values.proofs.next_part.Reads as next-part-reads
 
 abbrev Inv-loop : tie.InvT-loop
-Inv-loop message n at₀ start₀ length₀ at start length =
-    (start + length ≤ list.length message)
-    × Kept later (lastPart (partsOf n (fieldsOf message))) (take length (drop start message)) (partsFrom n message at)
+Inv-loop s n at₀ start₀ length₀ at start length =
+    (start + length ≤ list.length s)
+    × Kept later (lastPart (partsOf n (fieldsOf s))) (take length (drop start s)) (partsFrom n s at)
 
 abbrev μ-loop : tie.MeasureT-loop
-μ-loop message n at₀ start₀ length₀ at start length = list.length message - at
+μ-loop s n at₀ start₀ length₀ at start length = list.length s - at
 
 -- the place where the next part is looked for
 abbrev Read : Type 0
 Read = lts.After-next-part (next-part-reads.Asked, next-part-reads.Learnt) reads.Pre reads.Post Inv-loop μ-loop
 
 step : (c : Read) (q : PartStep) → c .next-part .result ≡ q
-    → let a = c .before .before .before .args in NextPart (a .n) (a .message .now) (c .before .loop .at) q
+    → let a = c .before .before .before .args in NextPart (a .n) (a .s .now) (c .before .loop .at) q
 step c q e = subst (NextPart _ _ _) e (c .next-part .ensures)
 
 loop-holds : tie.Need-loop-holds Inv-loop μ-loop
