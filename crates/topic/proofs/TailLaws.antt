@@ -1,24 +1,32 @@
 -- Laws of tails: bytes put in front of an array's last bytes.
 --
--- In order: one byte (`tail-set`); bytes in front of bytes in front (`longer-append`); four hexadecimal digits (`longer-hex4`), and the
--- room that they leave (`room-hex4`); the loop over a number's decimal digits (`Counting`: `counting-start`, `counting-next`,
--- `counting-end`); the descriptor (`descriptor-is`), its part of the array, and its length (`descriptor-part`, `descriptor-from`).
+-- In order: one byte in front (`Longer`, `tail-set`, `longer-set`); a mark and four hexadecimal digits (`put-word`); the loop over a number's decimal digits
+-- (`Counting`: `counting-start`, `counting-next`, `counting-end`); the descriptor (`descriptor-is`), its part of the array, and its length
+-- (`descriptor-part`, `descriptor-from`).
 -- Assumes nothing.
 use Prim.Native.Nat.{ℕ, suc, _+_, _-_, _/_, _%_, _^_, _≤_, _<_}
 use native.Mathlib.Omega.{arith}
-use mathlib.Core.Path.{_≡_, sym, ap, _∙_, subst}
+use mathlib.Core.Path.{_≡_, refl, sym, ap, _∙_, subst}
 use mathlib.Core.List.{List, [], _∷_, _++_, append-assoc, append-nil}
-use lib.ListN.{length, take, drop, set, length-append, length-drop, drop-of-length-le}
+use lib.ListN.{length, take, drop, set, length-append, length-drop, length-set, drop-of-length-le}
 use lib.Seq.{length-take-le, set-split, drop-at}
 use Rattle.types.specs.declared.KeyRange.{KeyRange}
 use Rattle.types.specs.declared.SegmentId.{SegmentId}
 use Rattle.parts.proofs.PartLaws.{rest}
+use Rattle.packed_int.specs.Put.{put}
+use Rattle.packed_int.proofs.PutLaws.{put-one, put-snoc, put-after, length-put}
 use Rattle.topic.specs.Names.{hexDigit, hex4, decimalWithin, decimal, descriptor}
-use Rattle.topic.specs.Answers.{tailOf, Room, Longer, DecimalIs, DescriptorIs}
+use Rattle.topic.specs.Answers.{tailOf, Room, DecimalIs, DescriptorIs}
 use Rattle.topic.specs.declared.descriptor.Tail.{Tail}
 use Rattle.topic.proofs.NameLaws.{hex4-length, decimal-next, decimal-end, digits-fewer}
 
 -- ---- bytes in front
+
+-- r is t with the bytes bs in front
+pub record Longer (t : Tail) (bs : List ℕ) (r : Tail) : Type 0 where
+  pub long : length (r .bytes) ≡ 32
+  pub from : r .from + length bs ≡ t .from
+  pub tail : tailOf r ≡ bs ++ tailOf t
 
 pub tail-set : (l : List ℕ) (n b : ℕ) → 0 < n → n ≤ length l → drop (n - 1) (set l (n - 1) b) ≡ b ∷ drop n l
 tail-set l n b h k =
@@ -28,31 +36,26 @@ tail-set l n b h k =
     ∙ drop-at (take (n - 1) l) (b ∷ drop (suc (n - 1)) l) (n - 1) f
     ∙ rw e
 
-pub longer-append : (t q r : Tail) (a b : List ℕ) → Longer t a q → Longer q b r → Longer t (b ++ a) r
-longer-append t q r a b L M =
-    record {
-      long = M .long;
-      from = let e : length (b ++ a) ≡ length b + length a = length-append b a in omega (arith, L .from, M .from);
-      tail = M .tail ∙ ap (λ (l : List ℕ). b ++ l) (L .tail) ∙ sym (append-assoc b a (tailOf t));
-    }
+-- one byte stored right in front
+pub longer-set : (l : List ℕ) (n b : ℕ) → 0 < n → n ≤ 32 → length l ≡ 32
+    → Longer (record { bytes = l; from = n }) (b ∷ []) (record { bytes = set l (n - 1) b; from = n - 1 })
+longer-set l n b h k e =
+    record { long = simp length-set e; from = omega arith; tail = tail-set l n b h (omega arith) }
 
 -- ---- hexadecimal
 
-pub longer-hex4 : (v a b c d : ℕ) (t q r s u : Tail)
-    → a ≡ hexDigit (v % 16) → b ≡ hexDigit (v / 16 % 16) → c ≡ hexDigit (v / 256 % 16) → d ≡ hexDigit (v / 4096 % 16)
-    → Longer t (a ∷ []) q → Longer q (b ∷ []) r → Longer r (c ∷ []) s → Longer s (d ∷ []) u → Longer t (hex4 v) u
+-- a mark and four digits, stored one after the other
+pub put-word : (o : List ℕ) (at m v a b c d : ℕ) → at + 5 ≤ length o
+    → a ≡ hexDigit (v / 4096 % 16) → b ≡ hexDigit (v / 256 % 16) → c ≡ hexDigit (v / 16 % 16) → d ≡ hexDigit (v % 16)
+    → set (set (set (set (set o at m) (at + 1) a) (at + 2) b) (at + 3) c) (at + 4) d ≡ put o at (m ∷ hex4 v)
 unfolding hex4
-longer-hex4 v a b c d t q r s u ea eb ec ed A B C D =
-    let two : Longer t (b ∷ a ∷ []) r = longer-append t q r (a ∷ []) (b ∷ []) A B in
-    let three : Longer t (c ∷ b ∷ a ∷ []) s = longer-append t r s (b ∷ a ∷ []) (c ∷ []) two C in
-    let four : Longer t (d ∷ c ∷ b ∷ a ∷ []) u = longer-append t s u (c ∷ b ∷ a ∷ []) (d ∷ []) three D in
-    let e : d ∷ c ∷ b ∷ a ∷ [] ≡ hex4 v = rw (ed, ec, eb, ea) in
-    subst (λ (l : List ℕ). Longer t l u) e four
-
-pub room-hex4 : (v n : ℕ) {t r : Tail} → Longer t (hex4 v) r → Room (n + 4) t → Room n r
-room-hex4 v n L R =
-    let e = hex4-length v in
-    record { low = omega (arith, R .low, L .from); high = omega (arith, R .high, L .from); long = L .long }
+put-word o at m v a b c d h ea eb ec ed =
+    ap (λ (l : List ℕ). set (set (set (set l (at + 1) a) (at + 2) b) (at + 3) c) (at + 4) d) (put-one o at m (omega arith))
+    ∙ ap (λ (l : List ℕ). set (set (set l (at + 2) b) (at + 3) c) (at + 4) d) (put-snoc o at 1 (m ∷ []) a refl (omega arith))
+    ∙ ap (λ (l : List ℕ). set (set l (at + 3) c) (at + 4) d) (put-snoc o at 2 (m ∷ a ∷ []) b refl (omega arith))
+    ∙ ap (λ (l : List ℕ). set l (at + 4) d) (put-snoc o at 3 (m ∷ a ∷ b ∷ []) c refl (omega arith))
+    ∙ put-snoc o at 4 (m ∷ a ∷ b ∷ c ∷ []) d refl (omega arith)
+    ∙ rw (ea, eb, ec, ed)
 
 -- ---- decimal
 
@@ -103,18 +106,34 @@ module _ (id : ℕ) (r : Tail) (v : ℕ) (C : Counting id r v) (q : Tail) (b : �
 
 -- ---- the descriptor
 
-pub descriptor-is : (range : KeyRange) (id : SegmentId) (t a b c d r : Tail)
-    → DecimalIs (id .0) t → Longer t (0x2D ∷ []) a → Longer a (hex4 (range .end)) b → Longer b (0x2D ∷ []) c
-    → Longer c (hex4 (range .start)) d → Longer d (0x2F ∷ []) r
-    → DescriptorIs range id r
+-- what was put, and what stands behind it
+drop-put-at : (o : List ℕ) (at : ℕ) (A : List ℕ) → at ≤ length o → drop at (put o at A) ≡ A ++ drop (at + length A) o
+unfolding put
+drop-put-at o at A h = drop-at (take at o) (A ++ drop (at + length A) o) at (length-take-le at o h)
+
+-- the id, then two words and a mark right before it
+pub descriptor-is : (range : KeyRange) (id : SegmentId) (t : Tail) (at : ℕ) (a b : List ℕ) → DecimalIs (id .0) t → at + 11 ≡ t .from
+    → a ≡ put (t .bytes) at (0x2F ∷ hex4 (range .start)) → b ≡ put a (at + 5) (0x2D ∷ hex4 (range .end))
+    → DescriptorIs range id (record { bytes = set b (at + 10) 0x2D; from = at })
 unfolding descriptor
-descriptor-is range id t a b c d r D A B C E F =
-    let ha = hex4-length (range .end) in
-    let hb = hex4-length (range .start) in
+descriptor-is range id t at a b D f ea eb =
+    let o : List ℕ = t .bytes in
+    let A : List ℕ = 0x2F ∷ hex4 (range .start) in
+    let B : List ℕ = 0x2D ∷ hex4 (range .end) in
+    let W : List ℕ = (A ++ B) ++ (0x2D ∷ []) in
+    let la : length A ≡ 5 = ap suc (hex4-length (range .start)) in
+    let lb : length B ≡ 5 = ap suc (hex4-length (range .end)) in
+    let lab : length (A ++ B) ≡ 10 = length-append A B ∙ omega arith in
+    let lw : length W ≡ 11 = length-append (A ++ B) (0x2D ∷ []) ∙ omega arith in
+    let lo : length o ≡ 32 = D .room .long in
+    let high : t .from ≤ 32 = D .room .high in
+    let e : set b (at + 10) 0x2D ≡ put o at W =
+    ap (λ (l : List ℕ). set l (at + 10) 0x2D) (eb ∙ ap (λ (l : List ℕ). put l (at + 5) B) ea ∙ ap (λ (n : ℕ). put (put o at A) (at + n) B) (sym la) ∙ put-after o at A B (omega arith))
+    ∙ put-snoc o at 10 (A ++ B) 0x2D lab (omega arith) in
+    let g : at + length W ≡ t .from = omega arith in
     record {
-      room =
-          record { low = omega arith; high = omega (arith, D .room .high, A .from, B .from, C .from, E .from, F .from); long = F .long };
-      tail = F .tail ∙ simp (E .tail, C .tail, B .tail, A .tail, D .tail);
+      room = record { low = omega arith; high = omega arith; long = ap length e ∙ length-put o at W (omega arith) ∙ lo };
+      tail = ap (drop at) e ∙ drop-put-at o at W (omega arith) ∙ ap (λ (n : ℕ). W ++ drop n o) g ∙ ap (λ (l : List ℕ). W ++ l) (D .tail) ∙ simp append-assoc;
     }
 
 module _ (range : KeyRange) (id : SegmentId) (r : Tail) (D : DescriptorIs range id r) where

@@ -1,8 +1,8 @@
 -- What the helpers of src/ answer: the end of a name in an array.
 -- Assumes nothing.
-use Prim.Native.Nat.{ℕ, _+_, _≤_}
+use Prim.Native.Nat.{ℕ, _≤_}
 use mathlib.Core.Path.{_≡_}
-use mathlib.Core.List.{List, _++_}
+use mathlib.Core.List.{List}
 use lib.ListN.{length, drop}
 use Rattle.types.specs.declared.KeyRange.{KeyRange}
 use Rattle.types.specs.declared.SegmentId.{SegmentId}
@@ -18,12 +18,6 @@ pub record Room (n : ℕ) (t : Tail) : Type 0 where
   pub low : n ≤ t .from
   pub high : t .from ≤ 32
   pub long : length (t .bytes) ≡ 32
-
--- r is t with the bytes bs in front
-pub record Longer (t : Tail) (bs : List ℕ) (r : Tail) : Type 0 where
-  pub long : length (r .bytes) ≡ 32
-  pub from : r .from + length bs ≡ t .from
-  pub tail : tailOf r ≡ bs ++ tailOf t
 
 -- r is the number in decimal, and 12 bytes still fit
 pub record DecimalIs (id : ℕ) (r : Tail) : Type 0 where

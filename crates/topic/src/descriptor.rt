@@ -1,9 +1,11 @@
-// The end of a segment's name, `/ssss-eeee-id`, built from its last byte to its first in an array.
+// The end of a segment's name, `/ssss-eeee-id`, built in an array: the id from its last digit to its first, then what stands before it.
 ghost use mathlib.Core.Path.{_≡_};
-ghost use mathlib.Core.List.{[], _∷_};
-ghost use Prim.Native.Nat.{_+_, _<_};
+ghost use mathlib.Core.List.{_∷_};
+ghost use Prim.Native.Nat.{_+_, _≤_, _<_};
+ghost use lib.ListN.{length};
+ghost use Rattle.packed_int.specs.Put.{put};
 ghost use Rattle.topic.specs.Names.{hexDigit, hex4};
-ghost use Rattle.topic.specs.Answers.{Room, Longer, DecimalIs, DescriptorIs};
+ghost use Rattle.topic.specs.Answers.{DecimalIs, DescriptorIs};
 use types::KeyRange;
 use types::SegmentId;
 
@@ -13,39 +15,24 @@ pub struct Tail {
     pub from: usize,
 }
 
-// One byte more in front.
-fn put_byte(t: Tail, b: u8) -> Tail
-    requires { ⌜ Room 1 t ⌝ }
-    ensures { λ r. ⌜ Longer t (b ∷ []) r ⌝ }
-{
-    let at = t.from - 1;
-    let mut next = t;
-    next.bytes[at] = b;
-    next.from = at;
-    next
-}
-
-// The hexadecimal digit of a value.
+// The hexadecimal digit of a value: a letter stands 39 places behind where a tenth digit and those after it would.
 fn hex_digit(n: u32) -> u8
     requires { ⌜ n < 16 ⌝ }
     ensures { λ r. ⌜ r ≡ hexDigit n ⌝ }
 {
-    if n < 10 {
-        (0x30 + n) as u8
-    } else {
-        (0x57 + n) as u8
-    }
+    (0x30 + n + (n + 6) / 16 * 39) as u8
 }
 
-// Four hexadecimal digits in front.
-fn put_hex(t: Tail, v: u32) -> Tail
-    requires { ⌜ Room 4 t ⌝ }
-    ensures { λ r. ⌜ Longer t (hex4 v) r ⌝ }
+// Writes a mark and four hexadecimal digits from the place at on.
+fn put_word(out: &mut [u8], at: usize, mark: u8, v: u32)
+    requires { ⌜ at + 5 ≤ length (now out) ⌝ }
+    ensures { λ _. ⌜ now (out .exit) ≡ put (now (out .entry)) at (mark ∷ hex4 v) ⌝ }
 {
-    let a = put_byte(t, hex_digit(v % 16));
-    let b = put_byte(a, hex_digit(v / 16 % 16));
-    let c = put_byte(b, hex_digit(v / 256 % 16));
-    put_byte(c, hex_digit(v / 4096 % 16))
+    out[at] = mark;
+    out[at + 1] = hex_digit(v / 4096 % 16);
+    out[at + 2] = hex_digit(v / 256 % 16);
+    out[at + 3] = hex_digit(v / 16 % 16);
+    out[at + 4] = hex_digit(v % 16);
 }
 
 // The decimal digit of a value.
@@ -60,23 +47,28 @@ fn digit(v: u64) -> u8
 fn put_decimal(id: u64) -> Tail
     ensures { λ r. ⌜ DecimalIs id r ⌝ }
 {
-    let mut t = Tail {
-        bytes: [0; 32],
-        from: 32,
-    };
+    let mut bytes = [0u8; 32];
+    let mut from: usize = 32;
     let mut v = id;
     while 10 <= v {
-        t = put_byte(t, digit(v % 10));
+        from = from - 1;
+        bytes[from] = digit(v % 10);
         v = v / 10;
     }
-    put_byte(t, digit(v))
+    from = from - 1;
+    bytes[from] = digit(v);
+    Tail { bytes, from }
 }
 
 // What follows the path in the name of a segment.
 pub fn descriptor_of(range: KeyRange, id: SegmentId) -> Tail
     ensures { λ r. ⌜ DescriptorIs range id r ⌝ }
 {
-    let a = put_byte(put_decimal(id.0), b'-');
-    let b = put_byte(put_hex(a, range.end), b'-');
-    put_byte(put_hex(b, range.start), b'/')
+    let t = put_decimal(id.0);
+    let mut bytes = t.bytes;
+    let from = t.from - 11;
+    put_word(&mut bytes, from, b'/', range.start);
+    put_word(&mut bytes, from + 5, b'-', range.end);
+    bytes[from + 10] = b'-';
+    Tail { bytes, from }
 }

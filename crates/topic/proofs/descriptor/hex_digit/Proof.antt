@@ -1,29 +1,40 @@
 -- `hex_digit` meets its contract: below 10 a digit, else a letter.
 -- Assumes nothing.
+use Prim.Native.Nat.{ℕ, _+_, _*_, _/_, _≤_, _<_}
+use native.Mathlib.Decide.{decLe}
 use native.Mathlib.Omega.{arith}
+use mathlib.Core.Path.{_≡_}
 use borrow.Author.Needs.{needs}
 use borrow.Author.Tests.{lt-ltb, le-ltb}
+use Rattle.topic.specs.Names.{hexDigit}
 use Rattle.topic.proofs.descriptor.hex_digit.Statement.{statement}
 use Rattle.topic.proofs.descriptor.hex_digit.Tie as tie
+
+hex-value : (n : ℕ) → n < 16 → 0x30 + n + (n + 6) / 16 * 39 ≡ hexDigit n
+hex-value n k = go (decLe 10 n)
+  where
+    go : Dec (10 ≤ n) → 0x30 + n + (n + 6) / 16 * 39 ≡ hexDigit n
+    go (yes h) = rw (le-ltb n 10 h) (omega arith)
+    go (no h) = rw (lt-ltb n 10 (omega arith)) (omega arith)
 
 add-result : tie.Need-add-result
 add-result c = search needs
 
-cast-result : tie.Need-cast-result
-cast-result c = search needs
-
 add-result-2 : tie.Need-add-result-2
 add-result-2 c = search needs
 
-cast-result-2 : tie.Need-cast-result-2
-cast-result-2 c = search needs
+mul-result : tie.Need-mul-result
+mul-result c = search needs
+
+add-result-3 : tie.Need-add-result-3
+add-result-3 c = search needs
+
+cast-result : tie.Need-cast-result
+cast-result c = search needs
 
 returns : tie.Need-returns
-returns c = rw (lt-ltb (c .before .args .n) 10 (omega arith))
-
-returns-2 : tie.Need-returns-2
-returns-2 c = rw (le-ltb (c .before .args .n) 10 (omega arith))
+returns c = hex-value (c .args .n) (omega arith)
 
 pub hex-digit-spec : {M : Type 1} → statement M
 hex-digit-spec =
-    tie.close (tie.spec add-result cast-result add-result-2 cast-result-2 returns returns-2)
+    tie.close (tie.spec add-result add-result-2 mul-result add-result-3 cast-result returns)

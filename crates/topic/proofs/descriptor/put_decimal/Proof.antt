@@ -4,49 +4,53 @@
 use native.Mathlib.Omega.{arith}
 use mathlib.Core.Path.{refl}
 use borrow.Author.Needs.{needs}
-use Rattle.topic.proofs.TailLaws.{Counting, counting-start, counting-next, counting-end}
+use Rattle.topic.proofs.TailLaws.{Counting, longer-set, counting-start, counting-next, counting-end}
 use Rattle.topic.proofs.descriptor.put_decimal.Statement.{statement}
 use Rattle.topic.proofs.descriptor.put_decimal.Tie as tie
 
 abbrev Inv-loop : tie.InvT-loop
-Inv-loop id t₀ v₀ t v = Counting id t v
+Inv-loop id bytes₀ from₀ v₀ bytes from v = Counting id (record { bytes = bytes; from = from }) v
 
 abbrev μ-loop : tie.MeasureT-loop
-μ-loop id t₀ v₀ t v = v
+μ-loop id bytes₀ from₀ v₀ bytes from v = v
 
 loop-holds : tie.Need-loop-holds Inv-loop μ-loop
 loop-holds c = counting-start (c .args .id) _ refl refl (omega arith)
 
+sub-from : tie.Need-sub-from Inv-loop μ-loop
+sub-from c = omega (arith, c .before .loop .inv .room)
+
 digit-requires : tie.Need-digit-requires Inv-loop μ-loop
 digit-requires c κs = search needs
 
-put-byte-requires : tie.Need-put-byte-requires Inv-loop μ-loop
-put-byte-requires c κs =
-    let q = c .before .before .loop .inv .room in
-    record { low = omega arith; high = q .high; long = q .long }
+array-write-bytes : tie.Need-array-write-bytes Inv-loop μ-loop
+array-write-bytes c = omega (arith, c .before .before .loop .inv .room)
 
 loop-less : tie.Need-loop-less Inv-loop μ-loop
 loop-less c = omega arith
 
 loop-again : tie.Need-loop-again Inv-loop μ-loop
 loop-again c =
-    let a = c .before .before .before .before .args in
-    let l = c .before .before .before .loop in
-    counting-next (a .id) (l .t) (l .v) (l .inv) (c .put-byte .result) _ (c .put-byte .ensures) (c .before .digit .ensures) (omega arith)
+    let l = c .before .before .loop in
+    counting-next (c .before .before .before .args .id) _ (l .v) (l .inv) _ _
+    (longer-set (l .bytes) (l .from) (c .digit .result) (omega (arith, l .inv .room)) (l .inv .room .high) (l .inv .room .long))
+    (c .digit .ensures) (omega arith)
+
+sub-from-2 : tie.Need-sub-from-2 Inv-loop μ-loop
+sub-from-2 c = omega (arith, c .before .loop .inv .room)
 
 digit-requires-2 : tie.Need-digit-requires-2 Inv-loop μ-loop
 digit-requires-2 c κs = search needs
 
-put-byte-requires-2 : tie.Need-put-byte-requires-2 Inv-loop μ-loop
-put-byte-requires-2 c κs =
-    let q = c .before .before .loop .inv .room in
-    record { low = omega arith; high = q .high; long = q .long }
+array-write-bytes-2 : tie.Need-array-write-bytes-2 Inv-loop μ-loop
+array-write-bytes-2 c = omega (arith, c .before .before .loop .inv .room)
 
 returns : tie.Need-returns Inv-loop μ-loop
 returns c =
-    let a = c .before .before .before .before .args in
-    let l = c .before .before .before .loop in
-    counting-end (a .id) (l .t) (l .v) (l .inv) (c .put-byte2 .result) _ (c .put-byte2 .ensures) (c .before .digit2 .ensures) (omega arith)
+    let l = c .before .before .loop in
+    counting-end (c .before .before .before .args .id) _ (l .v) (l .inv) _ _
+    (longer-set (l .bytes) (l .from) (c .digit2 .result) (omega (arith, l .inv .room)) (l .inv .room .high) (l .inv .room .long))
+    (c .digit2 .ensures) (omega arith)
 
 pub put-decimal-spec : {M : Type 1} → statement M
 put-decimal-spec =
@@ -55,10 +59,12 @@ put-decimal-spec =
     Inv-loop
     μ-loop
     loop-holds
+    sub-from
     digit-requires
-    put-byte-requires
+    array-write-bytes
     loop-less
     loop-again
+    sub-from-2
     digit-requires-2
-    put-byte-requires-2
+    array-write-bytes-2
     returns)
