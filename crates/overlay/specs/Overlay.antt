@@ -4,12 +4,12 @@
 -- Assumes nothing.
 use Prim.Native.Nat.{ℕ, _+_, _*_, _≤_}
 use mathlib.Core.Path.{_≡_}
-use mathlib.Core.Bool.{Bool, true, false, cond}
+use mathlib.Core.Bool.{true, cond}
 use mathlib.Core.List.{List, [], _∷_}
 use lib.ListN.{length, drop}
 use lib.Dec.{ltb, eqb, leb}
 use Rattle.keyed.specs.Keyed.{self, insertAll}
-use Rattle.packed.specs.Assignment.{AssignedSegment, idOf, sizeSegments, segmentsOf, okFrom}
+use Rattle.packed.specs.Assignment.{AssignedSegment, idOf, sizeSegments, segmentsOf}
 use Rattle.packed.proofs.AssignmentLaws.{Rest}
 use Rattle.delta.specs.Delta.{idsOf, idsFrom}
 use Rattle.delta.specs.Join.{strike}
@@ -18,8 +18,6 @@ use Rattle.overlay.specs.declared.Step.{Step}
 use Rattle.overlay.specs.declared.Step.the-variants.{End, Strike, Pass, Keep, Gain}
 use Rattle.overlay.specs.declared.Fit.{Fit}
 use Rattle.overlay.specs.declared.Fit.the-variants.{Size, Beyond}
-use Rattle.overlay.specs.declared.Turn.{Turn}
-use Rattle.overlay.specs.declared.Turn.the-variants as turn
 
 -- ---- records
 
@@ -70,10 +68,3 @@ fitOf limit gs = cond (leb (sizeSegments gs) limit) (Size (length gs) (sizeSegme
 -- the ids of both rows
 unfoldable pub union : List ℕ → List ℕ → List ℕ
 union ids more = insertAll self more ids
-
--- whose first id comes next
-unfoldable pub turnOf : List ℕ → List ℕ → Turn
-turnOf [] [] = turn.End
-turnOf [] (j ∷ js) = turn.Second
-turnOf (i ∷ is) [] = turn.First
-turnOf (i ∷ is) (j ∷ js) = cond (ltb i j) turn.First (cond (ltb j i) turn.Second turn.Skip)
