@@ -1,9 +1,12 @@
 -- The reply of a refusal from its number and its values, and that the refusals which the program answers by one arm have no values.
 -- Assumes nothing.
-use Prim.Native.Nat.{ℕ, _^_, _<_}
-use mathlib.Core.Path.{_≡_, refl, sym, ap, ap₂, _∙_}
+use Prim.Native.Nat.{ℕ, _+_, _^_, _≤_, _<_}
+use native.Mathlib.Numerals.{add-one}
+use native.Mathlib.Omega.{arith}
+use mathlib.Core.Path.{_≡_, refl, sym, ap, ap₂, subst, _∙_}
 use mathlib.Core.List.{List, [], _∷_}
 use lib.IntN.{ℤ, pos}
+use lib.ListN.{length}
 use lib.Signed.{mag}
 use mir.Syntax.{w32}
 use mir.Val.{toZ, ofZ}
@@ -11,10 +14,13 @@ use mir.Facts.{toZ-ofZ}
 use types.Run.{OneOf, miss}
 use denote.Enum.Declared.{tagOf}
 use Rattle.types.specs.declared.SegmentId.{SegmentId}
+use Rattle.types.specs.declared.KeyRangeError.{KeyRangeError}
+use Rattle.types.specs.declared.KeyRangeError.the-variants.{StartOutOfBounds, EndOutOfBounds, Reversed}
+use Rattle.types.specs.KeyRanges.{kindOf, numbersOf}
 use Rattle.refusal.specs.declared.Refusal.{Refusal}
 use Rattle.refusal.proofs.Refusal.{the-type}
 use Rattle.refusal.specs.declared.Refusal.the-variants as refusal
-use Rattle.refusal.specs.Refusals.{numberOf, valuesOf}
+use Rattle.refusal.specs.Refusals.{numberOf, valuesOf, sourceValues}
 use Rattle.reply.specs.declared.Reply.{Reply}
 use Rattle.reply.specs.Replies.{wordOf, wordAt, replyWith, refusedReply}
 
@@ -25,6 +31,21 @@ plainReply n count a b d e = record { answer = 0; number = n; count = count; fir
 pub refused-reply : (x : Refusal) {n : ℕ} {vs : List ℤ} → n ≡ numberOf x → valuesOf x ≡ vs → replyWith 0 n vs ≡ refusedReply x
 unfolding refusedReply
 refused-reply x e f = ap₂ (replyWith 0) e (sym f)
+
+-- a refused range has at most three values
+pub source-count : (s : KeyRangeError) (n : ℕ) {r : Reply} → r ≡ replyWith 0 n (sourceValues s) → r .count ≤ 3
+unfolding replyWith kindOf numbersOf
+source-count (StartOutOfBounds start) n e = subst (λ (r : Reply). r .count ≤ 3) (sym e) (omega arith)
+source-count (EndOutOfBounds end) n e = subst (λ (r : Reply). r .count ≤ 3) (sym e) (omega arith)
+source-count (Reversed start end) n e = subst (λ (r : Reply). r .count ≤ 3) (sym e) (omega arith)
+
+-- the reply with one more value before its own, of which it has at most three
+pub reply-behind : (n id : ℕ) (vs : List ℤ) {r : Reply} → r ≡ replyWith 0 n vs
+    → plainReply n (r .count + 1) id (r .first) (r .second) (r .third) ≡ replyWith 0 n (pos id ∷ vs)
+unfolding replyWith wordAt wordOf
+reply-behind n id vs e =
+    ap (λ (r : Reply). plainReply n (r .count + 1) id (r .first) (r .second) (r .third)) e
+    ∙ ap (λ (k : ℕ). plainReply n k id (wordAt 0 vs) (wordAt 1 vs) (wordAt 2 vs)) (add-one (length vs))
 
 -- the word of an integer that the program handed over as its 32 bits
 word-back : {w : ℕ} (v : ℤ) → mag v < 2 ^ 31 → w ≡ wordOf (toZ w32 (ofZ w32 v)) → w ≡ wordOf v

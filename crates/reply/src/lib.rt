@@ -100,17 +100,7 @@ fn values(answer: u8, number: u8, count: u8, first: u64, second: u64) -> Reply
     }
 }
 
-// A refused range, behind the segment's id where there is one.
-fn segment_range(number: u8, id: u64, source: KeyRangeError) -> Reply
-    ensures { λ r. ⌜ r ≡ replyWith 0 number (pos id ∷ sourceValues source) ⌝ }
-{
-    match source {
-        KeyRangeError::StartOutOfBounds { start } => more(number, 3, id, 1, start as u64, 0),
-        KeyRangeError::EndOutOfBounds { end } => more(number, 3, id, 2, end as u64, 0),
-        KeyRangeError::Reversed { start, end } => more(number, 4, id, 3, start as u64, end as u64),
-    }
-}
-
+// A refused range: its kind, then its numbers.
 fn range(number: u8, source: KeyRangeError) -> Reply
     ensures { λ r. ⌜ r ≡ replyWith 0 number (sourceValues source) ⌝ }
 {
@@ -119,6 +109,14 @@ fn range(number: u8, source: KeyRangeError) -> Reply
         KeyRangeError::EndOutOfBounds { end } => more(number, 2, 2, end as u64, 0, 0),
         KeyRangeError::Reversed { start, end } => more(number, 3, 3, start as u64, end as u64, 0),
     }
+}
+
+// A segment's refused range: the same behind its id.
+fn segment_range(number: u8, id: u64, source: KeyRangeError) -> Reply
+    ensures { λ r. ⌜ r ≡ replyWith 0 number (pos id ∷ sourceValues source) ⌝ }
+{
+    let r = range(number, source);
+    more(number, r.count + 1, id, r.first, r.second, r.third)
 }
 
 // A refusal of up to four values.

@@ -1,80 +1,21 @@
--- `reply::segment_range` meets its contract.
--- Assumes nothing.
-use mathlib.Core.Path.{_≡_, ap, sym, _∙_}
-use mathlib.Core.List.{_∷_}
-use lib.IntN.{pos}
-use Rattle.types.specs.declared.KeyRangeError.{KeyRangeError}
-use Rattle.types.specs.KeyRanges.{kindOf, numbersOf}
-use Rattle.refusal.specs.Refusals.{sourceValues}
-use Rattle.reply.specs.declared.Reply.{Reply}
-use Rattle.reply.specs.Replies.{replyWith, wordAt, wordOf}
+-- `reply::segment_range` meets its contract: a range's values, and one before them (`reply-behind`). Assumes nothing.
+use mathlib.Core.Path.{_∙_}
 use borrow.Author.Needs.{needs}
+use Rattle.reply.proofs.ReplyLaws.{source-count, reply-behind}
 use Rattle.reply.proofs.segment_range.Statement.{statement}
 use Rattle.reply.proofs.segment_range.Tie as tie
 
-abbrev replyOf : tie.Start → KeyRangeError → Reply
-replyOf k v = replyWith 0 (k .args .number) (pos (k .args .id) ∷ sourceValues v)
+range-requires : tie.Need-range-requires
+range-requires c κs = search needs
 
--- the arm of a variant v
-arm : (k : tie.Start) {v : KeyRangeError} → k .args .source ≡ v → replyOf k v ≡ replyOf k (k .args .source)
-arm k e = ap (replyOf k) (sym e)
-
-enum-known-source : tie.Need-enum-known-source
-enum-known-source c = search needs
-
-cast-more : tie.Need-cast-more
-cast-more c = search needs
+add-more : tie.Need-add-more
+add-more c = let h = source-count _ _ (c .before .range .ensures) in search needs
 
 more-requires : tie.Need-more-requires
 more-requires c κs = search needs
 
-enum-known-source-2 : tie.Need-enum-known-source-2
-enum-known-source-2 c = search needs
-
-cast-more-2 : tie.Need-cast-more-2
-cast-more-2 c = search needs
-
-more-requires-2 : tie.Need-more-requires-2
-more-requires-2 c κs = search needs
-
-enum-known-source-3 : tie.Need-enum-known-source-3
-enum-known-source-3 c = search needs
-
-cast-more-3 : tie.Need-cast-more-3
-cast-more-3 c = search needs
-
-cast-more-4 : tie.Need-cast-more-4
-cast-more-4 c = search needs
-
-more-requires-3 : tie.Need-more-requires-3
-more-requires-3 c κs = search needs
-
 returns : tie.Need-returns
-unfolding replyWith wordAt wordOf kindOf numbersOf
-returns c = c .more .ensures ∙ arm (c .before .before .before .before) (c .before .before .source .given .1)
-
-returns-2 : tie.Need-returns-2
-unfolding replyWith wordAt wordOf kindOf numbersOf
-returns-2 c = c .more2 .ensures ∙ arm (c .before .before .before .before) (c .before .before .source2 .given .1)
-
-returns-3 : tie.Need-returns-3
-unfolding replyWith wordAt wordOf kindOf numbersOf
-returns-3 c = c .more3 .ensures ∙ arm (c .before .before .before .before) (c .before .before .source3 .given .1)
+returns c = c .more .ensures ∙ reply-behind _ _ _ (c .before .before .range .ensures)
 
 pub segment-range-spec : {M : Type 1} → statement M
-segment-range-spec =
-    tie.close
-    (tie.spec
-    enum-known-source
-    cast-more
-    more-requires
-    enum-known-source-2
-    cast-more-2
-    more-requires-2
-    enum-known-source-3
-    cast-more-3
-    cast-more-4
-    more-requires-3
-    returns
-    returns-2
-    returns-3)
+segment-range-spec = tie.close (tie.spec range-requires add-more more-requires returns)
