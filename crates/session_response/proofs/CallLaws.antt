@@ -1,12 +1,12 @@
 -- The response, refusal by refusal: each law gives the result of one way through it.
 --
--- In order: a result on bytes (`refused-out`, `given-out`, `registered-out`); an assignment, 26 and 27 (`assignment-below` to
--- `assignment-on`); content (`content-refused`, `content-taken`); a message that is valid (`valid-mismatch` to `valid-denied`); the call
--- (`call-short` to `call-out`).
+-- In order: what a message says (`response-epoch` to `plain-says`); a result on bytes (`refused-out`, `given-out`, `registered-out`); an
+-- assignment, 26 and 27 (`assignment-below` to `assignment-on`); content (`content-refused`, `content-taken`); a message that is valid
+-- (`valid-mismatch`, `valid-says`); the call (`message-bad` to `call-out`).
 -- Assumes nothing.
 use Prim.Native.Nat.{ℕ, _*_, _≤_, _<_}
 use mathlib.Core.Path.{_≡_, refl, sym, ap, ap₂, _∙_}
-use mathlib.Core.Bool.{Bool, true, false, not, cond, true≢false}
+use mathlib.Core.Bool.{Bool, true, false, not, cond}
 use mathlib.Core.List.{List}
 use mathlib.Core.Option.{Option, none}
 use lib.ListN.{length}
@@ -16,13 +16,15 @@ use Rattle.refusal.specs.declared.Refusal.{Refusal}
 use Rattle.refusal.specs.declared.Refusal.the-variants.{StoreTooShort, MalformedStore, IncarnationMismatch}
 use Rattle.refusal.specs.declared.Refusal.the-variants.{CrossIncarnationEpochRegression, StaleEpoch}
 use Rattle.schema.specs.declared.MessageKind.the-variants.{CommandScalableTopicSubscribeResponse}
-use Rattle.schema.specs.declared.Checked.{Checked}
 use Rattle.schema.specs.declared.Checked.the-variants as checked
 use Rattle.schema.specs.FirstFault.{firstFault}
 use Rattle.readers.specs.declared.ErrorCode.{ErrorCode}
 use Rattle.readers.specs.declared.ErrorCode.the-variants.{Given, Absent}
 use Rattle.readers.specs.declared.ResponseHead.{ResponseHead}
-use Rattle.readers.specs.Messages.{responseOf}
+use Rattle.wire.specs.Fields.{Field, fieldsOf}
+use Rattle.values.specs.Values.{partsOf, mergedFields}
+use Rattle.readers.specs.Messages.{WireResponse, present, responseOf}
+use Rattle.readers.specs.Messages as wire
 use Rattle.readers.specs.Places.{ResponseIs}
 use Rattle.packed_int.specs.Put.{put}
 use Rattle.packed.specs.Assignment.{ConsumerAssignment, encodeAssignment, assignmentOf}
@@ -36,12 +38,48 @@ use Rattle.session.specs.Session.{view, damaged, Result, refuse, unless, floorF
 use Rattle.session.specs.Response.{staleFault, lastList, replayable, denied}
 use Rattle.session.specs.Response.{responseAssignment, responseContent, responseValid, responseChecked, responseCall}
 use Rattle.session.specs.Calls.{outcome, effectOf, responseOutcome}
+use Rattle.intake.specs.declared.Intake.{Intake}
+use Rattle.intake.specs.declared.Intake.the-variants as intake
+use Rattle.session_intake.specs.Taken.{contentIn, Answers, PlainMessageTaken}
 use Rattle.session_record.specs.Floors.{belowFloor, floorValue}
 use Rattle.session_record.proofs.FloorLaws.{floor-below, floor-met}
 use Rattle.session_response.specs.declared.Stale.{Stale}
 use Rattle.session_response.specs.declared.Stale.the-variants as stale
-use Rattle.session_response.specs.Replay.{staleOf, staleRefusal, LastIs, deniedBy, registeredBy, registered}
+use Rattle.session_response.specs.Replay.{staleOf, staleRefusal, LastIs, deniedBy, responseSays, registeredBy, registered}
 use Rattle.session_response.proofs.ReplayLaws.{stale-fault, replayed-is}
+
+-- ---- what a message says
+
+module _ (st m : List ℕ) where
+  -- its epoch, by its fields
+  pub response-epoch : (epoch : ℕ) → epoch ≡ responseOf m .assignment .layoutEpoch
+      → epoch ≡ wire.assignmentOf (mergedFields 4 (fieldsOf m)) .layoutEpoch
+  unfolding responseOf
+  response-epoch epoch e = e
+
+  assignment-says : responseOf m .hasAssignment ≡ true → responseSays (topicOf (slot st 0)) (responseOf m) ≡ contentIn st 4 m
+  unfolding responseOf
+  assignment-says e = rw e refl
+
+  module _ (h : ResponseHead) (p : ResponseIs m h) (x : Intake) (b : List ℕ) where
+    pub assignment-answers : h .«has_assignment» ≡ true → Answers x b (contentIn st 4 m)
+        → Answers x b (responseSays (topicOf (slot st 0)) (responseOf m))
+    assignment-answers e a = rw (assignment-says (sym (p .has-assignment) ∙ e)) a
+
+  pub denial-answers : (h : ResponseHead) → ResponseIs m h → h .«has_assignment» ≡ false
+      → (b : List ℕ) (y : Refusal) → y ≡ deniedBy (h .error) (h .«request_id»)
+      → Answers (intake.Refused y) b (responseSays (topicOf (slot st 0)) (responseOf m))
+  denial-answers h p e b y g =
+      record {
+        is = rw (sym (p .has-assignment) ∙ e) (ap refused (sym (g ∙ ap₂ deniedBy (p .error) (p .id))));
+        ready = tt;
+      }
+
+  -- one in its usual form
+  pub plain-says : (id n : ℕ) (b : List ℕ) → PlainMessageTaken st m 4 id n b
+      → responseSays (topicOf (slot st 0)) (responseOf m) ≡ taken (assignmentOf b)
+  unfolding responseOf
+  plain-says id n b t = assignment-says (ap (λ (fs : List Field). present (partsOf 4 fs)) (t .fields)) ∙ t .answers .is
 
 module _ (r : SessionRecord) (st : List ℕ) where
   -- ---- a result on bytes
@@ -115,38 +153,38 @@ module _ (r : SessionRecord) (st : List ℕ) where
   unfolding responseContent
   content-taken q a e = rw e refl
 
-  -- ---- a message that is valid: 23, then 16 or 17
+  -- ---- a message that is valid: 23, then 16 or 17 or what its assignment comes to
 
-  module _ (m : List ℕ) (i : ControllerIncarnation) where
-    pub valid-mismatch : (i .0 ≡ r .incarnation .0 → ⊥)
-        → responseValid (view r st) i (responseOf m) ≡ refuse (IncarnationMismatch i (r .incarnation)) (view r st)
+  module _ (w : WireResponse) (i : ControllerIncarnation) where
+    pub valid-mismatch : (i .0 ≡ r .incarnation .0 → ⊥) → responseValid (view r st) i w ≡ refuse (IncarnationMismatch i (r .incarnation)) (view r st)
     unfolding responseValid view
     valid-mismatch f = rw (ne-eqb (i .0) (r .incarnation .0) f) refl
 
-    module _ (e : i .0 ≡ r .incarnation .0) (h : ResponseHead) (p : ResponseIs m h) where
-      pub valid-assigned : h .«has_assignment» ≡ true
-          → responseValid (view r st) i (responseOf m)
-          ≡ responseContent (view r st) (contentOf (topicOf (slot st 0)) (responseOf m .assignment))
-      unfolding responseValid view
-      valid-assigned f = rw (eq-eqb (i .0) (r .incarnation .0) e, sym (p .has-assignment) ∙ f) refl
+    pub valid-says : i .0 ≡ r .incarnation .0
+        → responseValid (view r st) i w ≡ responseContent (view r st) (responseSays (topicOf (slot st 0)) w)
+    unfolding responseValid responseContent view
+    valid-says e = rw (eq-eqb (i .0) (r .incarnation .0) e) (go (w .hasAssignment) (w .error))
+      where
+        go : (t : Bool) (c : ErrorCode)
+            → cond t (responseContent (view r st) (contentOf (topicOf (slot st 0)) (w .assignment))) (refuse (denied w c) (view r st))
+            ≡ responseContent (view r st) (cond t (contentOf (topicOf (slot st 0)) (w .assignment)) (refused (deniedBy c (w .requestId))))
+        go true c = refl
+        go false (Given code) = refl
+        go false Absent = refl
 
-      pub valid-denied : h .«has_assignment» ≡ false → (x : Refusal) → x ≡ deniedBy (h .error) (h .«request_id»)
-          → responseValid (view r st) i (responseOf m) ≡ refuse x (view r st)
-      unfolding responseValid view
-      valid-denied f x g =
-          rw (eq-eqb (i .0) (r .incarnation .0) e)
-          (otherwise (responseOf m .hasAssignment) _ _ (sym (p .has-assignment) ∙ f)
-          ∙ ap (λ (y : Refusal). refuse y (view r st)) (same (responseOf m .error) ∙ sym (g ∙ ap₂ deniedBy (p .error) (p .id))))
-        where
-          otherwise : (t : Bool) (y z : Result) → t ≡ false → cond t y z ≡ z
-          otherwise true y z k = absurd (true≢false k)
-          otherwise false y z k = refl
+  -- ---- the call: 1, 22, 3 to 7
 
-          same : (c : ErrorCode) → denied (responseOf m) c ≡ deniedBy c (responseOf m .requestId)
-          same (Given c) = refl
-          same Absent = refl
+  module _ (m : List ℕ) (i : ControllerIncarnation) where
+    -- what the scan leaves to say
+    abbrev pub Checks : Result → Type 0
+    Checks q = responseChecked (view r st) i m (firstFault CommandScalableTopicSubscribeResponse m) ≡ q
 
-    -- ---- the call: 1, 22, 3 to 7
+    pub message-bad : (z : Refusal) → firstFault CommandScalableTopicSubscribeResponse m ≡ checked.Refused z → Checks (refuse z (view r st))
+    message-bad z e = ap (responseChecked (view r st) i m) e
+
+    pub message-valid : firstFault CommandScalableTopicSubscribeResponse m ≡ checked.Valid
+        → Checks (responseValid (view r st) i (responseOf m))
+    message-valid e = ap (responseChecked (view r st) i m) e
 
     pub call-short : length st < 6144 → responseCall (view r st) m i ≡ refuse StoreTooShort (view r st)
     unfolding responseCall view
@@ -161,16 +199,9 @@ module _ (r : SessionRecord) (st : List ℕ) where
         pub undamaged : damaged (view r st) ≡ false
         undamaged = not-true (damaged (view r st)) (sym s ∙ not-false x f)
 
-        module _ (y : Checked) (e : y ≡ firstFault CommandScalableTopicSubscribeResponse m) where
-          checked-decides : responseCall (view r st) m i ≡ responseChecked (view r st) i m y
-          unfolding responseCall view
-          checked-decides = rw (le-ltb (length st) 6144 h, undamaged, e) refl
-
-          pub call-faulty : (z : Refusal) → y ≡ checked.Refused z → responseCall (view r st) m i ≡ refuse z (view r st)
-          call-faulty z k = checked-decides ∙ ap (responseChecked (view r st) i m) k
-
-          pub call-valid : y ≡ checked.Valid → responseCall (view r st) m i ≡ responseValid (view r st) i (responseOf m)
-          call-valid k = checked-decides ∙ ap (responseChecked (view r st) i m) k
+        pub call-sound : responseCall (view r st) m i ≡ responseChecked (view r st) i m (firstFault CommandScalableTopicSubscribeResponse m)
+        unfolding responseCall view
+        call-sound = rw (le-ltb (length st) 6144 h, undamaged) refl
 
   -- as the call on bytes
   pub call-out : (c : Changed) (st′ m : List ℕ) (i : ControllerIncarnation)

@@ -1,40 +1,27 @@
--- The replay of the queue, and the buffers of a response.
+-- The replay of the queue, and its last list in a buffer.
 --
 -- In order: epochs (`buffer-epoch`, `slot-epoch`); the queue's epochs from one on (`stale-end`, `stale-here`, `stale-next`), and the fault
 -- that they are (`stale-fault`); the last list (`last-none`, `last-some`); the queue that is replayed (`replayed-is`, `replayed-room`,
--- `replayed-start`); the topic (`topic-short`, `topic-is`); what intake leaves (`taken-in`, `refused-in`).
+-- `replayed-start`).
 -- Assumes nothing.
 use Prim.Native.Nat.{ℕ, zero, suc, _+_, _-_, _*_, _≤_, _<_}
-use native.Mathlib.Nat.{add-sub-cancel-left, not-suc-le-zero}
+use native.Mathlib.Nat.{not-suc-le-zero}
 use native.Mathlib.Omega.{arith}
 use mathlib.Core.Path.{_≡_, refl, sym, ap, _∙_, subst}
 use mathlib.Core.Bool.{Bool, true, false, cond, not}
 use mathlib.Core.List.{List, [], _∷_, _++_, append-nil}
-use lib.ListN.{length, take, drop, getD, drop-of-length-le}
+use lib.ListN.{length, take, drop, drop-of-length-le}
 use lib.Seq.{take-take, take-all}
-use lib.Dec.{leb, ltb}
-use borrow.Author.Tests.{le-ltb, lt-ltb, leb-true}
-use Rattle.refusal.specs.declared.Refusal.{Refusal}
-use Rattle.parts.proofs.PartLaws.{drop-take, Bytes}
-use Rattle.ranges.specs.Meaning.{both-true}
+use lib.Dec.{ltb}
+use borrow.Author.Tests.{le-ltb, lt-ltb}
 use Rattle.packed_int.specs.Be.{be, beAt}
 use Rattle.packed_int.specs.Put.{put}
-use Rattle.packed_int.proofs.PutLaws.{length-put}
-use Rattle.readers.specs.Messages.{responseOf}
-use Rattle.packed.specs.Assignment.{ConsumerAssignment, num, encodeAssignment, sizeAssignment, okAssignment, assignmentOf, startsAssignment}
-use Rattle.packed.proofs.RoundLaws.{FitAssignment, length-encodeAssignment, read-assignment, starts-encode}
-use Rattle.content.specs.Content.{Content, refused, taken, contentOf}
-use Rattle.content.proofs.ContentLaws.{content-fits}
-use Rattle.content.proofs.WideLaws.{response-wide}
-use Rattle.intake.specs.declared.Intake.{Intake}
-use Rattle.intake.specs.declared.Intake.the-variants as intake
-use Rattle.intake.specs.Intake.{IntakeIs}
+use Rattle.packed.specs.Assignment.{ConsumerAssignment, num, sizeAssignment, assignmentOf, startsAssignment}
 use Rattle.session.specs.declared.SessionRecord.{SessionRecord}
 use Rattle.session.specs.Store.{slot, listIn, listsIn, allStart}
-use Rattle.session.specs.Identity.{topicOf, isIdentity}
 use Rattle.session.specs.Session.{view, damaged}
 use Rattle.session.specs.Response.{staleFault, lastList, replayable}
-use Rattle.session.proofs.SlotLaws.{length-slot, size-ok}
+use Rattle.session.proofs.SlotLaws.{length-slot}
 use Rattle.session_store.specs.Scratch.{Scratch}
 use Rattle.session_store.proofs.StoreLaws.{part-slot, all-start-at, queue-room, queue-starts}
 use Rattle.session_response.specs.declared.Stale.the-variants.{Nowhere, At}
@@ -160,75 +147,3 @@ module _ (r : SessionRecord) (st : List ℕ) where
         go : (t : Bool) → allStart st 3 (cond t 0 (r .«queue_count»)) ≡ true
         go true = refl
         go false = queue-starts r st (ap not d)
-
--- ---- the topic
-
-topic-front : (st : List ℕ) → beAt 2 (slot st 0) 0 ≡ beAt 2 st 0
-unfolding beAt slot
-topic-front st = ap be (take-take 2 2048 st (omega arith))
-
-topic-cut : (st : List ℕ) (n : ℕ) → n ≤ 2041 → take n (drop 7 (slot st 0)) ≡ take n (drop 7 st)
-unfolding slot
-topic-cut st n h = ap (take n) (drop-take 7 2041 st) ∙ take-take n 2041 (drop 7 st) h
-
-texts-fit : (l : List ℕ) → isIdentity l ≡ true → beAt 2 l 0 + beAt 2 l 2 + beAt 2 l 4 ≤ 2041
-unfolding isIdentity
-texts-fit l e =
-    let n : ℕ = beAt 2 l 0 + beAt 2 l 2 + beAt 2 l 4 in
-    leb-true n 2041 (both-true (leb n 2041) _ (both-true (leb (getD l 6 0) 1) _ e .1) .0)
-
-module _ (st : List ℕ) (n : ℕ) (e : n ≡ beAt 2 st 0) (h : isIdentity (slot st 0) ≡ true) where
-  pub topic-short : n ≤ 2041
-  topic-short = omega (arith, e, topic-front st, texts-fit (slot st 0) h)
-
-  -- the part that a program lends: `&store[7..7 + len]`
-  pub topic-is : take (7 + n - 7) (drop 7 st) ≡ topicOf (slot st 0)
-  unfolding topicOf
-  topic-is =
-      ap (λ (k : ℕ). take k (drop 7 st)) (add-sub-cancel-left 7 n) ∙ sym (topic-cut st n topic-short)
-      ∙ ap (λ (k : ℕ). take k (drop 7 (slot st 0))) (e ∙ sym (topic-front st))
-
--- ---- what intake leaves in a buffer
-
-pub record TakenIn (b : List ℕ) (n : ℕ) (q : Content) : Type 0 where
-  pub is : q ≡ taken (assignmentOf b)
-  pub scratch : Scratch b n
-
-clash : {A : Type 0} (x : Refusal) (n : ℕ) → intake.Refused x ≡ intake.Taken n → A
-clash x n e = let z : _≡_ {A = ℕ} 0 1 = cc in absurd (omega arith)
-
-scratch-put : (a : ConsumerAssignment) (b b′ : List ℕ) (n : ℕ) → length b ≡ 2048 → FitAssignment a → okAssignment a ≡ true
-    → n ≡ sizeAssignment a → b′ ≡ put b 0 (encodeAssignment a) → TakenIn b′ n (taken a)
-unfolding put
-scratch-put a b b′ n l f o e w =
-    let z : length (encodeAssignment a) ≡ sizeAssignment a = length-encodeAssignment a in
-    let v : assignmentOf b′ ≡ a = ap assignmentOf w ∙ read-assignment a (drop (0 + length (encodeAssignment a)) b) f in
-    record {
-      is = ap taken (sym v);
-      scratch =
-          record {
-            long = ap length w ∙ length-put b 0 (encodeAssignment a) (omega (arith, size-ok a o)) ∙ l;
-            starts = ap startsAssignment w ∙ starts-encode a (drop (0 + length (encodeAssignment a)) b) f o;
-            size = e ∙ ap sizeAssignment (sym v);
-          };
-    }
-
-module _ (parent m b b′ : List ℕ) (x : Intake) (i : IntakeIs b x b′ (contentOf parent (responseOf m .assignment))) where
-  pub taken-in : (n : ℕ) → x ≡ intake.Taken n → length b ≡ 2048 → Bytes m → TakenIn b′ n (contentOf parent (responseOf m .assignment))
-  taken-in n e l h = go (contentOf parent (responseOf m .assignment)) refl i
-    where
-      same-size : (j k : ℕ) → intake.Taken j ≡ intake.Taken k → j ≡ k
-      same-size j k f = cc
-
-      go : (q : Content) → contentOf parent (responseOf m .assignment) ≡ q → IntakeIs b x b′ q → TakenIn b′ n q
-      go (refused y) f j = clash y n (sym j ∙ e)
-      go (taken a) f j =
-          let p : FitAssignment a × (okAssignment a ≡ true) = content-fits parent (responseOf m .assignment) (response-wide m h) a f in
-          scratch-put a b b′ n l (p .0) (p .1) (same-size n (sizeAssignment a) (sym e ∙ j .0)) (j .1)
-
-  pub refused-in : (y : Refusal) → x ≡ intake.Refused y → contentOf parent (responseOf m .assignment) ≡ refused y
-  refused-in y e = go (contentOf parent (responseOf m .assignment)) i
-    where
-      go : (q : Content) → IntakeIs b x b′ q → q ≡ refused y
-      go (refused z) j = let f : intake.Refused z ≡ intake.Refused y = sym j ∙ e in let g : z ≡ y = cc in ap refused g
-      go (taken a) j = clash y _ (sym e ∙ j .0)

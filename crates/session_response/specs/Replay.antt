@@ -10,7 +10,9 @@ use Rattle.refusal.specs.declared.Refusal.{Refusal}
 use Rattle.refusal.specs.declared.Refusal.the-variants.{Broker, Empty, StaleEpoch}
 use Rattle.readers.specs.declared.ErrorCode.{ErrorCode}
 use Rattle.readers.specs.declared.ErrorCode.the-variants.{Given, Absent}
+use Rattle.readers.specs.Messages.{WireResponse}
 use Rattle.packed.specs.Assignment.{ConsumerAssignment, assignmentOf}
+use Rattle.content.specs.Content.{Content, refused, contentOf}
 use Rattle.session.specs.Store.{listsIn}
 use Rattle.session.specs.declared.SessionRecord.{SessionRecord}
 use Rattle.session.specs.Session.{Session, Result, raise}
@@ -38,6 +40,10 @@ pub record LastIs (store b : List ℕ) (n size : ℕ) (last : List ℕ) : Type 0
 abbrev pub deniedBy : ErrorCode → ℕ → Refusal
 deniedBy (Given code) request = Broker code
 deniedBy Absent request = Empty request
+
+-- its assignment's content, or else 16 or 17
+abbrev pub responseSays : List ℕ → WireResponse → Content
+responseSays topic w = cond (w .hasAssignment) (contentOf topic (w .assignment)) (refused (deniedBy (w .error) (w .requestId)))
 
 -- the record behind an accepted response, whose last list has that epoch
 abbrev pub registeredBy : SessionRecord → ℕ → ℕ → SessionRecord

@@ -7,17 +7,17 @@ ghost use mathlib.Core.Bool.{true, false, cond};
 ghost use mathlib.Core.List.{List};
 ghost use Prim.Native.Nat.{ℕ, _+_, _*_, _≤_};
 ghost use lib.ListN.{length};
-ghost use Rattle.readers.specs.Messages.{responseOf};
+ghost use Rattle.schema.specs.FirstFault.{firstFault};
+ghost use Rattle.readers.specs.Messages.{WireResponse, responseOf};
 ghost use Rattle.packed.specs.Assignment as packed-form;
-ghost use Rattle.content.specs.Content.{contentOf};
-ghost use Rattle.intake.specs.Intake.{IntakeIs};
 ghost use Rattle.session.specs.Store.{slot, listsIn, allStart};
 ghost use Rattle.session.specs.Identity.{topicOf, isIdentity};
 ghost use Rattle.session.specs.Session.{view, damaged};
-ghost use Rattle.session.specs.Response.{responseAssignment, responseContent, responseValid};
+ghost use Rattle.session.specs.Response.{responseAssignment, responseValid, responseChecked};
 ghost use Rattle.session.specs.Calls.{outcome, effectOf, responseOutcome};
 ghost use Rattle.session_store.specs.Scratch.{Scratch};
-ghost use Rattle.session_response.specs.Replay.{staleOf, LastIs, deniedBy, registeredBy, registered};
+ghost use Rattle.session_intake.specs.Taken.{contentFrom, Ready, Answers};
+ghost use Rattle.session_response.specs.Replay.{staleOf, LastIs, deniedBy, responseSays, registeredBy, registered};
 use intake::Intake;
 use messages::Checked;
 use messages::MessageKind;
@@ -27,6 +27,7 @@ use refusal::Refusal;
 use session::Answer;
 use session::Changed;
 use session::SessionRecord;
+use session_intake::PlainMessage;
 use types::ControllerIncarnation;
 
 // An epoch of the queue that lies below the one before it: both.
@@ -143,31 +144,6 @@ fn assigned(r: SessionRecord, store: &mut [u8], b: &[u8], size: usize) -> Change
     }
 }
 
-// Takes the response's assignment into the buffer.
-fn take_assignment(store: &[u8], message: &[u8], epoch: u64, b: &mut [u8]) -> Intake
-    requires { ⌜ (6144 ≤ length (now store)) × (length (now b) ≡ 2048) ⌝ }
-    requires { ⌜ isIdentity (slot (now store) 0) ≡ true ⌝ }
-    requires { ⌜ epoch ≡ responseOf (now message) .assignment .layoutEpoch ⌝ }
-    ensures { λ x. ⌜ IntakeIs (now (b .entry)) x (now (b .exit)) (contentOf (topicOf (slot (now (store .entry)) 0)) (responseOf (now (message .entry)) .assignment)) ⌝ }
-{
-    let len = packed_int::read_u16(store, 0) as usize;
-    intake::take_in(message, 4, &store[7..7 + len], epoch, b)
-}
-
-// A response with an assignment.
-fn taken(r: SessionRecord, store: &mut [u8], message: &[u8], epoch: u64) -> Changed
-    requires { ⌜ (6144 ≤ length (now store)) × (damaged (view r (now store)) ≡ false) ⌝ }
-    requires { ⌜ epoch ≡ responseOf (now message) .assignment .layoutEpoch ⌝ }
-    ensures { λ x. ⌜ ((out : List ℕ) → outcome (x .answer) (x .next) (now (store .exit)) out
-        ≡ effectOf (responseContent (view r (now (store .entry))) (contentOf (topicOf (slot (now (store .entry)) 0)) (responseOf (now (message .entry)) .assignment))) (now (store .entry)) out) ⌝ }
-{
-    let mut b = [0u8; 2048];
-    match take_assignment(store, message, epoch, &mut b) {
-        Intake::Refused(x) => session_record::refuse(r, x),
-        Intake::Taken(size) => assigned(r, store, &b, size),
-    }
-}
-
 // The refusal of a response without an assignment: 16, or 17.
 fn denial(error: ErrorCode, request_id: u64) -> Refusal
     ensures { λ x. ⌜ x ≡ deniedBy error «request_id» ⌝ }
@@ -178,16 +154,33 @@ fn denial(error: ErrorCode, request_id: u64) -> Refusal
     }
 }
 
-// A response whose message is valid.
-fn valid(
+// What a response comes to: its assignment, taken into the buffer or refused, or else 16 or 17.
+fn take_response(store: &[u8], message: &[u8], b: &mut [u8]) -> Intake
+    requires { ⌜ (6144 ≤ length (now store)) × (isIdentity (slot (now store) 0) ≡ true) ⌝ }
+    requires { ⌜ length (now b) ≡ 2048 ⌝ }
+    ensures { λ x. ⌜ Answers x (now (b .exit)) (responseSays (topicOf (slot (now (store .entry)) 0)) (responseOf (now (message .entry)))) ⌝ }
+{
+    let head = readers::read_response(message);
+    if head.has_assignment {
+        return session_intake::take_assignment(store, message, 4, head.layout_epoch, b);
+    }
+    let error = head.error;
+    Intake::Refused(denial(error, head.request_id))
+}
+
+// A valid response, whose assignment is in the buffer, or that is refused. Refused in order: 23, 16 or 17 or 9 to 15, 26, 27.
+fn answered(
     r: SessionRecord,
     store: &mut [u8],
-    message: &[u8],
     incarnation: ControllerIncarnation,
+    intake: Intake,
+    b: &[u8],
 ) -> Changed
     requires { ⌜ (6144 ≤ length (now store)) × (damaged (view r (now store)) ≡ false) ⌝ }
-    ensures { λ x. ⌜ ((out : List ℕ) → outcome (x .answer) (x .next) (now (store .exit)) out
-        ≡ effectOf (responseValid (view r (now (store .entry))) incarnation (responseOf (now (message .entry)))) (now (store .entry)) out) ⌝ }
+    requires { ⌜ Ready intake (now b) ⌝ }
+    ensures { λ x. ⌜ ((w : WireResponse) → responseSays (topicOf (slot (now (store .entry)) 0)) w ≡ contentFrom intake (now (b .entry))
+        → (out : List ℕ) → outcome (x .answer) (x .next) (now (store .exit)) out
+        ≡ effectOf (responseValid (view r (now (store .entry))) incarnation w) (now (store .entry)) out) ⌝ }
 {
     let expected = r.incarnation;
     if incarnation.0 != expected.0 {
@@ -199,12 +192,32 @@ fn valid(
             },
         );
     }
-    let head = readers::read_response(message);
-    if head.has_assignment {
-        return taken(r, store, message, head.layout_epoch);
+    match intake {
+        Intake::Refused(x) => session_record::refuse(r, x),
+        Intake::Taken(size) => assigned(r, store, b, size),
     }
-    let error = head.error;
-    session_record::refuse(r, denial(error, head.request_id))
+}
+
+// A response in any form: its message is scanned, 3 to 7, and read.
+fn scanned(
+    r: SessionRecord,
+    store: &mut [u8],
+    message: &[u8],
+    incarnation: ControllerIncarnation,
+    b: &mut [u8],
+) -> Changed
+    requires { ⌜ (6144 ≤ length (now store)) × (damaged (view r (now store)) ≡ false) ⌝ }
+    requires { ⌜ length (now b) ≡ 2048 ⌝ }
+    ensures { λ x. ⌜ ((out : List ℕ) → outcome (x .answer) (x .next) (now (store .exit)) out
+        ≡ effectOf (responseChecked (view r (now (store .entry))) incarnation (now (message .entry)) (firstFault MessageKind.CommandScalableTopicSubscribeResponse (now (message .entry)))) (now (store .entry)) out) ⌝ }
+{
+    match messages::first_fault(MessageKind::CommandScalableTopicSubscribeResponse, message) {
+        Checked::Refused(x) => session_record::refuse(r, x),
+        Checked::Valid => {
+            let intake = take_response(store, message, b);
+            answered(r, store, incarnation, intake, b)
+        }
+    }
 }
 
 // The response. Refused in order: 1, 22, 3 to 7, 23, 16 or 17, 9 to 15, 26, 27. The broker's text of a 16 is `broker_text`.
@@ -223,9 +236,10 @@ pub fn responded(
     if !session_store::is_sound(r, store) {
         return session_record::refuse(r, Refusal::MalformedStore);
     }
-    match messages::first_fault(MessageKind::CommandScalableTopicSubscribeResponse, message) {
-        Checked::Refused(x) => session_record::refuse(r, x),
-        Checked::Valid => valid(r, store, message, incarnation),
+    let mut b = [0u8; 2048];
+    match session_intake::take_plain_message(store, message, 4, &mut b) {
+        PlainMessage::Taken(_, size) => { answered(r, store, incarnation, Intake::Taken(size), &b) }
+        PlainMessage::Other => scanned(r, store, message, incarnation, &mut b),
     }
 }
 

@@ -1,2 +1,1 @@
 mod UpdateLaws
-mod TakenLaws

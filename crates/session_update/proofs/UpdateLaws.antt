@@ -1,8 +1,9 @@
 -- The cases of an update, one law for each answer of the functions.
 --
--- In order: epochs and the list where they lie (`buffer-epoch` to `list-starts`); an unregistered session (`epoch-low`, `queue-full`,
+-- In order: epochs and the list where they lie (`buffer-epoch` to `list-starts`); a sound store (`identity-good` to `list-good`); an unregistered session (`epoch-low`, `queue-full`,
 -- `queue-joined`); a registered one (`list-same`, `epoch-stale`, `list-held`); what the assignment comes to (`content-refuses` to
--- `content-joins`); link and consumer (`other-link`, `other-consumer`, `addressed`); the call (`store-short` to `call-valid`).
+-- `content-joins`); link and consumer (`other-link`, `other-consumer`, `addressed`); the message (`update-epoch` to `message-valid`); the
+-- call (`store-good` to `call-sound`).
 -- Assumes nothing.
 use Prim.Native.Nat.{ℕ, _+_, _*_, _≤_, _<_}
 use native.Mathlib.Omega.{arith}
@@ -18,7 +19,10 @@ use Rattle.refusal.specs.declared.Refusal.the-variants as refusal
 use Rattle.schema.specs.declared.Checked.the-variants as checked
 use Rattle.schema.specs.declared.MessageKind.the-variants.{CommandScalableTopicAssignmentUpdate}
 use Rattle.schema.specs.FirstFault.{firstFault}
+use Rattle.wire.specs.Fields.{fieldsOf}
+use Rattle.values.specs.Values.{mergedFields, numberIn}
 use Rattle.readers.specs.Messages.{WireUpdate, updateOf}
+use Rattle.readers.specs.Messages as wire
 use Rattle.packed_int.specs.Be.{be, beAt}
 use Rattle.packed_int.specs.Put.{put}
 use Rattle.packed.specs.Assignment.{ConsumerAssignment, encodeAssignment, num, assignmentOf, startsAssignment}
@@ -31,13 +35,16 @@ use Rattle.session.specs.declared.Changed.{Changed}
 use Rattle.session.specs.declared.Floor.{Floor}
 use Rattle.session.specs.declared.Answer.the-variants.{Refused, Unchanged, Delta}
 use Rattle.session.specs.Store.{slot, depthOf, listIn, writeSlot}
-use Rattle.session.specs.Identity.{topicOf}
+use Rattle.session.specs.Identity.{topicOf, isIdentity}
 use Rattle.session.specs.Session.{view, damaged, raise}
-use Rattle.session.specs.Update.{withQueueCount, withFloor, updateUnregistered, updateRegistered, updateContent, updateValid, updateCall}
+use Rattle.session.specs.Update.{withQueueCount, withFloor, updateUnregistered, updateRegistered, updateContent, updateValid}
+use Rattle.session.specs.Update.{updateChecked, updateCall}
 use Rattle.session.specs.Calls.{Outcome, outcome, effectOf, updateOutcome}
 use Rattle.session_record.specs.Floors.{belowFloor, floorValue}
 use Rattle.session_record.proofs.FloorLaws.{floor-below, floor-met}
-use Rattle.session_store.proofs.StoreLaws.{slot-at}
+use Rattle.session_store.proofs.StoreLaws.{slot-at, count-in, lists-start}
+use Rattle.session_store.proofs.StoreLaws as store
+use Rattle.session_intake.specs.Taken.{contentIn, PlainMessageTaken}
 
 -- what is answered, with the record, is the outcome
 pub told : (st out : List ℕ) {z : Outcome} {x y : Changed} → x ≡ y → outcome (y .answer) (y .next) st out ≡ z
@@ -60,6 +67,18 @@ list-there st = ap assignmentOf (slot-at st 2)
 
 pub list-starts : (st : List ℕ) → startsAssignment (slot st 2) ≡ true → startsAssignment (take 2048 (drop 4096 st)) ≡ true
 list-starts st h = ap startsAssignment (slot-at st 2) ∙ h
+
+-- ---- a store that is not damaged
+
+module _ (r : SessionRecord) (st : List ℕ) (e : damaged (view r st) ≡ false) where
+  pub identity-good : isIdentity (slot st 0) ≡ true
+  identity-good = store.identity-good r st (ap not e)
+
+  pub count-good : r .«queue_count» ≤ depthOf (length st)
+  count-good = count-in r st (ap not e)
+
+  pub list-good : r .registered ≡ true → startsAssignment (slot st 2) ≡ true
+  list-good h = lists-start r st (ap not e) h .1
 
 -- ---- unregistered
 
@@ -162,6 +181,37 @@ module _ (r : SessionRecord) (st out : List ℕ) (incarnation : ControllerIncarn
     addressed k w =
         w ∙ rw (eq-eqb (incarnation .0) (r .incarnation .0) h, eq-eqb (u .consumerId) (r .«consumer_id») (sym e ∙ k))
 
+-- ---- the message
+
+module _ (m : List ℕ) where
+  -- its epoch, and what its assignment comes to, by its fields
+  pub update-epoch : (epoch : ℕ) → epoch ≡ updateOf m .assignment .layoutEpoch
+      → epoch ≡ wire.assignmentOf (mergedFields 2 (fieldsOf m)) .layoutEpoch
+  unfolding updateOf
+  update-epoch epoch e = e
+
+  pub update-content : (st : List ℕ) {c : Content} → contentIn st 2 m ≡ c → contentOf (topicOf (slot st 0)) (updateOf m .assignment) ≡ c
+  unfolding updateOf
+  update-content st e = e
+
+  -- its consumer, where it has its usual form
+  pub plain-consumer : (st b : List ℕ) (id n : ℕ) → PlainMessageTaken st m 2 id n b → id ≡ updateOf m .consumerId
+  unfolding updateOf
+  plain-consumer st b id n t = sym (ap (numberIn 1) (t .fields))
+
+module _ (r : SessionRecord) (st m : List ℕ) (incarnation : ControllerIncarnation) (out : List ℕ) where
+  -- what the scan leaves to say
+  abbrev pub Scanned : Outcome → Type 0
+  Scanned z = z ≡ effectOf (updateChecked (view r st) incarnation m (firstFault CommandScalableTopicAssignmentUpdate m)) st out
+
+  pub message-bad : (y : Refusal) → firstFault CommandScalableTopicAssignmentUpdate m ≡ checked.Refused y → Scanned (outcome (Refused y) r st out)
+  unfolding view
+  message-bad y g = rw g
+
+  pub message-valid : firstFault CommandScalableTopicAssignmentUpdate m ≡ checked.Valid
+      → {z : Outcome} → z ≡ effectOf (updateValid (view r st) incarnation (updateOf m)) st out → Scanned z
+  message-valid g w = w ∙ rw g
+
 -- ---- the call
 
 -- what the test of the store says
@@ -185,14 +235,6 @@ module _ (r : SessionRecord) (st m : List ℕ) (incarnation : ControllerIncarnat
       store-bad x e f =
           rw (le-ltb (length st) 6144 h, le-ltb (length out) 3210 k, not-false (damaged (view r st)) (sym e ∙ not-true x f))
 
-      module _ (d : damaged (view r st) ≡ false) where
-        pub message-bad : (y : Refusal) → firstFault CommandScalableTopicAssignmentUpdate m ≡ checked.Refused y
-            → outcome (Refused y) r st out ≡ updateOutcome r st m incarnation out
-        unfolding updateOutcome updateCall view
-        message-bad y g = rw (le-ltb (length st) 6144 h, le-ltb (length out) 3210 k, d, g)
-
-        pub call-valid : firstFault CommandScalableTopicAssignmentUpdate m ≡ checked.Valid
-            → {z : Outcome} → z ≡ effectOf (updateValid (view r st) incarnation (updateOf m)) st out
-            → z ≡ updateOutcome r st m incarnation out
-        unfolding updateOutcome updateCall view
-        call-valid g w = w ∙ rw (le-ltb (length st) 6144 h, le-ltb (length out) 3210 k, d, g)
+      pub call-sound : damaged (view r st) ≡ false → {z : Outcome} → Scanned r st m incarnation out z → z ≡ updateOutcome r st m incarnation out
+      unfolding updateOutcome updateCall view
+      call-sound d w = w ∙ rw (le-ltb (length st) 6144 h, le-ltb (length out) 3210 k, d)

@@ -1,22 +1,24 @@
 // Update: a push of the controller, `handle_assignment_update_for`.
 //
-// The message's assignment is taken into a buffer of one slot; what is refused before the last test has written nothing to store or output.
+// The message's assignment is taken into a buffer of one slot before link and consumer are tested; what is refused before the last test has written nothing to store
+// or output.
 ghost use mathlib.Core.Path.{_≡_};
 ghost use mathlib.Core.Bool.{true, false};
 ghost use mathlib.Core.List.{List};
 ghost use Prim.Native.Nat.{ℕ, _≤_};
 ghost use lib.ListN.{length};
-ghost use Rattle.readers.specs.Messages.{updateOf};
+ghost use Rattle.schema.specs.FirstFault.{firstFault};
+ghost use Rattle.readers.specs.Messages.{WireUpdate};
 ghost use Rattle.packed.specs.Assignment.{startsAssignment};
 ghost use Rattle.packed.specs.Assignment as packed-form;
 ghost use Rattle.content.specs.Content.{contentOf};
-ghost use Rattle.intake.specs.Intake.{IntakeIs};
 ghost use Rattle.session.specs.Store.{slot, depthOf};
-ghost use Rattle.session.specs.Identity.{topicOf, isIdentity};
+ghost use Rattle.session.specs.Identity.{topicOf};
 ghost use Rattle.session.specs.Session.{view, damaged};
-ghost use Rattle.session.specs.Update.{updateUnregistered, updateRegistered, updateContent, updateValid};
+ghost use Rattle.session.specs.Update.{updateUnregistered, updateRegistered, updateValid, updateChecked};
 ghost use Rattle.session.specs.Calls.{outcome, effectOf, updateOutcome};
 ghost use Rattle.session_store.specs.Scratch.{Scratch};
+ghost use Rattle.session_intake.specs.Taken.{contentFrom, Ready};
 use intake::Intake;
 use messages::Checked;
 use messages::MessageKind;
@@ -25,6 +27,7 @@ use refusal::Refusal;
 use session::Answer;
 use session::Changed;
 use session::SessionRecord;
+use session_intake::PlainMessage;
 use types::ControllerIncarnation;
 
 // The store's list slot.
@@ -85,49 +88,23 @@ fn held(r: SessionRecord, store: &mut [u8], b: &[u8], n: usize, out: &mut [u8]) 
     }
 }
 
-// Takes the update's assignment into the buffer.
-fn take_assignment(store: &[u8], message: &[u8], epoch: u64, b: &mut [u8]) -> Intake
-    requires { ⌜ (6144 ≤ length (now store)) × (length (now b) ≡ 2048) ⌝ }
-    requires { ⌜ isIdentity (slot (now store) 0) ≡ true ⌝ }
-    requires { ⌜ epoch ≡ updateOf (now message) .assignment .layoutEpoch ⌝ }
-    ensures { λ x. ⌜ IntakeIs (now (b .entry)) x (now (b .exit)) (contentOf (topicOf (slot (now (store .entry)) 0)) (updateOf (now (message .entry)) .assignment)) ⌝ }
-{
-    let len = packed_int::read_u16(store, 0) as usize;
-    intake::take_in(message, 2, &store[7..7 + len], epoch, b)
-}
-
-// An update for this link and this consumer.
-fn taken(r: SessionRecord, store: &mut [u8], message: &[u8], epoch: u64, out: &mut [u8]) -> Changed
-    requires { ⌜ (6144 ≤ length (now store)) × (3210 ≤ length (now out)) ⌝ }
-    requires { ⌜ damaged (view r (now store)) ≡ false ⌝ }
-    requires { ⌜ epoch ≡ updateOf (now message) .assignment .layoutEpoch ⌝ }
-    ensures { λ x. ⌜ outcome (x .answer) (x .next) (now (store .exit)) (now (out .exit))
-        ≡ effectOf (updateContent (view r (now (store .entry))) (contentOf (topicOf (slot (now (store .entry)) 0)) (updateOf (now (message .entry)) .assignment))) (now (store .entry)) (now (out .entry)) ⌝ }
-{
-    let mut b = [0u8; 2048];
-    match take_assignment(store, message, epoch, &mut b) {
-        Intake::Refused(x) => session_record::refuse(r, x),
-        Intake::Taken(n) => {
-            if r.registered {
-                return held(r, store, &b, n, out);
-            }
-            enqueued(r, store, &b, n)
-        }
-    }
-}
-
-// An update whose message is valid.
-fn valid(
+// A valid update of a consumer, whose assignment the intake took into the buffer, or refused. Refused in order: 23, 24, 9 to 15, then 26, 28 or 27.
+fn addressed(
     r: SessionRecord,
     store: &mut [u8],
-    message: &[u8],
+    consumer_id: u64,
     incarnation: ControllerIncarnation,
+    intake: Intake,
+    b: &[u8],
     out: &mut [u8],
 ) -> Changed
     requires { ⌜ (6144 ≤ length (now store)) × (3210 ≤ length (now out)) ⌝ }
     requires { ⌜ damaged (view r (now store)) ≡ false ⌝ }
-    ensures { λ x. ⌜ outcome (x .answer) (x .next) (now (store .exit)) (now (out .exit))
-        ≡ effectOf (updateValid (view r (now (store .entry))) incarnation (updateOf (now (message .entry)))) (now (store .entry)) (now (out .entry)) ⌝ }
+    requires { ⌜ Ready intake (now b) ⌝ }
+    ensures { λ x. ⌜ ((u : WireUpdate) → «consumer_id» ≡ u .consumerId
+        → contentOf (topicOf (slot (now (store .entry)) 0)) (u .assignment) ≡ contentFrom intake (now (b .entry))
+        → outcome (x .answer) (x .next) (now (store .exit)) (now (out .exit))
+        ≡ effectOf (updateValid (view r (now (store .entry))) incarnation u) (now (store .entry)) (now (out .entry))) ⌝ }
 {
     let expected = r.incarnation;
     if incarnation.0 != expected.0 {
@@ -139,17 +116,49 @@ fn valid(
             },
         );
     }
-    let head = readers::read_update(message);
-    if head.consumer_id != r.consumer_id {
+    if consumer_id != r.consumer_id {
         return session_record::refuse(
             r,
             Refusal::ConsumerMismatch {
-                got: head.consumer_id,
+                got: consumer_id,
                 expected: r.consumer_id,
             },
         );
     }
-    taken(r, store, message, head.layout_epoch, out)
+    match intake {
+        Intake::Refused(x) => session_record::refuse(r, x),
+        Intake::Taken(n) => {
+            if r.registered {
+                return held(r, store, b, n, out);
+            }
+            enqueued(r, store, b, n)
+        }
+    }
+}
+
+// An update in any form: its message is scanned, 3 to 7, and read.
+fn scanned(
+    r: SessionRecord,
+    store: &mut [u8],
+    message: &[u8],
+    incarnation: ControllerIncarnation,
+    b: &mut [u8],
+    out: &mut [u8],
+) -> Changed
+    requires { ⌜ (6144 ≤ length (now store)) × (3210 ≤ length (now out)) ⌝ }
+    requires { ⌜ damaged (view r (now store)) ≡ false ⌝ }
+    requires { ⌜ length (now b) ≡ 2048 ⌝ }
+    ensures { λ x. ⌜ outcome (x .answer) (x .next) (now (store .exit)) (now (out .exit))
+        ≡ effectOf (updateChecked (view r (now (store .entry))) incarnation (now (message .entry)) (firstFault MessageKind.CommandScalableTopicAssignmentUpdate (now (message .entry)))) (now (store .entry)) (now (out .entry)) ⌝ }
+{
+    match messages::first_fault(MessageKind::CommandScalableTopicAssignmentUpdate, message) {
+        Checked::Refused(x) => session_record::refuse(r, x),
+        Checked::Valid => {
+            let head = readers::read_update(message);
+            let intake = session_intake::take_assignment(store, message, 2, head.layout_epoch, b);
+            addressed(r, store, head.consumer_id, incarnation, intake, b, out)
+        }
+    }
 }
 
 // The update. Refused in order: 1, 2, 22, 3 to 7, 23, 24, 9 to 15, then 26, 28 or 27.
@@ -172,8 +181,11 @@ pub fn updated(
     if !session_store::is_sound(r, store) {
         return session_record::refuse(r, Refusal::MalformedStore);
     }
-    match messages::first_fault(MessageKind::CommandScalableTopicAssignmentUpdate, message) {
-        Checked::Refused(x) => session_record::refuse(r, x),
-        Checked::Valid => valid(r, store, message, incarnation, out),
+    let mut b = [0u8; 2048];
+    match session_intake::take_plain_message(store, message, 2, &mut b) {
+        PlainMessage::Taken(id, n) => {
+            addressed(r, store, id, incarnation, Intake::Taken(n), &b, out)
+        }
+        PlainMessage::Other => scanned(r, store, message, incarnation, &mut b, out),
     }
 }

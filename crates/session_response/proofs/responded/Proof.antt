@@ -1,10 +1,39 @@
 -- `session_response::responded` meets its contract: a test after the other.
 -- Assumes nothing.
+use mathlib.Core.Path.{_≡_, refl, ap, _∙_, subst}
+use mathlib.Core.Bool.{false, not}
+use mathlib.Core.Logic.{inr}
+use Rattle.readers.specs.Messages.{responseOf}
+use Rattle.session.specs.Session.{view, damaged}
+use Rattle.session_store.proofs.StoreLaws.{identity-good}
+use Rattle.session_intake.specs.declared.PlainMessage.{PlainMessage}
+use Rattle.session_intake.specs.Taken.{PlainMessageTaken, PlainMessageSays}
 use Rattle.session_response.proofs.CallLaws.{refused-out, given-out, call-out}
-use Rattle.session_response.proofs.CallLaws.{call-short, call-damaged, undamaged, call-faulty, call-valid}
+use Rattle.session_response.proofs.CallLaws.{plain-says, message-valid, call-short, call-damaged, undamaged, call-sound}
 use borrow.Author.Needs.{needs}
 use Rattle.session_response.proofs.responded.Statement.{statement}
 use Rattle.session_response.proofs.responded.Tie as tie
+
+abbrev start : tie.Else2 → tie.Start
+start c = c .before .before .before .before .before .before
+
+-- the store passed its test
+good : (c : tie.Else2) → damaged (view (start c .args .r) (start c .args .store .now)) ≡ false
+good c =
+    let n = c .before in
+    let s = start c in
+    undamaged (s .args .r) (s .args .store .now) (s .args .message .now) (s .args .incarnation) (n .before .before .if1 .left)
+    (n .is-sound .result) (n .is-sound .ensures) (c .if2 .left)
+
+-- the message has its usual form
+plain : (c : tie.After-size) → let t = c .before .before .before in let s = start (t .before .before .before) in
+    PlainMessageTaken (s .args .store .now) (s .args .message .now) 4 (c .size .given .0 .0) (c .size .given .0 .1 .0)
+    (t .take-plain-message .last .1 .1 .1 .0)
+plain c =
+    let t = c .before .before .before in
+    let s = start (t .before .before .before) in
+    subst (λ (x : PlainMessage). PlainMessageSays (s .args .store .now) (s .args .message .now) 4 x (t .take-plain-message .last .1 .1 .1 .0))
+    (c .size .given .1) (t .take-plain-message .ensures)
 
 refuse-requires : tie.Need-refuse-requires
 refuse-requires c κs = search needs
@@ -35,61 +64,68 @@ returns-2 c =
     (call-damaged (s .args .r) (s .args .store .now) (s .args .message .now) (s .args .incarnation) (k .if1 .left) (n .is-sound .result)
     (n .is-sound .ensures) (c .before .if2 .taken)))
 
-first-fault-requires : tie.Need-first-fault-requires
-first-fault-requires c κs = search needs
+slice-aggregate-take-plain-message : tie.Need-slice-aggregate-take-plain-message
+slice-aggregate-take-plain-message c = search needs
 
-enum-known-x : tie.Need-enum-known-x
-enum-known-x c = search needs
+take-plain-message-requires : tie.Need-take-plain-message-requires
+take-plain-message-requires c κs =
+    let e = c .before .before in
+    let s = start e in
+    ((e .before .before .before .if1 .left, identity-good (s .args .r) (s .args .store .now) (ap not (good e))), (inr refl, refl))
 
-refuse-requires-3 : tie.Need-refuse-requires-3
-refuse-requires-3 c κs = search needs
+enum-known-size : tie.Need-enum-known-size
+enum-known-size c = search needs
+
+slice-aggregate-answered : tie.Need-slice-aggregate-answered
+slice-aggregate-answered c = search needs
+
+answered-requires : tie.Need-answered-requires
+answered-requires c κs =
+    let i = c .before .before .before in
+    let e = i .before .before .before .before .before .before in
+    ((e .before .before .before .if1 .left, good e), plain i .answers .ready)
 
 enum-told : tie.Need-enum-told
 enum-told c = search needs
 
-valid-requires : tie.Need-valid-requires
-valid-requires c κs =
-    let e = c .before .before .before .before in
-    let n = e .before in
-    let k = n .before .before in
-    let s = k .before .before .before in (
-      k .if1 .left,
-      undamaged (s .args .r) (s .args .store .now) (s .args .message .now) (s .args .incarnation) (k .if1 .left) (n .is-sound .result)
-          (n .is-sound .ensures) (e .if2 .left),
-    )
+slice-aggregate-scanned : tie.Need-slice-aggregate-scanned
+slice-aggregate-scanned c = search needs
+
+scanned-requires : tie.Need-scanned-requires
+scanned-requires c κs =
+    let e = c .before .before .before .before .before .before .before .before in
+    ((e .before .before .before .if1 .left, good e), search needs)
 
 same-length-2 : tie.Need-same-length-2
 same-length-2 c = search needs
 
 returns-3 : tie.Need-returns-3
 returns-3 c =
-    let x = c .before .before in
-    let f = x .before .before in
-    let e = f .before in
+    let a = c .before .before in
+    let i = a .before .before .before .before in
+    let e = i .before .before .before .before .before .before in
     let n = e .before in
-    let k = n .before .before in
-    let s = k .before .before .before in
-    call-out (s .args .r) (s .args .store .now) (c .refuse3 .result) (s .args .store .now) (s .args .message .now) (s .args .incarnation)
-    (refused-out (s .args .r) (s .args .store .now) (c .refuse3 .result) _ _ (c .refuse3 .ensures)
-    (call-faulty (s .args .r) (s .args .store .now) (s .args .message .now) (s .args .incarnation) (k .if1 .left) (n .is-sound .result)
-    (n .is-sound .ensures) (e .if2 .left) (f .first-fault .result) (f .first-fault .ensures) (x .x .given .0 .0) (x .x .given .1)))
+    let s = start e in
+    call-out (s .args .r) (s .args .store .now) (a .answered .result) (a .answered .last .1 .0) (s .args .message .now) (s .args .incarnation)
+    (given-out (s .args .r) (s .args .store .now) (a .answered .result) (a .answered .last .1 .0) _ _
+    (call-sound (s .args .r) (s .args .store .now) (s .args .message .now) (s .args .incarnation) (n .before .before .if1 .left)
+    (n .is-sound .result) (n .is-sound .ensures) (e .if2 .left)
+    ∙ message-valid (s .args .r) (s .args .store .now) (s .args .message .now) (s .args .incarnation) (plain i .valid))
+    (a .answered .ensures (responseOf (s .args .message .now)) (plain-says (s .args .store .now) (s .args .message .now) _ _ _ (plain i))))
 
 same-length-3 : tie.Need-same-length-3
 same-length-3 c = search needs
 
 returns-4 : tie.Need-returns-4
 returns-4 c =
-    let g = c .before .before in
-    let t = g .before .before in
-    let f = t .before .before in
-    let e = f .before in
+    let v = c .before .before .before in
+    let e = v .before .before .before .before .before .before .before .before .before in
     let n = e .before in
-    let k = n .before .before in
-    let s = k .before .before .before in
-    call-out (s .args .r) (s .args .store .now) (g .valid .result) (g .valid .last .1 .0) (s .args .message .now) (s .args .incarnation)
-    (given-out (s .args .r) (s .args .store .now) (g .valid .result) (g .valid .last .1 .0) _ _
-    (call-valid (s .args .r) (s .args .store .now) (s .args .message .now) (s .args .incarnation) (k .if1 .left) (n .is-sound .result)
-    (n .is-sound .ensures) (e .if2 .left) (f .first-fault .result) (f .first-fault .ensures) (t .enum-told .given .1)) (g .valid .ensures))
+    let s = start e in
+    call-out (s .args .r) (s .args .store .now) (v .scanned .result) (v .scanned .last .1 .0) (s .args .message .now) (s .args .incarnation)
+    (given-out (s .args .r) (s .args .store .now) (v .scanned .result) (v .scanned .last .1 .0) _ _
+    (call-sound (s .args .r) (s .args .store .now) (s .args .message .now) (s .args .incarnation) (n .before .before .if1 .left)
+    (n .is-sound .result) (n .is-sound .ensures) (e .if2 .left)) (v .scanned .ensures))
 
 pub responded-spec : {M : Type 1} → statement M
 responded-spec =
@@ -101,11 +137,14 @@ responded-spec =
     refuse-requires-2
     same-length
     returns-2
-    first-fault-requires
-    enum-known-x
-    refuse-requires-3
+    slice-aggregate-take-plain-message
+    take-plain-message-requires
+    enum-known-size
+    slice-aggregate-answered
+    answered-requires
     enum-told
-    valid-requires
+    slice-aggregate-scanned
+    scanned-requires
     same-length-2
     returns-3
     same-length-3

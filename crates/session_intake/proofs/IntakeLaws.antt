@@ -1,0 +1,172 @@
+-- A message's assignment in the buffer.
+--
+-- In order: the topic as a part of the store (`topic-end`, `topic-text`); what stands in the buffer behind an intake (`intake-answers`); a
+-- message of two fields, of which the second holds an assignment (`plain-taken`).
+-- Assumes nothing.
+use Prim.Native.Nat.{ℕ, _+_, _-_, _≤_, _<_}
+use native.Mathlib.Nat.{add-sub-cancel-left}
+use native.Mathlib.Omega.{arith}
+use mathlib.Core.Path.{_≡_, refl, sym, ap, _∙_, subst}
+use mathlib.Core.Bool.{true, false}
+use mathlib.Core.List.{List, [], _∷_, append-nil}
+use mathlib.Core.Logic.{inl, inr}
+use lib.ListN.{length, take, drop, getD, length-drop}
+use lib.Seq.{take-take}
+use lib.Dec.{leb}
+use borrow.Author.Tests.{leb-true, eq-eqb}
+use Rattle.parts.proofs.PartLaws.{drop-take, Bytes}
+use Rattle.ranges.specs.Meaning.{both-true}
+use Rattle.packed_int.specs.Be.{be, beAt}
+use Rattle.packed_int.specs.Put.{put}
+use Rattle.packed_int.proofs.PutLaws.{length-put}
+use Rattle.utf8.specs.Table.{isUtf8}
+use Rattle.wire.specs.declared.WireType.the-variants as type
+use Rattle.wire.specs.Fields.{number, bytes, field, fieldsOf}
+use Rattle.wire.proofs.FieldsLaws.{fields-nil}
+use Rattle.schema.specs.declared.MessageKind.{MessageKind}
+use Rattle.schema.specs.declared.MessageKind.the-variants.{CommandScalableTopicAssignmentUpdate, CommandScalableTopicSubscribeResponse}
+use Rattle.schema.specs.declared.MessageKind.the-variants.{ScalableConsumerAssignment}
+use Rattle.schema.specs.declared.ValueKind.the-variants.{Message}
+use Rattle.schema.specs.declared.Checked.the-variants.{Valid}
+use Rattle.schema.specs.Schema.{ruleFor, fitsWire, complete, levels}
+use Rattle.schema.specs.FirstFault.{elem, note, faultWithin, firstFault}
+use Rattle.plain.specs.Plain.{NumberField, NumberIs, PartField}
+use Rattle.plain.proofs.PlainLaws.{number-some, passed-start, passed-number, passed-part, passed-end}
+use Rattle.values.specs.Values.{mergedFields}
+use Rattle.readers.specs.Messages.{updateOf, responseOf}
+use Rattle.readers.specs.Messages as wire
+use Rattle.packed.specs.Assignment.{ConsumerAssignment, encodeAssignment, assignmentOf, sizeAssignment, okAssignment, startsAssignment}
+use Rattle.packed.proofs.RoundLaws.{FitAssignment, length-encodeAssignment, read-assignment, starts-encode}
+use Rattle.content.specs.Content.{Content, refused, taken, contentOf}
+use Rattle.content.proofs.WideLaws.{Wide, update-wide, response-wide}
+use Rattle.content.proofs.ContentLaws.{content-fits}
+use Rattle.intake.specs.declared.Intake.{Intake}
+use Rattle.intake.specs.declared.Intake.the-variants as intake
+use Rattle.intake.specs.Intake.{IntakeIs}
+use Rattle.plain_intake.specs.declared.PlainIntake.{PlainIntake}
+use Rattle.plain_intake.specs.declared.PlainIntake.the-variants.{Taken}
+use Rattle.plain_intake.specs.Taken.{PlainTaken, PlainSays}
+use Rattle.session.specs.Store.{slot}
+use Rattle.session.specs.Identity.{topicOf, isIdentity}
+use Rattle.session.proofs.SlotLaws.{size-ok}
+use Rattle.session_intake.specs.Taken.{AssignmentField, messageWith, contentIn, TopicEnd, Answers, PlainMessageTaken}
+
+-- ---- the topic
+
+topic-front : (st : List ℕ) → beAt 2 (slot st 0) 0 ≡ beAt 2 st 0
+unfolding beAt slot
+topic-front st = ap be (take-take 2 2048 st (omega arith))
+
+topic-cut : (st : List ℕ) (n : ℕ) → n ≤ 2041 → take n (drop 7 (slot st 0)) ≡ take n (drop 7 st)
+unfolding slot
+topic-cut st n h = ap (take n) (drop-take 7 2041 st) ∙ take-take n 2041 (drop 7 st) h
+
+module _ (l : List ℕ) (e : isIdentity l ≡ true) where
+  texts : (beAt 2 l 0 + beAt 2 l 2 + beAt 2 l 4 ≤ 2041) × (isUtf8 (topicOf l) ≡ true)
+  unfolding isIdentity
+  texts =
+      let n : ℕ = beAt 2 l 0 + beAt 2 l 2 + beAt 2 l 4 in
+      let p = both-true (leb n 2041) _ (both-true (leb (getD l 6 0) 1) _ e .1) in
+      (leb-true n 2041 (p .0), both-true (isUtf8 (topicOf l)) _ (p .1) .0)
+
+module _ (st : List ℕ) (h : isIdentity (slot st 0) ≡ true) where
+  pub topic-end : (n : ℕ) → n ≡ beAt 2 st 0 → 6144 ≤ length st → TopicEnd st (7 + n)
+  unfolding topicOf
+  topic-end n e l =
+      let s : n ≤ 2041 = omega (arith, e, topic-front st, texts (slot st 0) h .0) in
+      record {
+        ordered = omega arith;
+        within = omega arith;
+        is =
+            ap (λ (k : ℕ). take k (drop 7 st)) (add-sub-cancel-left 7 n) ∙ sym (topic-cut st n s)
+            ∙ ap (λ (k : ℕ). take k (drop 7 (slot st 0))) (e ∙ sym (topic-front st));
+      }
+
+  pub topic-text : (end : ℕ) → TopicEnd st end → isUtf8 (take (end - 7) (drop 7 st)) ≡ true
+  topic-text end t = ap isUtf8 (t .is) ∙ texts (slot st 0) h .1
+
+-- ---- the buffer
+
+-- a packed assignment put at its front
+put-answers : (a : ConsumerAssignment) (b b′ : List ℕ) (n : ℕ) → length b ≡ 2048 → FitAssignment a → okAssignment a ≡ true
+    → n ≡ sizeAssignment a → b′ ≡ put b 0 (encodeAssignment a) → Answers (intake.Taken n) b′ (taken a)
+unfolding put
+put-answers a b b′ n l f o e w =
+    let z : length (encodeAssignment a) ≡ sizeAssignment a = length-encodeAssignment a in
+    let v : assignmentOf b′ ≡ a = ap assignmentOf w ∙ read-assignment a (drop (0 + length (encodeAssignment a)) b) f in
+    record {
+      is = ap taken (sym v);
+      ready =
+          record {
+            long = ap length w ∙ length-put b 0 (encodeAssignment a) (omega (arith, size-ok a o)) ∙ l;
+            starts = ap startsAssignment w ∙ starts-encode a (drop (0 + length (encodeAssignment a)) b) f o;
+            size = e ∙ ap sizeAssignment (sym v);
+          };
+    }
+
+pub field-small : (n : ℕ) → AssignmentField n → (0 < n) × (n < 16)
+field-small n (inl e) = (omega arith, omega arith)
+field-small n (inr e) = (omega arith, omega arith)
+
+field-wide : (m : List ℕ) → Bytes m → (n : ℕ) → AssignmentField n → Wide (wire.assignmentOf (mergedFields n (fieldsOf m)))
+unfolding updateOf responseOf
+field-wide m h n (inl e) = subst (λ (k : ℕ). Wide (wire.assignmentOf (mergedFields k (fieldsOf m)))) (sym e) (update-wide m h)
+field-wide m h n (inr e) = subst (λ (k : ℕ). Wide (wire.assignmentOf (mergedFields k (fieldsOf m)))) (sym e) (response-wide m h)
+
+-- ---- a message of two fields
+
+-- its fields are singular, and it needs no other
+module _ (m : List ℕ) (k : MessageKind) (n : ℕ) (number-fits : fitsWire (ruleFor k 1 .value) type.Varint ≡ true)
+    (other : elem (note (ruleFor k 1 .slot) []) (ruleFor k n .slot) ≡ false) (holds : ruleFor k n .value ≡ Message ScalableConsumerAssignment)
+    (whole : complete k (elem (note (ruleFor k n .slot) (note (ruleFor k 1 .slot) []))) ≡ true) where
+  two-valid : {at from to : ℕ} → NumberField 1 m 0 at → PartField n m at from to → length m ≤ to
+      → ((d : ℕ) → faultWithin d ScalableConsumerAssignment (take (to - from) (drop from m)) ≡ Valid)
+      → firstFault k m ≡ Valid
+  unfolding firstFault
+  two-valid i p h v =
+      passed-end (passed-part (passed-number (passed-start k m) 1 refl number-fits i) n other (rw holds) p (λ d. rw holds (v d))) h whole
+      (levels k)
+
+module _ (m : List ℕ) {at from to : ℕ} (i : NumberField 1 m 0 at) (h : length m ≤ to)
+    (v : (d : ℕ) → faultWithin d ScalableConsumerAssignment (take (to - from) (drop from m)) ≡ Valid) where
+  message-valid : (n : ℕ) → AssignmentField n → PartField n m at from to → firstFault (messageWith n) m ≡ Valid
+  unfolding ruleFor complete
+  message-valid n (inl e) p = rw e
+      (two-valid m CommandScalableTopicAssignmentUpdate 2 refl refl refl refl i
+      (subst (λ (k : ℕ). PartField k m at from to) e p) h v)
+  message-valid n (inr e) p = rw e
+      (two-valid m CommandScalableTopicSubscribeResponse 4 refl refl refl refl i
+      (subst (λ (k : ℕ). PartField k m at from to) e p) h v)
+
+-- ---- what the functions answer
+
+module _ (st m b b′ : List ℕ) (n end : ℕ) (o : AssignmentField n) (e : TopicEnd st end) (l : length b ≡ 2048) (h : Bytes m) where
+  pub intake-answers : (x : Intake)
+      → IntakeIs b x b′ (contentOf (take (end - 7) (drop 7 st)) (wire.assignmentOf (mergedFields n (fieldsOf m))))
+      → Answers x b′ (contentIn st n m)
+  intake-answers x i = go (contentIn st n m) refl (rw (← e .is) i)
+    where
+      go : (c : Content) → contentIn st n m ≡ c → IntakeIs b x b′ c → Answers x b′ c
+      go (refused y) p q = rw q (record { is = refl; ready = tt })
+      go (taken a) p q =
+          let f = content-fits (topicOf (slot st 0)) _ (field-wide m h n o) a p in
+          rw (q .0) (put-answers a b b′ (sizeAssignment a) l (f .0) (f .1) refl (q .1))
+
+  pub plain-taken : (head at from to epoch size : ℕ) → NumberIs 1 m 0 head at → PartField n m at from to → length m ≤ to
+      → (x : PlainIntake) → x ≡ Taken epoch size → PlainSays (take (end - 7) (drop 7 st)) (take (to - from) (drop from m)) b x b′
+      → PlainMessageTaken st m n head size b′
+  plain-taken head at from to epoch size i p g x y q =
+      let t : PlainTaken (take (end - 7) (drop 7 st)) (take (to - from) (drop from m)) b epoch size b′ = rw y at q in
+      let s : List ℕ = take (to - from) (drop from m) in
+      let z : fieldsOf (drop to m) ≡ [] = fields-nil (drop to m) (omega (arith, length-drop to m)) in
+      let fs : fieldsOf m ≡ field 1 type.Varint (number head) ∷ field n type.Len (bytes s) ∷ [] =
+      i .fields ∙ rw (p .fields, z) in
+      let w : mergedFields n (fieldsOf m) ≡ fieldsOf s = rw (fs, eq-eqb n n refl) (append-nil (fieldsOf s)) in
+      let c : contentIn st n m ≡ taken (t .assignment) = rw (w, ← e .is) (t .content) in
+      let f = content-fits (topicOf (slot st 0)) _ (field-wide m h n o) (t .assignment) c in
+      record {
+        valid = message-valid m (number-some i) g (t .valid) n o p;
+        part = s;
+        fields = fs;
+        answers = rw c (put-answers (t .assignment) b b′ size l (f .0) (f .1) (t .size) (t .packed));
+      }

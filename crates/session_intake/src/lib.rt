@@ -1,0 +1,66 @@
+// The assignment of a session's message, an update or a response, taken into a buffer of one slot below the session's topic.
+//
+// A message in its usual form is told in one walk, without a scan before it. Any other is scanned by `messages` first, and `take_assignment` is for what that finds valid.
+ghost use mathlib.Core.Path.{_≡_};
+ghost use mathlib.Core.Bool.{true};
+ghost use Prim.Native.Nat.{_≤_};
+ghost use lib.ListN.{length};
+ghost use Rattle.wire.specs.Fields.{fieldsOf};
+ghost use Rattle.values.specs.Values.{mergedFields};
+ghost use Rattle.readers.specs.Messages.{assignmentOf};
+ghost use Rattle.session.specs.Store.{slot};
+ghost use Rattle.session.specs.Identity.{isIdentity};
+ghost use Rattle.session_intake.specs.Taken.{AssignmentField, contentIn, TopicEnd, Answers, PlainMessageSays};
+use intake::Intake;
+use plain::NumberAt;
+use plain::Part;
+use plain_intake::PlainIntake;
+
+// What is told of a message.
+pub enum PlainMessage {
+    // It is valid, and nothing refuses its assignment: the number of its field 1, and the packed assignment's size.
+    Taken(u64, usize),
+    // Nothing.
+    Other,
+}
+
+// Where the topic ends, which starts at the place 7 of the store.
+fn topic_end(store: &[u8]) -> usize
+    requires { ⌜ (6144 ≤ length (now store)) × (isIdentity (slot (now store) 0) ≡ true) ⌝ }
+    ensures { λ r. ⌜ TopicEnd (now (store .entry)) r ⌝ }
+{
+    7 + packed_int::read_u16(store, 0) as usize
+}
+
+// A message of field 1, a number, and field n, its assignment, and nothing else. What the buffer holds where nothing is told is free.
+pub fn take_plain_message(store: &[u8], m: &[u8], n: u8, b: &mut [u8]) -> PlainMessage
+    requires { ⌜ (6144 ≤ length (now store)) × (isIdentity (slot (now store) 0) ≡ true) ⌝ }
+    requires { ⌜ AssignmentField n × (length (now b) ≡ 2048) ⌝ }
+    ensures { λ r. ⌜ PlainMessageSays (now (store .entry)) (now (m .entry)) n r (now (b .exit)) ⌝ }
+{
+    let NumberAt::Found(head, at) = plain::number_at(1, m, 0) else {
+        return PlainMessage::Other;
+    };
+    let Part::Found(from, to) = plain::part_at(n, m, at) else {
+        return PlainMessage::Other;
+    };
+    if to < m.len() {
+        return PlainMessage::Other;
+    }
+    let end = topic_end(store);
+    match plain_intake::take_plain(&m[from..to], &store[7..end], b) {
+        PlainIntake::Taken(_, size) => PlainMessage::Taken(head, size),
+        PlainIntake::Other => PlainMessage::Other,
+    }
+}
+
+// The assignment in field n of any message, whose epoch is given. What a refusal leaves in the buffer is free.
+pub fn take_assignment(store: &[u8], m: &[u8], n: u64, epoch: u64, b: &mut [u8]) -> Intake
+    requires { ⌜ (6144 ≤ length (now store)) × (isIdentity (slot (now store) 0) ≡ true) ⌝ }
+    requires { ⌜ AssignmentField n × (length (now b) ≡ 2048) ⌝ }
+    requires { ⌜ epoch ≡ assignmentOf (mergedFields n (fieldsOf (now m))) .layoutEpoch ⌝ }
+    ensures { λ r. ⌜ Answers r (now (b .exit)) (contentIn (now (store .entry)) n (now (m .entry))) ⌝ }
+{
+    let end = topic_end(store);
+    intake::take_in(m, n, &store[7..end], epoch, b)
+}

@@ -1,0 +1,58 @@
+-- `session_update::scanned` meets its contract: 3 to 7, or what the message says.
+-- Assumes nothing.
+use mathlib.Core.Path.{refl, sym, _∙_}
+use mathlib.Core.Logic.{inl}
+use Rattle.readers.specs.Messages.{updateOf}
+use Rattle.session_update.proofs.UpdateLaws.{told, identity-good, update-epoch, update-content, message-bad, message-valid}
+use borrow.Author.Needs.{needs}
+use Rattle.session_update.proofs.scanned.Statement.{statement}
+use Rattle.session_update.proofs.scanned.Tie as tie
+
+take-assignment-requires : tie.Need-take-assignment-requires
+take-assignment-requires c κs =
+    let h = c .before .before in
+    let s = h .before .before .before .before .before .before .before .before in (
+      (s .pre .0 .0, identity-good (s .args .r) (s .args .store .now) (s .pre .1 .0)),
+      ((inl refl, s .pre .1 .1), update-epoch (s .args .message .now) _ (h .read-update .ensures .epoch)),
+    )
+
+returns : tie.Need-returns
+returns c =
+    let x = c .before .before in
+    let f = x .before .before in
+    let s = f .before .before .before .before .before in
+    told (s .args .store .now) (s .args .out .now) (c .refuse .ensures)
+    (message-bad (s .args .r) (s .args .store .now) (s .args .message .now) (s .args .incarnation) (s .args .out .now) (x .x .given .0 .0)
+    (sym (f .first-fault .ensures) ∙ x .x .given .1))
+
+returns-2 : tie.Need-returns-2
+returns-2 c =
+    let a = c .before .before .before .before in
+    let t = a .before .before .before .before .before .before in
+    let h = t .before .before .before in
+    let f = h .before .before .before in
+    let s = f .before .before .before .before .before in
+    message-valid (s .args .r) (s .args .store .now) (s .args .message .now) (s .args .incarnation) (s .args .out .now)
+    (sym (f .first-fault .ensures) ∙ h .before .enum-told .given .1)
+    (a .addressed .ensures (updateOf (s .args .message .now)) (h .read-update .ensures .id)
+    (update-content (s .args .message .now) (s .args .store .now) (t .take-assignment .ensures .is)))
+
+pub scanned-spec : {M : Type 1} → statement M
+scanned-spec =
+    tie.close
+    (tie.spec
+    -- first-fault-requires, enum-known-x, refuse-requires, enum-told, read-update-requires
+    (λ c κs. search needs)
+    (λ c. search needs)
+    (λ c κs. search needs)
+    (λ c. search needs)
+    (λ c κs. search needs)
+    take-assignment-requires
+    -- addressed-requires
+    (λ c κs. search needs)
+    returns
+    -- same-length, same-length-2, same-length-3
+    (λ c. search needs)
+    (λ c. search needs)
+    (λ c. search needs)
+    returns-2)
