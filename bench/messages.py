@@ -2,6 +2,7 @@
 """Writes the benchmark messages: updates for consumer 7 under the parent topic://a/b/c at epoch 20,000.
 
 a: 4 segments without buckets. b: 145 segments without buckets. c: one segment with 506 buckets that rise. s: c with its buckets in falling order.
+x: 5,000 segments, which no slot can hold. response: the answer to request 1 with no segments, at that epoch.
 a2: a with 2 other ids. b2: b with 72 other ids. c2: c with its upper 253 buckets one longer. Each comes at the same epoch, so that either is taken after the other.
 
 And updates of watch 7 for sets of n topics of 44 bytes, of which 36 are the same in all: w-n-rising, w-n-shuffled and w-n-falling are snapshots; w-n-few adds 5 topics and
@@ -48,6 +49,8 @@ MESSAGES = {
     "c": update([segment(0, 0, 65535, RISING)]),
     "c2": update([segment(0, 0, 65535, LONGER)]),
     "s": update([segment(0, 0, 65535, RISING[::-1])]),
+    "x": update(segment(i, 0, 65535) for i in range(5000)),
+    "response": number(1, 1) + part(4, number(1, 20000)),
 }
 
 SIZES = (10, 1000, 20000)

@@ -1,10 +1,10 @@
 #!/usr/bin/env python3
-"""Measures the port beside the Rust and prints the tables of docs/BENCHMARKS.md; with --write they replace those in the file. A table's mark as a word (scan,
-intake, update, watch, times, sizes) makes that one alone.
+"""Measures the port beside the Rust and prints the tables of docs/BENCHMARKS.md; with --write they replace those in the file. A table's mark as a word (update,
+reconnect, scan, intake, plain, watch, memory, sizes) makes that one alone.
 
-Instructions are counted by callgrind: a run of some turns less a run of none, by their number. It needs rt, gcc and valgrind. The Rust's side is measured where
-CUDDREWYN_RUST names the folder of the Rust's sources and cargo finds Debian's crates (librust-prost-dev, librust-prost-derive-dev, librust-bytes-dev,
-librust-thiserror-dev); else its column says so.
+Instructions are counted by callgrind: a run of some turns less a run of none, by their number. Times are the shortest of five runs of many turns less the shortest of
+five of none. The heap is what valgrind finds. It needs rt, gcc and valgrind. The Rust's side is measured where CUDDREWYN_RUST names the folder of the Rust's sources
+and cargo finds Debian's crates (librust-prost-dev, librust-prost-derive-dev, librust-bytes-dev, librust-thiserror-dev); else its columns say so.
 """
 import os
 import pathlib
@@ -17,8 +17,12 @@ import time
 HERE = pathlib.Path(__file__).resolve().parent
 ROOT = HERE.parent
 DOCUMENT = ROOT / "docs" / "BENCHMARKS.md"
-TIMES = 20
+ABSENT = "not measured"
+TURNS = 20
 FULL = 1024
+SLOT = 2048
+RECORD = 48
+MEASURED = ["Rust, instructions", "port, instructions", "port / Rust", "Rust, µs", "port, µs"]
 MESSAGES = {
     "a": "4 segments without buckets",
     "b": "145 segments without buckets",
@@ -37,8 +41,10 @@ UPDATES = [
     ("b, 1,024 pushes in the queue", "b", "b2", 1, FULL, "72 72"),
     ("c, 1,024 pushes in the queue", "c", "c2", 1, FULL, "1 1"),
 ]
+# Pushes that wait for the response; turns that are counted.
+RECONNECTS = [(0, TURNS), (16, TURNS), (FULL, 1)]
 # Topics of a set; turns that are counted.
-SIZES = [(10, TIMES), (1000, TIMES), (20000, 2)]
+SIZES = [(10, TURNS), (1000, TURNS), (20000, 2)]
 # What it is; the two messages that come in turn; how many topics each adds and removes, of n.
 WATCHES = [
     ("snapshot, rising", "rising", "rising", lambda n: (n, 0)),
@@ -48,91 +54,67 @@ WATCHES = [
     ("diff of n / 2, rising", "half", "half-back", lambda n: (n // 4, n // 4)),
     ("diff of n / 2, shuffled", "half-shuffled", "half-shuffled-back", lambda n: (n // 4, n // 4)),
 ]
+# What it is; how many calls of the run are refused; the call and its messages.
+STACKS = [
+    ("an update, case a", 0, "update", "a", "a"),
+    ("an update, case s", 0, "update", "s", "s"),
+    ("an update whose list does not fit", 1, "update", "x", "x"),
+    ("a response", 0, "response", "a", "a2", "response"),
+    ("a drain", 0, "drain", "a", "a2", "response"),
+    ("a watch update", 0, "watch", "w-1000-rising", "w-1000-half-shuffled", "w-1000-rising"),
+]
 
 
 def run(*words, **more):
     return subprocess.run([str(word) for word in words], check=True, capture_output=True, text=True, **more)
 
 
-def instructions(told, *words, turns=TIMES):
-    """The instructions of one turn of the program that the words call, as text; what its turns print must be as told. None, where there is no program."""
-    if words[0] is None:
-        return "not measured"
+class Bench:
+    """The programs of both sides, and the folder with their messages."""
+
+    def __init__(self, folder):
+        self.folder = folder
+        run(sys.executable, HERE / "messages.py", folder)
+        for library in ("speed", "export"):
+            run("rt", "staticlib", library, cwd=ROOT)
+        self.port = self.compiled("port", "export", "-pthread")
+        self.pieces = self.compiled("pieces", "speed")
+        self.rust = self.built()
+
+    def compiled(self, name, library, *more):
+        run("gcc", "-O2", *more, HERE / f"{name}.c", ROOT / f"target/staticlib/lib{library}.a", "-o", self.folder / name)
+        return self.folder / name
+
+    def built(self):
+        """The program of the Rust's side, or None where the Rust's folder is not named."""
+        if not os.environ.get("CUDDREWYN_RUST"):
+            return None
+        try:
+            run("cargo", "build", "--release", "--offline", "--target-dir", self.folder / "rust", cwd=HERE / "rust")
+        except (OSError, subprocess.CalledProcessError) as error:
+            sys.exit(f"bench: the Rust's side was not built: {getattr(error, 'stderr', error)}")
+        return self.folder / "rust/release/rust-session"
+
+    def file(self, name):
+        return self.folder / f"{name}.bin"
+
+
+def checked(done, told):
+    assert done.stdout.strip() == told, f"{done.args} printed {done.stdout}, not {told}"
+    return done
+
+
+def instructions(told, words, turns):
+    """The instructions of one turn; what the turns print must be as told."""
     counts = []
     for times in (0, turns):
         done = run("valgrind", "--tool=callgrind", "--callgrind-out-file=/dev/null", *words, times)
-        assert times == 0 or done.stdout.strip() == told, f"{words} printed {done.stdout}"
-        counts.append(int(re.search(r"Collected : (\d+)", done.stderr)[1]))
-    return f"{(counts[1] - counts[0]) // turns:,}"
+        counts.append(int(re.search(r"Collected : (\d+)", (checked(done, told) if times else done).stderr)[1]))
+    return (counts[1] - counts[0]) // turns
 
 
-def port(folder, name):
-    """The program of bench/NAME.c over the proved archive."""
-    program = folder / name
-    run("gcc", "-O2", HERE / f"{name}.c", ROOT / "target/staticlib/libspeed.a", "-o", program)
-    return program
-
-
-def rust(folder, crate, name):
-    """The program of the Rust's side, or None where the Rust's folder is not named."""
-    if not os.environ.get("CUDDREWYN_RUST"):
-        return None
-    try:
-        run("cargo", "build", "--release", "--offline", "--target-dir", folder / crate, cwd=HERE / crate)
-    except (OSError, subprocess.CalledProcessError) as error:
-        sys.exit(f"bench: {name} was not built: {getattr(error, 'stderr', error)}")
-    return folder / crate / "release" / name
-
-
-def rows(heads, lines):
-    head, *rest = ("| " + " | ".join(line) + " |" for line in [heads, *lines])
-    return "\n".join([head, "|" + "---|" * len(heads), *rest])
-
-
-def scan_table(folder, _):
-    theirs, ours = rust(folder, "prost", "prost-decode"), port(folder, "scan")
-    lines = []
-    for name, what in MESSAGES.items():
-        file = folder / f"{name}.bin"
-        lines.append([f"{name}: {what}", f"{os.path.getsize(file):,}", instructions("0", theirs, file), instructions("0", ours, file)])
-    return rows(["case", "bytes", "prost decode", "`first_fault`"], lines)
-
-
-def intake_table(folder, session):
-    ours = port(folder, "take_in")
-    lines = []
-    for name, what in MESSAGES.items():
-        file = folder / f"{name}.bin"
-        lines.append([f"{name}: {what}", instructions("0", session, "intake", file), instructions("0", ours, file)])
-    return rows(["case", "`ConsumerAssignment::try_from_pb`", "`take_in`"], lines)
-
-
-def update_table(folder, session):
-    ours = port(folder, "update")
-    lines = []
-    for what, first, second, registered, queued, changed in UPDATES:
-        words = [folder / f"{first}.bin", folder / f"{second}.bin", registered, queued]
-        theirs = instructions(f"0 {changed}", session, "update", *words)
-        lines.append([what, changed.replace(" ", ", "), theirs, instructions(f"0 {changed}", ours, *words)])
-    return rows(["case", "lost, gained", "prost decode and `handle_assignment_update_for`", "`updated`"], lines)
-
-
-def watch_table(folder, session):
-    ours = port(folder, "watch")
-    lines = []
-    for size, turns in SIZES:
-        for what, first, second, counts in WATCHES:
-            told = "0 {} {}".format(*counts(size))
-            words = [folder / f"w-{size}-{name}.bin" for name in ("rising", first, second)]
-            theirs = instructions(told, session, "watch", *words, turns=turns)
-            lines.append([f"{size:,} topics: {what}", f"{os.path.getsize(words[1]):,}", theirs, instructions(told, ours, *words, turns=turns)])
-    return rows(["case", "bytes", "prost decode and `handle_update`", "`watch::handle_update`"], lines)
-
-
-def microseconds(told, *words, turns=1000):
-    """The time of one turn, as text: the shortest of five runs of some turns less the shortest of five of none."""
-    if words[0] is None:
-        return "not measured"
+def microseconds(told, words, turns):
+    """The time of one turn."""
     shortest = []
     for times in (0, turns):
         taken = []
@@ -140,41 +122,135 @@ def microseconds(told, *words, turns=1000):
             start = time.perf_counter()
             done = run(*words, times)
             taken.append(time.perf_counter() - start)
-            assert times == 0 or done.stdout.strip() == told, f"{words} printed {done.stdout}"
+            if times:
+                checked(done, told)
         shortest.append(min(taken))
-    return f"{(shortest[1] - shortest[0]) / turns * 1e6:,.2f}"
+    return (shortest[1] - shortest[0]) / turns * 1e6
 
 
-def times_table(folder, session):
-    ours = port(folder, "update")
+def measured(told, theirs, ours, turns=TURNS):
+    """The cells of a row: what one turn costs on both sides. Where there is no program of the Rust, its cells say so."""
+    counts, times = [], []
+    for words in (theirs, ours):
+        if words[0] is None:
+            counts.append(None), times.append(None)
+            continue
+        counts.append(instructions(told, words, turns))
+        times.append(microseconds(told, words, min(max(400_000_000 // counts[-1], 2), 20_000)))
+    share = f"{counts[1] / counts[0]:,.2f}" if counts[0] else ABSENT
+    return [ABSENT if one is None else f"{one:,}" for one in counts] + [share] + [ABSENT if one is None else f"{one:,.2f}" for one in times]
+
+
+def rows(heads, lines):
+    head, *rest = ("| " + " | ".join(line) + " |" for line in [heads, *lines])
+    return "\n".join([head, "|" + "---|" * len(heads), *rest])
+
+
+def piece_table(bench, theirs, ours):
+    lines = []
+    for name, what in MESSAGES.items():
+        file = bench.file(name)
+        lines.append([f"{name}: {what}", f"{os.path.getsize(file):,}", *measured("0", [bench.rust, theirs, file], [bench.pieces, ours, file])])
+    return rows(["case", "bytes", *MEASURED], lines)
+
+
+def scan_table(bench):
+    return piece_table(bench, "decode", "scan")
+
+
+def intake_table(bench):
+    return piece_table(bench, "intake", "intake")
+
+
+def plain_table(bench):
+    return piece_table(bench, "both", "plain")
+
+
+def update_table(bench):
     lines = []
     for what, first, second, registered, queued, changed in UPDATES:
-        if queued:
-            continue
-        words = [folder / f"{first}.bin", folder / f"{second}.bin", registered, queued]
-        theirs = microseconds(f"0 {changed}", session, "update", *words)
-        lines.append([what, theirs + " µs", microseconds(f"0 {changed}", ours, *words) + " µs"])
-    return rows(["case", "prost decode and `handle_assignment_update_for`", "`updated`"], lines)
+        words = ["update", bench.file(first), bench.file(second), registered, queued]
+        lines.append([what, changed.replace(" ", ", "), *measured(f"0 {changed}", [bench.rust, *words], [bench.port, *words])])
+    return rows(["case", "lost, gained", *MEASURED], lines)
 
 
-def size_table(_, __):
-    run("rt", "staticlib", "export", cwd=ROOT)
+def reconnect_table(bench):
+    lines = []
+    for queued, turns in RECONNECTS:
+        words = ["reconnect", *(bench.file(name) for name in ("a", "a2", "response")), queued]
+        told = "0 2 2" if queued else "0 0 0"
+        lines.append([f"{queued:,}", *measured(told, [bench.rust, *words], [bench.port, *words], turns)])
+    return rows(["pushes that wait", *MEASURED], lines)
+
+
+def watch_table(bench):
+    lines = []
+    for size, turns in SIZES:
+        for what, first, second, counts in WATCHES:
+            told = "0 {} {}".format(*counts(size))
+            words = ["watch", *(bench.file(f"w-{size}-{name}") for name in ("rising", first, second))]
+            lines.append([f"{size:,} topics: {what}", f"{os.path.getsize(words[2]):,}", *measured(told, [bench.rust, *words], [bench.port, *words], turns)])
+    return rows(["case", "bytes", *MEASURED], lines)
+
+
+def heap(bench, *words):
+    """The bytes that a run of the Rust leaves in use, and how often it allocates; nothing where it is not measured."""
+    if bench.rust is None:
+        return None
+    told = run("valgrind", "--leak-check=no", bench.rust, *words).stderr
+    found = re.search(r"in use at exit: ([\d,]+) bytes.*?total heap usage: ([\d,]+) allocs", told, re.S)
+    return [int(number.replace(",", "")) for number in found.groups()]
+
+
+def memory_table(bench):
+    """What a session holds, in bytes."""
+    empty = heap(bench, "open")
+
+    def held(*words):
+        return f"{heap(bench, *words)[0] - empty[0]:,}" if empty else ABSENT
+
+    lines = []
+    for name in "abc":
+        words = ["update", bench.file(name), bench.file(name)]
+        lines.append([f"{name}'s list held", held(*words, 1, 0, 1), f"{3 * SLOT + RECORD:,}"])
+        for queued in (16, FULL):
+            lines.append([f"{queued:,} pushes of {name} that wait", held(*words, 0, queued - 1, 0), f"{(3 + queued) * SLOT + RECORD:,}"])
+    return rows(["a session with", "Rust, on the heap", "port, lent"], lines)
+
+
+def allocations(bench, name):
+    """How often one update of the Rust allocates."""
+    if bench.rust is None:
+        return ABSENT
+    counts = [heap(bench, "update", bench.file(name), bench.file(f"{name}2"), 1, 0, times)[1] for times in (0, TURNS)]
+    return f"{(counts[1] - counts[0]) / TURNS:,.0f}"
+
+
+def size_table(bench):
+    """The archive, the allocations of an update, and the deepest stack of each call."""
     archive = ROOT / "target/staticlib/libexport.a"
     text = sum(int(line.split()[0]) for line in run("size", archive).stdout.splitlines()[1:])
-    return rows(["what", "bytes"], [["libexport.a", f"{archive.stat().st_size:,}"], ["machine code and constants in it", f"{text:,}"], ["heap", "none"]])
+    lines = [["libexport.a, bytes", "", f"{archive.stat().st_size:,}"], ["machine code and constants in it, bytes", "", f"{text:,}"]]
+    lines += [[f"allocations of an update, case {name}", allocations(bench, name), "0"] for name in "abc"]
+    for what, refused, call, *words in STACKS:
+        files = [bench.file(word) for word in words]
+        told = run(bench.port, "stack", call, *files, *[1] * (5 - len(files))).stdout.split()
+        assert told[0] == str(refused), f"{call} told {told}"
+        lines.append([f"deepest stack of {what}, bytes", "", f"{int(told[1]):,}"])
+    return rows(["what", "Rust", "port"], lines)
 
 
-TABLES = {"scan": scan_table, "intake": intake_table, "update": update_table, "watch": watch_table, "times": times_table, "sizes": size_table}
+TABLES = {
+    "update": update_table, "reconnect": reconnect_table, "scan": scan_table, "intake": intake_table, "plain": plain_table, "watch": watch_table,
+    "memory": memory_table, "sizes": size_table,
+}
 
 
 def main():
     marks = [mark for mark in TABLES if mark in sys.argv] or TABLES
     with tempfile.TemporaryDirectory() as name:
-        folder = pathlib.Path(name)
-        run(sys.executable, HERE / "messages.py", folder)
-        run("rt", "staticlib", "speed", cwd=ROOT)
-        session = rust(folder, "rust", "rust-session")
-        made = {mark: TABLES[mark](folder, session) for mark in marks}
+        bench = Bench(pathlib.Path(name))
+        made = {mark: TABLES[mark](bench) for mark in marks}
     print("\n\n".join(made.values()))
     if "--write" in sys.argv:
         text = DOCUMENT.read_text(encoding="utf-8")

@@ -64,13 +64,17 @@ def session():
 
 
 def figures():
-    """Section, case, the Rust's and the port's instructions: the last two columns of each table."""
-    found, section = [], ""
+    """Section, case, and the port's share of the Rust's instructions, of each table that has such a column."""
+    found, section, column = [], "", None
     for line in (ROOT / "docs/BENCHMARKS.md").read_text().splitlines():
         section = line.removeprefix("## ") if line.startswith("## ") else section
         cells = [cell.strip() for cell in line.strip("|").split("|")]
-        if line.startswith("| ") and len(cells) > 2 and all(re.fullmatch(r"[\d,]+", cell) for cell in cells[-2:]):
-            found.append((section, cells[0], *(int(cell.replace(",", "")) for cell in cells[-2:])))
+        if not line.startswith("|"):
+            column = None
+        elif "port / Rust" in cells:
+            column = cells.index("port / Rust")
+        elif column is not None and re.fullmatch(r"[\d,.]+", cells[column]):
+            found.append((section, cells[0], float(cells[column].replace(",", ""))))
     return found
 
 
@@ -78,14 +82,13 @@ def benchmarks():
     """The port's instructions for each 100 of the Rust's, case by case; a bar that is cut ends in an arrow."""
     body = text(20, 28, "Instructions of the port for each 100 of the Rust", 'font-weight="bold"')
     y, last = 50, ""
-    for section, name, rust, port in figures():
+    for section, name, share in figures():
         if section != last:
             body += text(20, y + 14, section, 'fill="#666"')
             y, last = y + 24, section
-        share = 100 * port / rust
-        width = round(min(share, 300), 1)
-        body += text(30, y + 14, name) + box(400, y, width, 18, "#bdb" if share <= 100 else "#edc")
-        body += text(406 + width, y + 14, f"{share:,.0f}" + (" →" if share > 300 else ""))
+        width = round(min(100 * share, 300), 1)
+        body += text(30, y + 14, name) + box(400, y, width, 18, "#bdb" if share <= 1 else "#edc")
+        body += text(406 + width, y + 14, f"{100 * share:,.0f}" + (" →" if share > 3 else ""))
         y += 24
     body += f'<line x1="500" y1="44" x2="500" y2="{y}" stroke="#a00" stroke-dasharray="4 3"/>\n'
     return page(800, y + 14, body)

@@ -1,8 +1,12 @@
-//! Runs the Rust's intake, its updates or its watch as often as asked: rust-session intake FILE TIMES, rust-session update FIRST SECOND REGISTERED QUEUED TIMES,
-//! or rust-session watch SET FIRST SECOND TIMES.
-//! Prints how many were refused; of updates then how many segments the last delta loses and gains, of a watch how many topics it adds and removes.
+//! Runs the Rust as often as asked and prints what came of it:
 //!
-//! The intake's message is decoded beforehand; the others are decoded by prost each time. The words mean what they do in bench/update.c and bench/watch.c.
+//!     rust-session decode FILE TIMES      an update decoded by prost
+//!     rust-session intake FILE TIMES      the assignment of an update that was decoded beforehand
+//!     rust-session both FILE TIMES        an update decoded, and its assignment
+//!     rust-session update, reconnect, watch ..      as bench/port.c has them; each message is decoded by prost
+//!     rust-session open                   a session and nothing else
+//!
+//! A session is not dropped at the end: what it holds is then what valgrind finds in use at exit.
 use prost::Message as _;
 use std::hint::black_box;
 
@@ -25,39 +29,62 @@ macro_rules! from_number {
 from_number!(SegmentState CompressionType ScalableConsumerType);
 
 const TOPIC: &str = "topic://a/b/c";
-const LINK: ControllerIncarnation = ControllerIncarnation(1);
+/// So many pushes wait at most: behind them a new link empties the queue.
+const WAITING: usize = 1000;
 
 fn decoded(message: &[u8]) -> pb::CommandScalableTopicAssignmentUpdate {
     pb::CommandScalableTopicAssignmentUpdate::decode(message).expect("an update")
 }
 
-/// A session, and what its updates came to.
+/// A session over a link, and what its calls came to.
 struct Run {
     session: ScalableConsumerSession,
+    link: ControllerIncarnation,
     refused: usize,
     lost: usize,
     gained: usize,
 }
 
 impl Run {
+    fn open() -> Self {
+        let link = ControllerIncarnation(1);
+        let session = ScalableConsumerSession::new(7, TOPIC.into(), "s".into(), "n".into(), ScalableConsumerType::Stream, link);
+        Self { session, link, refused: 0, lost: 0, gained: 0 }
+    }
+
+    fn begin(&mut self) {
+        self.link.0 += 1;
+        self.session.begin_incarnation(self.link).expect("a higher number");
+    }
+
     fn update(&mut self, message: &[u8]) {
         let update = decoded(black_box(message));
-        match black_box(self.session.handle_assignment_update_for(LINK, &update)) {
+        match black_box(self.session.handle_assignment_update_for(self.link, &update)) {
             Ok(Some(delta)) => (self.lost, self.gained) = (delta.lost.len(), delta.gained.len()),
             Ok(None) => {}
             Err(_) => self.refused += 1,
         }
     }
 
-    /// The response that registers the session with no segments at epoch 0; what was queued is drained.
-    fn register(&mut self) {
-        let response = pb::CommandScalableTopicSubscribeResponse {
-            assignment: Some(pb::ScalableConsumerAssignment::default()),
-            ..Default::default()
-        };
-        self.session.handle_subscribe_response_for(LINK, &response).expect("a baseline");
-        drop(self.session.take_replayed_updates());
+    /// The response that registers the session, and the replays of what was queued.
+    fn respond(&mut self, message: &[u8]) {
+        let response = pb::CommandScalableTopicSubscribeResponse::decode(black_box(message)).expect("a response");
+        self.refused += usize::from(self.session.handle_subscribe_response_for(self.link, &response).is_err());
+        for replay in black_box(self.session.take_replayed_updates()) {
+            (self.lost, self.gained) = (replay.delta.lost.len(), replay.delta.gained.len());
+        }
     }
+
+    /// What the calls came to. The session stays in memory.
+    fn close(self) {
+        println!("{} {} {}", self.refused, self.lost, self.gained);
+        std::mem::forget(self);
+    }
+}
+
+fn decode(message: &[u8], times: usize) {
+    let refused = |_: &usize| black_box(pb::CommandScalableTopicAssignmentUpdate::decode(black_box(message))).is_err();
+    println!("{}", (0..times).filter(refused).count());
 }
 
 fn intake(message: &[u8], times: usize) {
@@ -66,21 +93,41 @@ fn intake(message: &[u8], times: usize) {
     println!("{}", (0..times).filter(refused).count());
 }
 
+fn both(message: &[u8], times: usize) {
+    let refused = |_: &usize| black_box(ConsumerAssignment::try_from_pb(&decoded(black_box(message)).assignment, TOPIC)).is_err();
+    println!("{}", (0..times).filter(refused).count());
+}
+
 fn updates(messages: [&[u8]; 2], registered: bool, queued: usize, times: usize) {
-    let session = ScalableConsumerSession::new(7, TOPIC.into(), "s".into(), "n".into(), ScalableConsumerType::Stream, LINK);
-    let mut run = Run { session, refused: 0, lost: 0, gained: 0 };
+    let mut run = Run::open();
     for _ in 0..queued {
         run.update(messages[0]);
     }
     if registered {
-        run.register();
+        // Request 1 answered by a list with no segments at epoch 0.
+        run.respond(&[0x08, 0x01, 0x22, 0x02, 0x08, 0x00]);
     }
     run.update(messages[1]);
     (run.lost, run.gained) = (0, 0);
     for turn in 0..times {
+        if !registered && turn % WAITING == WAITING - 1 {
+            run.begin();
+        }
         run.update(messages[turn % 2]);
     }
-    println!("{} {} {}", run.refused, run.lost, run.gained);
+    run.close();
+}
+
+fn reconnects(messages: [&[u8]; 3], queued: usize, times: usize) {
+    let mut run = Run::open();
+    for _ in 0..times {
+        run.begin();
+        for push in 0..queued {
+            run.update(messages[push % 2]);
+        }
+        run.respond(messages[2]);
+    }
+    run.close();
 }
 
 /// A watch, and what its updates came to.
@@ -111,6 +158,7 @@ fn watches(set: &[u8], messages: [&[u8]; 2], times: usize) {
         run.update(messages[turn % 2]);
     }
     println!("{} {} {}", run.refused, run.added, run.removed);
+    std::mem::forget(run);
 }
 
 fn main() {
@@ -119,11 +167,17 @@ fn main() {
     let read = |path: &str| std::fs::read(path).expect("a message");
     let number = |word: &str| word.parse::<usize>().expect("a number");
     match words[..] {
+        ["open"] => Run::open().close(),
+        ["decode", file, times] => decode(&read(file), number(times)),
         ["intake", file, times] => intake(&read(file), number(times)),
+        ["both", file, times] => both(&read(file), number(times)),
         ["update", first, second, registered, queued, times] => {
             updates([&read(first), &read(second)], number(registered) != 0, number(queued), number(times));
         }
+        ["reconnect", first, second, response, queued, times] => {
+            reconnects([&read(first), &read(second), &read(response)], number(queued), number(times));
+        }
         ["watch", set, first, second, times] => watches(&read(set), [&read(first), &read(second)], number(times)),
-        _ => panic!("intake FILE TIMES, update FIRST SECOND REGISTERED QUEUED TIMES, or watch SET FIRST SECOND TIMES"),
+        _ => panic!("the forms stand at the head of bench/rust/src/main.rs"),
     }
 }
