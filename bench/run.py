@@ -171,6 +171,9 @@ def update_table(bench):
     for what, first, second, registered, queued, changed in UPDATES:
         words = ["update", bench.file(first), bench.file(second), registered, queued]
         lines.append([what, changed.replace(" ", ", "), *measured(f"0 {changed}", [bench.rust, *words], [bench.port, *words])])
+        if bench.rust and registered and not queued:
+            through = [bench.rust, "binding", *words[1:3]]
+            lines.append([f"{what[0]}, through bindings/rust", changed.replace(" ", ", "), *measured(f"0 {changed}", [bench.rust, *words], through)])
     return rows(["case", "lost, gained", *MEASURED], lines)
 
 

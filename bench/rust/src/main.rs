@@ -4,6 +4,7 @@
 //!     rust-session intake FILE TIMES      the assignment of an update that was decoded beforehand
 //!     rust-session both FILE TIMES        an update decoded, and its assignment
 //!     rust-session update, reconnect, watch ..      as bench/port.c has them; each message is decoded by prost
+//!     rust-session binding FIRST SECOND TIMES       updates of a registered session through bindings/rust
 //!     rust-session open                   a session and nothing else
 //!
 //! A session is not dropped at the end: what it holds is then what valgrind finds in use at exit.
@@ -29,6 +30,8 @@ macro_rules! from_number {
 from_number!(SegmentState CompressionType ScalableConsumerType);
 
 const TOPIC: &str = "topic://a/b/c";
+/// Request 1 answered by a list with no segments at epoch 0.
+const EMPTY: [u8; 6] = [0x08, 0x01, 0x22, 0x02, 0x08, 0x00];
 /// So many pushes wait at most: behind them a new link empties the queue.
 const WAITING: usize = 1000;
 
@@ -104,8 +107,7 @@ fn updates(messages: [&[u8]; 2], registered: bool, queued: usize, times: usize) 
         run.update(messages[0]);
     }
     if registered {
-        // Request 1 answered by a list with no segments at epoch 0.
-        run.respond(&[0x08, 0x01, 0x22, 0x02, 0x08, 0x00]);
+        run.respond(&EMPTY);
     }
     run.update(messages[1]);
     (run.lost, run.gained) = (0, 0);
@@ -128,6 +130,23 @@ fn reconnects(messages: [&[u8]; 3], queued: usize, times: usize) {
         run.respond(messages[2]);
     }
     run.close();
+}
+
+/// As `updates`, by the port: what a station that has swapped its session does.
+fn binding(messages: [&[u8]; 2], times: usize) {
+    let (mut store, mut out) = (vec![0; cuddrewyn::FULL_STORE], [0; cuddrewyn::MIN_OUTPUT]);
+    let (kind, link) = (cuddrewyn::ScalableConsumerType::Stream, cuddrewyn::ControllerIncarnation(1));
+    let mut session = cuddrewyn::ScalableConsumerSession::new(7, TOPIC, "s", "n", kind, link, &mut store).expect("a store");
+    session.handle_subscribe_response(&EMPTY).expect("a baseline");
+    let (mut refused, mut lost, mut gained) = (0, 0, 0);
+    for turn in 0..=times {
+        match black_box(session.handle_assignment_update(black_box(messages[(turn + 1) % 2]), &mut out)) {
+            Ok(Some(delta)) => (lost, gained) = (delta.lost().len(), delta.gained().len()),
+            Ok(None) => (lost, gained) = (0, 0),
+            Err(_) => refused += 1,
+        }
+    }
+    println!("{refused} {lost} {gained}");
 }
 
 /// A watch, and what its updates came to.
@@ -177,6 +196,7 @@ fn main() {
         ["reconnect", first, second, response, queued, times] => {
             reconnects([&read(first), &read(second), &read(response)], number(queued), number(times));
         }
+        ["binding", first, second, times] => binding([&read(first), &read(second)], number(times)),
         ["watch", set, first, second, times] => watches(&read(set), [&read(first), &read(second)], number(times)),
         _ => panic!("the forms stand at the head of bench/rust/src/main.rs"),
     }
