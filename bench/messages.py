@@ -2,8 +2,8 @@
 """Writes the benchmark messages: updates for consumer 7 under the parent topic://a/b/c at epoch 20,000.
 
 a: 4 segments without buckets. b: 145 segments without buckets. c: one segment with 506 buckets that rise. s: c with its buckets in falling order.
-x: 5,000 segments, which no slot can hold. response: the answer to request 1 with no segments, at that epoch.
-a2: a with 2 other ids. b2: b with 72 other ids. c2: c with its upper 253 buckets one longer. Each comes at the same epoch, so that either is taken after the other.
+f: b with its segments in falling order. x: 5,000 segments, which no slot can hold. response: the answer to request 1 with no segments, at that epoch.
+a2: a with 2 other ids. b2: b with 72 other ids, f2 the same of f. c2: c with its upper 253 buckets one longer. Each comes at the same epoch, so that either is taken after the other.
 
 And updates of watch 7 for sets of n topics of 44 bytes, of which 36 are the same in all: w-n-rising, w-n-shuffled and w-n-falling are snapshots; w-n-few adds 5 topics and
 removes 5, w-n-half and w-n-half-shuffled add n / 4 and remove n / 4. Each of these diffs has a second one, with -back behind its name, that takes it back.
@@ -46,6 +46,8 @@ MESSAGES = {
     "a2": update(segment(i + i // 2 * 4, 16384 * i, 16384 * i + 16383) for i in range(4)),
     "b": update(segment(2 * i, 400 * i, 400 * i + 399) for i in range(145)),
     "b2": update(segment(2 * i + i % 2, 400 * i, 400 * i + 399) for i in range(145)),
+    "f": update(segment(2 * i, 400 * i, 400 * i + 399) for i in reversed(range(145))),
+    "f2": update(segment(2 * i + i % 2, 400 * i, 400 * i + 399) for i in reversed(range(145))),
     "c": update([segment(0, 0, 65535, RISING)]),
     "c2": update([segment(0, 0, 65535, LONGER)]),
     "s": update([segment(0, 0, 65535, RISING[::-1])]),

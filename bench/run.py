@@ -36,6 +36,8 @@ UPDATES = [
     ("b: 145 segments without buckets", "b", "b2", 1, 0, "72 72"),
     ("c: one segment, 506 buckets that rise", "c", "c2", 1, 0, "1 1"),
     ("d: a's first message, queued before the response", "a", "a", 0, 0, "0 0"),
+    ("f: b's segments in falling order", "f", "f2", 1, 0, "72 72"),
+    ("s: c's buckets in falling order, no change", "s", "s", 1, 0, "0 0"),
     ("a, 1,024 pushes in the queue", "a", "a2", 1, FULL, "2 2"),
     ("n, 1,024 pushes in the queue", "a", "a", 1, FULL, "0 0"),
     ("b, 1,024 pushes in the queue", "b", "b2", 1, FULL, "72 72"),
@@ -146,9 +148,10 @@ def rows(heads, lines):
     return "\n".join([head, "|" + "---|" * len(heads), *rest])
 
 
-def piece_table(bench, theirs, ours):
+def piece_table(bench, theirs, ours, names=tuple(MESSAGES)):
     lines = []
-    for name, what in MESSAGES.items():
+    for name in names:
+        what = MESSAGES[name]
         file = bench.file(name)
         lines.append([f"{name}: {what}", f"{os.path.getsize(file):,}", *measured("0", [bench.rust, theirs, file], [bench.pieces, ours, file])])
     return rows(["case", "bytes", *MEASURED], lines)
@@ -163,7 +166,7 @@ def intake_table(bench):
 
 
 def plain_table(bench):
-    return piece_table(bench, "both", "plain")
+    return piece_table(bench, "both", "plain", "abc")
 
 
 def update_table(bench):
@@ -171,7 +174,7 @@ def update_table(bench):
     for what, first, second, registered, queued, changed in UPDATES:
         words = ["update", bench.file(first), bench.file(second), registered, queued]
         lines.append([what, changed.replace(" ", ", "), *measured(f"0 {changed}", [bench.rust, *words], [bench.port, *words])])
-        if bench.rust and registered and not queued:
+        if bench.rust and first in "abc" and registered and not queued:
             through = [bench.rust, "binding", *words[1:3]]
             lines.append([f"{what[0]}, through bindings/rust", changed.replace(" ", ", "), *measured(f"0 {changed}", [bench.rust, *words], through)])
     return rows(["case", "lost, gained", *MEASURED], lines)
