@@ -38,7 +38,8 @@ module _ (d : ℕ) (k j : MessageKind) (f : ℕ) (seen : List ℕ) (r : ruleFor 
   parts-valid (p ∷ ps) v = rw (r, o, v .0) (parts-valid ps (v .1))
 
 -- by their rows, whatever they are nested in
-pub range-row-valid : (d : ℕ) (p : List ℕ) (r : KeyRange) → fieldsOf p ≡ numbered 1 (r .start) ∷ numbered 2 (r .end) ∷ [] → Sound d IntRange p
+pub range-row-valid : (d : ℕ) (p : List ℕ) (r : KeyRange) → fieldsOf p ≡ numbered 1 (r .start) ∷ numbered 2 (r .end) ∷ []
+    → Sound d IntRange p
 unfolding ruleFor complete
 range-row-valid zero p r e = refl
 range-row-valid (suc d) p r e = ap (checkFields (faultWithin d) IntRange []) e

@@ -30,7 +30,7 @@ use Rattle.ranges.specs.Overlap.{risingFrom}
 use Rattle.schema.specs.declared.MessageKind.{MessageKind}
 use Rattle.schema.specs.declared.MessageKind.the-variants.{ScalableConsumerAssignment, ScalableAssignedSegment}
 use Rattle.plain.specs.Plain.{NumberIs, PartField}
-use Rattle.readers.specs.Messages.{segmentOf, WireSegment, WireAssignment, assignmentOf}
+use Rattle.readers.specs.Messages.{WireAssignment, assignmentOf}
 use Rattle.packed.specs.Assignment.{AssignedSegment, ConsumerAssignment, slotSize, encodeRange, encodeRanges, encodeSegment, encodeSegments}
 use Rattle.packed.specs.Assignment.{encodeAssignment, sizeSegment, sizeSegments, sizeAssignment, okSegment, okFrom, okAssignment}
 use Rattle.packed.proofs.AssignmentLaws.{size-least, rising-further, rising-ok}
@@ -39,7 +39,7 @@ use Rattle.content.specs.Content.{contentOf}
 use Rattle.content.proofs.OrderLaws.{count-least}
 use Rattle.assignment_message.proofs.TextLaws.{topic-utf8}
 use Rattle.assignment_message.proofs.RowLaws.{numbered, parted, partRow, segmentRowOf}
-use Rattle.assignment_message.proofs.WireLaws.{wireSegment, wireAssignment, range-row-says, segment-row-says, good-passes}
+use Rattle.assignment_message.proofs.WireLaws.{wireAssignment, range-row-says, segment-row-says, good-passes}
 use Rattle.assignment_message.proofs.WireLaws.{assignment-row-says, content-says}
 use Rattle.assignment_message.proofs.ValidLaws.{Sound, range-row-valid, segment-row-valid, assignment-row-valid}
 use Rattle.plain_intake.specs.Walk.{RangeRow, BucketsFrom, HeadRow, SegmentTaken, SegmentsFrom}
@@ -59,7 +59,8 @@ unfolding encodeRange
 encoded-range start end h = range-bytes start end h
 
 -- right behind what was put last, n elements
-put-next : (o : List ℕ) (at n : ℕ) (A B : List ℕ) → length A ≡ n → at + n + length B ≤ length o → put (put o at A) (at + n) B ≡ put o at (A ++ B)
+put-next : (o : List ℕ) (at n : ℕ) (A B : List ℕ) → length A ≡ n → at + n + length B ≤ length o
+    → put (put o at A) (at + n) B ≡ put o at (A ++ B)
 put-next o at n A B e h = ap (λ (k : ℕ). put (put o at A) (at + k) B) (sym e) ∙ put-after o at A B (omega arith)
 
 ranges-long : (rs : List KeyRange) → length (encodeRanges rs) ≡ 4 * length rs
@@ -91,7 +92,8 @@ range-row {q} {start} {end} {second} {behind} m n e o h =
 
 -- ---- a segment's buckets
 
-pub buckets-end : (p : List ℕ) (at low : ℕ) (b : List ℕ) (place : ℕ) → length p ≤ at → place ≤ length b → BucketsFrom p at low b place place b
+pub buckets-end : (p : List ℕ) (at low : ℕ) (b : List ℕ) (place : ℕ) → length p ≤ at → place ≤ length b
+    → BucketsFrom p at low b place place b
 unfolding encodeRanges risingFrom
 buckets-end p at low b place h r =
     record {
@@ -116,8 +118,9 @@ buckets-next {p} {at} {from} {next} {start} {end} low b b₁ place {to} {b′} f
     let r : KeyRange = keyRange start end in
     let t : List ℕ = take (next - from) (drop from p) in
     let fit : FitRange r = record { start = omega (arith, q .order, q .high); end = omega (arith, q .high) } in
-    let e : b₁ ≡ put b place (encodeRange r) = w ∙ ap (put b place) (encoded-range start end (omega (arith, q .high))) in
-    let z : length (encodeRange r) ≡ 4 = ap length (sym (encoded-range start end (omega (arith, q .high)))) ∙ length-bytesOf 4 (start * 65536 + end) in
+    let c = encoded-range start end (omega (arith, q .high)) in
+    let e : b₁ ≡ put b place (encodeRange r) = w ∙ ap (put b place) c in
+    let z : length (encodeRange r) ≡ 4 = ap length (sym c) ∙ length-bytesOf 4 (start * 65536 + end) in
     let n : length b₁ ≡ length b = ap length e ∙ length-put b place (encodeRange r) (omega arith) in
     record {
       parts = t ∷ k .parts;
@@ -176,8 +179,10 @@ head-written id start end count o p q r at h f ep eq er =
     ∙ ap (put o at) (append-assoc A B C ∙ ap (λ (l : List ℕ). A ++ (l ++ C)) (range-bytes start end f))
 
 module _ (parent : List ℕ) (e : isParent parent ≡ true) (u : isUtf8 parent ≡ true) where
-  pub segment-taken : {p : List ℕ} {id start end from to : ℕ} (b b₁ b₂ : List ℕ) (used : ℕ) {last : ℕ} {t : Bool} → HeadRow p id start end from to
-      → t ≡ sameBytes (take (to - from) (drop from p)) (segmentTopic (take (length parent - 8) (drop 8 parent)) (keyRange start end) (record { 0 = id }))
+  pub segment-taken : {p : List ℕ} {id start end from to : ℕ} (b b₁ b₂ : List ℕ) (used : ℕ) {last : ℕ} {t : Bool}
+      → HeadRow p id start end from to
+      → t ≡ sameBytes (take (to - from) (drop from p))
+      (segmentTopic (take (length parent - 8) (drop 8 parent)) (keyRange start end) (record { 0 = id }))
       → t ≡ true → BucketsFrom p to 0 b (used + 14) last b₁ → b₂ ≡ put b₁ used (headBytes id start end ((last - (used + 14)) / 4))
       → SegmentTaken parent p b used id last b₂
   unfolding okSegment sizeSegment encodeSegment encodeRange
@@ -242,7 +247,8 @@ segments-end parent s at low b used h r =
 
 pub segments-count : {parent s : List ℕ} {at low : ℕ} {b : List ℕ} {used m n to : ℕ} {b′ : List ℕ} → m ≡ n
     → SegmentsFrom parent s at low b used m to b′ → SegmentsFrom parent s at low b used n to b′
-segments-count {parent} {s} {at} {low} {b} {used} {to = to} {b′ = b′} e k = subst (λ (j : ℕ). SegmentsFrom parent s at low b used j to b′) e k
+segments-count {parent} {s} {at} {low} {b} {used} {to = to} {b′ = b′} e k =
+    subst (λ (j : ℕ). SegmentsFrom parent s at low b used j to b′) e k
 
 pub segments-next : {parent s : List ℕ} {at from next id last : ℕ} (low : ℕ) (b b₁ : List ℕ) (used : ℕ) {n to : ℕ} {b′ : List ℕ}
     → PartField 2 s at from next → SegmentTaken parent (take (next - from) (drop from s)) b used id last b₁ → low ≤ id

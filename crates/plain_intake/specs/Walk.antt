@@ -1,15 +1,15 @@
 -- What the functions below `take_plain` tell of the parts of an assignment in its usual form.
 --
--- A part is told by its row of fields, and what it holds by the value that stands for it: a range, a segment. What is told of a row that is walked over
--- is told from a place on, so that a turn of the walk puts one entry in front of those that follow.
+-- A part is told by its row of fields, and what it holds by the value that stands for it: a range, a segment. What is told of a row that
+-- is walked over is told from a place on, so that a turn of the walk puts one entry in front of those that follow.
 -- Assumes nothing.
-use Prim.Native.Nat.{ℕ, _+_, _-_, _*_, _≤_, _<_}
+use Prim.Native.Nat.{ℕ, _+_, _-_, _*_, _≤_}
 use mathlib.Core.Path.{_≡_}
 use mathlib.Core.Bool.{true}
 use mathlib.Core.List.{List, [], _∷_, map}
 use lib.ListN.{length, take, drop}
 use Rattle.types.specs.declared.KeyRange.{KeyRange}
-use Rattle.types.specs.KeyRanges.{keyRange, maxHash}
+use Rattle.types.specs.KeyRanges.{maxHash}
 use Rattle.ranges.specs.Overlap.{risingFrom}
 use Rattle.packed_int.specs.Put.{put}
 use Rattle.parents.specs.Parents.{pathOf}
@@ -96,7 +96,8 @@ SegmentSays parent p b used b′ segment.Other = Unit {0}
 
 -- ---- an assignment's segments
 
--- from the place at on the part s has segments alone, so many, which pass and whose ids rise from low on; written from a place on, they end at the place to
+-- from the place at on the part s has segments alone, so many, which pass and whose ids rise from low on; written from a place on, they end
+-- at the place to
 pub record SegmentsFrom (parent s : List ℕ) (at low : ℕ) (b : List ℕ) (used count to : ℕ) (b′ : List ℕ) : Type 0 where
   pub parts : List (List ℕ)
   pub segments : List AssignedSegment

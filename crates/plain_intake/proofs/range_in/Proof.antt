@@ -11,7 +11,8 @@ returns-6 c =
     let d = c .before .before .before .before in
     let e = d .before .before .before .before in
     range-row (subst (NumberSays 1 _ _) (e .start .given .1) (e .before .before .number-at .ensures))
-    (subst (NumberSays 2 _ _) (d .end .given .1) (d .before .before .number-at2 .ensures)) (c .before .before .if1 .left) (c .before .if2 .left) (c .if3 .left)
+    (subst (NumberSays 2 _ _) (d .end .given .1) (d .before .before .number-at2 .ensures))
+    (c .before .before .if1 .left) (c .before .if2 .left) (c .if3 .left)
 
 pub range-in-spec : {M : Type 1} → statement M
 range-in-spec =

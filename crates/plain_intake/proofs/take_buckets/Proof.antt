@@ -1,5 +1,6 @@
 -- `take_buckets` meets its contract: ranges alone, each above the one before it.
--- The invariant: what is told of the buckets from `at` on, written from `to` on, tells those from the first on. The measure is the bytes left. Assumes nothing.
+-- The invariant: what is told of the buckets from `at` on, written from `to` on, tells those from the first on. The measure is the bytes
+-- left. Assumes nothing.
 use Prim.Native.Nat.{ℕ, _+_, _-_, _*_, _≤_}
 use native.Mathlib.Omega.{arith}
 use mathlib.Core.Path.{_≡_, refl, ap, subst, _∙_}
@@ -39,7 +40,8 @@ Found = lts.After-known-told (
 ) reads.Pre reads.Post Inv-loop μ-loop
 
 found : (c : Found)
-    → PartField 5 (c .before .before .before .before .before .before .before .before .args .p .now) (c .before .before .before .before .before .loop .at) (c .before .from .given .0 .0) (c .before .from .given .0 .1 .0)
+    → let loop = c .before .before .before .before .before in
+    PartField 5 (loop .before .before .before .args .p .now) (loop .loop .at) (c .before .from .given .0 .0) (c .before .from .given .0 .1 .0)
 found c = subst (PartSays 5 _ _) (c .before .from .given .1) (c .before .before .before .part-at .ensures)
 
 -- and a range in it
@@ -54,35 +56,27 @@ Ranged = lts.After-known-told2 (
 ) reads.Pre reads.Post Inv-loop μ-loop
 
 ranged : (c : Ranged)
-    → RangeRow (take (c .before .before .before .before .before .before .from .given .0 .1 .0 - c .before .before .before .before .before .before .from .given .0 .0) (drop (c .before .before .before .before .before .before .from .given .0 .0) (c .before .before .before .before .before .before .before .before .before .before .before .before .before .args .p .now)))
+    → let part = c .before .before .before .before .before .before in
+    let from = part .from .given .0 .0 in
+    RangeRow (take (part .from .given .0 .1 .0 - from) (drop from (part .before .before .before .before .before .before .before .args .p .now)))
     (c .before .start .given .0 .0) (c .before .start .given .0 .1 .0)
 ranged c = subst (RangeSays _) (c .before .start .given .1) (c .before .before .before .range-in .ensures)
 
-mul-write-u32 : tie.Need-mul-write-u32 Inv-loop μ-loop
-mul-write-u32 c = let h = ranged (c .before .before .before) in omega (arith, h .order, h .high)
-
-add-write-u32 : tie.Need-add-write-u32 Inv-loop μ-loop
-add-write-u32 c = let h = ranged (c .before .before .before) in omega (arith, h .order, h .high)
-
-cast-write-u32 : tie.Need-cast-write-u32 Inv-loop μ-loop
-cast-write-u32 c = let h = ranged (c .before .before .before) in omega (arith, h .order, h .high)
-
-add-low : tie.Need-add-low Inv-loop μ-loop
-add-low c = let h = ranged (c .before .before .before .before .before .before) in omega (arith, h .high)
-
-loop-less : tie.Need-loop-less Inv-loop μ-loop
-loop-less c = let h = found (c .before .before .before .before .before .before .before .before .before .before .before) in omega (arith, h .moved, h .within)
-
 loop-again : tie.Need-loop-again Inv-loop μ-loop
 loop-again c =
-    let f = found (c .before .before .before .before .before .before .before .before .before .before .before) in
-    let q = ranged (c .before .before .before .before .before .before) in
-    let i = c .before .before .before .before .before .before .before .before .before .before .before .before .before .before .before .before .loop .inv in
+    let v = c .before .before .before .before .before .before in
+    let f = found (v .before .before .before .before .before) in
+    let q = ranged v in
+    let loop = v .before .before .before .before .before .before .before .before .before .before .loop in
     let w = c .before .before .write-u32 .ensures in
-    let r : c .before .before .before .before .before .before .before .before .before .before .before .before .before .before .before .before .loop .to + 4 ≤ length (c .before .before .before .before .before .before .before .before .before .before .before .before .before .before .before .before .loop .b) = omega arith in
-    let l : length (c .before .before .write-u32 .last .0) ≡ length (c .before .before .before .before .before .before .before .before .before .before .before .before .before .before .before .before .loop .b) =
-    ap length w ∙ length-put _ _ _ (omega (arith, length-bytesOf 4 (c .before .before .before .before .before .before .before .start .given .0 .0 * 65536 + c .before .before .before .before .before .before .before .start .given .0 .1 .0))) in
-    (l ∙ i .0, omega arith, omega (arith, q .high), λ end b′ k. i .3 end b′ (buckets-next _ _ _ _ f q (omega arith) r w k))
+    let r : loop .to + 4 ≤ length (loop .b) = omega arith in
+    let n = length-bytesOf 4 (v .before .start .given .0 .0 * 65536 + v .before .start .given .0 .1 .0) in
+    let l : length (c .before .before .write-u32 .last .0) ≡ length (loop .b) = ap length w ∙ length-put _ _ _ (omega arith) in (
+      l ∙ loop .inv .0,
+      omega arith,
+      omega (arith, q .high),
+      λ end b′ k. loop .inv .3 end b′ (buckets-next _ _ _ _ f q (omega arith) r w k),
+    )
 
 returns-5 : tie.Need-returns-5 Inv-loop μ-loop
 returns-5 c = c .before .loop .inv .3 _ _ (buckets-end _ _ _ _ _ (c .loop-test .left) (c .before .loop .inv .1))
@@ -115,15 +109,17 @@ take-buckets-spec =
     (λ c. search needs)
     (λ c. search needs)
     (λ c. search needs)
-    mul-write-u32
-    add-write-u32
-    cast-write-u32
+    -- mul-write-u32, add-write-u32, cast-write-u32
+    (λ c. let h = ranged (c .before .before .before) in omega arith)
+    (λ c. let h = ranged (c .before .before .before) in omega arith)
+    (λ c. let h = ranged (c .before .before .before) in omega arith)
     -- write-u32-requires
     (λ c κs. search needs)
-    add-low
-    -- add-to
+    -- add-low, add-to
+    (λ c. let h = ranged (c .before .before .before .before .before .before) in omega arith)
     (λ c. search needs)
-    loop-less
+    -- loop-less
+    (λ c. let h = found (c .before .before .before .before .before .before .before .before .before .before .before) in omega arith)
     loop-again
     -- same-length-5
     (λ c. search needs)

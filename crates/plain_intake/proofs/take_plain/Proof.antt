@@ -32,24 +32,31 @@ Taken = lts.After-known-told2 (
 ) reads.Pre reads.Post
 
 taken : (c : Taken)
-    → SegmentsFrom (c .before .before .before .before .before .before .before .before .before .before .before .before .before .before .before .before .args .parent .now) (c .before .before .before .before .before .before .before .before .before .before .before .before .before .before .before .before .args .s .now) (c .before .before .before .before .before .before .before .before .epoch .given .0 .1 .0) 0 (c .before .before .before .before .before .before .before .before .before .before .before .before .before .before .before .before .args .b .now) 10
-    (c .before .count .given .0 .0) (c .before .count .given .0 .1 .0) (c .before .before .before .before .before .take-segments .last .1 .1 .1 .0)
+    → let e = c .before .before .before .before .before .before .before .before in
+    let a = e .before .before .before .before .before .before .before .before .args in
+    SegmentsFrom (a .parent .now) (a .s .now) (e .epoch .given .0 .1 .0) 0 (a .b .now) 10 (c .before .count .given .0 .0)
+    (c .before .count .given .0 .1 .0) (c .before .before .before .before .before .take-segments .last .1 .1 .1 .0)
 taken c = subst (SegmentsSay _ _ _ _ _) (c .before .count .given .1) (c .before .before .before .before .before .take-segments .ensures)
 
 take-segments-requires : tie.Need-take-segments-requires
 take-segments-requires c κs =
     let i = c .before .before .before .before .before in
-    let p = c .before .before .before .before .before .before .before .before .before .before .pre in
+    let p = i .before .before .before .before .before .pre in
     ((sym (i .before .is-parent .ensures) ∙ not-false _ (i .if1 .left), p .1), p .0)
 
 cast-write-u16 : tie.Need-cast-write-u16
-cast-write-u16 c = omega (arith, segments-few (c .before .before .before .before .before .before .before .before .before .before .before .before .before .before .before .before .before .pre .0) (taken (c .before)))
+cast-write-u16 c =
+    let k = c .before in
+    let h = segments-few (k .before .before .before .before .before .before .before .before .before .before .before .before .before .before .before .before .pre .0) (taken k) in
+    omega arith
 
 returns-4 : tie.Need-returns-4
 returns-4 c =
-    let e = c .before .before .before .before .before .before .before .before .before .before .before .before .before .before .before .before in
-    plain-taken (c .before .before .before .before .before .before .before .before .before .before .before .before .before .before .before .before .before .before .before .before .before .before .before .before .pre .0) (taken (c .before .before .before .before .before .before .before .before)) _ _ (subst (NumberSays 1 _ _) (e .epoch .given .1) (e .before .before .number-at .ensures))
-    (c .before .before .before .before .before .before .write-u16 .ensures) (c .before .before .write-u64 .ensures)
+    let w = c .before .before .before .before .before .before in
+    let k = w .before .before in
+    let e = k .before .before .before .before .before .before .before .before in
+    plain-taken (e .before .before .before .before .before .before .before .before .pre .0) (taken k) _ _ (subst (NumberSays 1 _ _) (e .epoch .given .1) (e .before .before .number-at .ensures))
+    (w .write-u16 .ensures) (c .before .before .write-u64 .ensures)
 
 pub take-plain-spec : {M : Type 1} → statement M
 take-plain-spec =

@@ -30,8 +30,8 @@ Found = lts.After-known-told (
 ) reads.Pre reads.Post
 
 found : (c : Found)
-    → HeadRow (c .before .before .before .before .before .before .before .args .p .now) (c .before .id .given .0 .0) (c .before .id .given .0 .1 .0) (c .before .id .given .0 .1 .1 .0)
-    (c .before .id .given .0 .1 .1 .1 .0) (c .before .id .given .0 .1 .1 .1 .1 .0)
+    → let v = c .before .id .given .0 in
+    HeadRow (c .before .before .before .before .before .before .before .args .p .now) (v .0) (v .1 .0) (v .1 .1 .0) (v .1 .1 .1 .0) (v .1 .1 .1 .1 .0)
 found c = subst (HeadSays _) (c .before .id .given .1) (c .before .before .before .head-of .ensures)
 
 -- and buckets behind them
@@ -48,29 +48,29 @@ Walked = lts.After-known-told2 (
 ) reads.Pre reads.Post
 
 walked : (c : Walked)
-    → BucketsFrom (c .before .before .before .before .before .before .before .before .before .before .before .before .before .before .before .before .before .before .before .args .p .now) (c .before .before .before .before .before .before .before .before .before .before .before .before .before .id .given .0 .1 .1 .1 .1 .0) 0 (c .before .before .before .before .before .before .before .before .before .before .before .before .before .before .before .before .before .before .before .args .b .now) (c .before .before .before .before .before .before .before .before .before .before .before .before .before .before .before .before .before .before .before .args .used + 14)
+    → let head = c .before .before .before .before .before .before .before .before .before .before .before .before .before in
+    let a = head .before .before .before .before .before .before .args in
+    BucketsFrom (a .p .now) (head .id .given .0 .1 .1 .1 .1 .0) 0 (a .b .now) (a .used + 14)
     (c .before .last .given .0 .0) (c .before .before .before .before .before .take-buckets .last .1 .1 .0)
 walked c = subst (BucketsSay _ _ _ _ _) (c .before .last .given .1) (c .before .before .before .before .before .take-buckets .ensures)
 
-sub-is-segment-topic-2 : tie.Need-sub-is-segment-topic-2
-sub-is-segment-topic-2 c = parent-long _ (c .before .before .before .before .before .before .before .before .pre .0 .0)
-
-part-is-segment-topic-start-2 : tie.Need-part-is-segment-topic-start-2
-part-is-segment-topic-start-2 c = omega (arith, parent-long _ (c .before .before .before .before .before .before .before .before .pre .0 .0))
-
 write-head-requires : tie.Need-write-head-requires
 write-head-requires c κs =
-    let h = found (c .before .before .before .before .before .before .before .before .before .before .before .before .before) in
+    let v = c .before .before .before .before .before .before .before .before .before .before .before .before .before in
+    let h = found v in
     let k = walked (c .before) in
     let l = buckets-kept k in
-    (omega (arith, l, k .to-is, k .room), (omega (arith, h .order, h .high), omega (arith, h .high), omega (arith, k .to-is, k .room, c .before .before .before .before .before .before .before .before .before .before .before .before .before .before .before .before .before .before .before .before .pre .1 .0)))
+    let s = v .before .before .before .before .before .before .before .pre .1 in
+    (omega (arith, k .to-is, k .room), (omega (arith, h .order, h .high), omega (arith, h .high), omega (arith, k .to-is, k .room, s .0)))
 
 returns-5 : tie.Need-returns-5
 returns-5 c =
-    let t = c .before .before .before .before .before .before .before .before .before .before .before .before in
-    let s = c .before .before .before .before .before .before .before .before .before .before .before .before .before .before .before .before .before .before .before .before .before .before .before in
-    segment-taken _ (s .pre .0 .0) (s .pre .0 .1) _ _ _ _ (found (c .before .before .before .before .before .before .before .before .before .before .before .before .before .before .before .before))
-    (t .before .is-segment-topic .ensures) (not-false _ (t .if1 .left)) (walked (c .before .before .before .before)) (c .before .before .write-head .ensures)
+    let k = c .before .before .before .before in
+    let t = k .before .before .before .before .before .before .before .before in
+    let v = t .before .before .before .before in
+    let p = v .before .before .before .before .before .before .before .pre .0 in
+    segment-taken _ (p .0) (p .1) _ _ _ _ (found v) (t .before .is-segment-topic .ensures) (not-false _ (t .if1 .left)) (walked k)
+    (c .before .before .write-head .ensures)
 
 pub take-segment-spec : {M : Type 1} → statement M
 take-segment-spec =
@@ -82,13 +82,14 @@ take-segment-spec =
     (λ c. search needs)
     (λ c. search needs)
     (λ c. search needs)
-    (λ c. let h = found c in omega (arith, h .order, h .high))
-    (λ c. let h = found c in omega (arith, h .order, h .high))
-    (λ c. let h = found c in omega (arith, h .ordered, h .within))
-    (λ c. let h = found c in omega (arith, h .ordered, h .within))
-    (λ c. let h = found c in omega (arith, h .ordered, h .within))
-    sub-is-segment-topic-2
-    part-is-segment-topic-start-2
+    (λ c. let h = found c in omega arith)
+    (λ c. let h = found c in omega arith)
+    (λ c. let h = found c in omega arith)
+    (λ c. let h = found c in omega arith)
+    (λ c. let h = found c in omega arith)
+    -- sub-is-segment-topic-2, part-is-segment-topic-start-2
+    (λ c. parent-long _ (c .before .before .before .before .before .before .before .before .pre .0 .0))
+    (λ c. let h = parent-long _ (c .before .before .before .before .before .before .before .before .pre .0 .0) in omega arith)
     -- part-is-segment-topic-end-2, is-segment-topic-requires, returns-2, sub-if2, returns-3, add-place, take-buckets-requires,
     -- enum-known-last, enum-told-2, same-length, returns-4, sub-write-head
     (λ c. search needs)
@@ -102,7 +103,7 @@ take-segment-spec =
     (λ c. search needs)
     (λ c. search needs)
     (λ c. search needs)
-    (λ c. let k = walked (c .before) in omega (arith, k .to-is))
+    (λ c. let k = walked (c .before) in omega arith)
     write-head-requires
     -- same-length-2
     (λ c. search needs)

@@ -1,5 +1,6 @@
 -- `take_segments` meets its contract: segments alone, each of an id above the one before it.
--- The invariant: what is told of the segments from `at` on, written from `used` on, tells those from the first on. The measure is the bytes left. Assumes nothing.
+-- The invariant: what is told of the segments from `at` on, written from `used` on, tells those from the first on. The measure is the bytes
+-- left. Assumes nothing.
 use Prim.Native.Nat.{ℕ, _+_, _-_, _*_, _≤_}
 use native.Mathlib.Omega.{arith}
 use mathlib.Core.Path.{_≡_, subst, _∙_}
@@ -19,7 +20,8 @@ use Rattle.plain_intake.proofs.take_segment.Reads as take-segment-reads
 abbrev Inv-loop : tie.InvT-loop
 Inv-loop s first parent b₀ at₀ low₀ used₀ count₀ b at low used count =
     (length b ≡ 2048) × (used ≤ 2048) × (10 + 14 * count ≤ used)
-    × ((n to : ℕ) (b′ : List ℕ) → SegmentsFrom parent s at low b used n to b′ → SegmentsFrom parent s first 0 b₀ 10 (count + n) to b′)
+    × ((n to : ℕ) (b′ : List ℕ) → SegmentsFrom parent s at low b used n to b′
+    → SegmentsFrom parent s first 0 b₀ 10 (count + n) to b′)
 
 abbrev μ-loop : tie.MeasureT-loop
 μ-loop s first parent b₀ at₀ low₀ used₀ count₀ b at low used count = length s - at
@@ -34,7 +36,8 @@ Found = lts.After-known-told (
 ) reads.Pre reads.Post Inv-loop μ-loop
 
 found : (c : Found)
-    → PartField 2 (c .before .before .before .before .before .before .before .before .before .args .s .now) (c .before .before .before .before .before .loop .at) (c .before .from .given .0 .0) (c .before .from .given .0 .1 .0)
+    → let loop = c .before .before .before .before .before in
+    PartField 2 (loop .before .before .before .before .args .s .now) (loop .loop .at) (c .before .from .given .0 .0) (c .before .from .given .0 .1 .0)
 found c = subst (PartSays 2 _ _) (c .before .from .given .1) (c .before .before .before .part-at .ensures)
 
 -- and a segment in it
@@ -47,23 +50,23 @@ Taken = lts.After-known-told2 (
 ) reads.Pre reads.Post Inv-loop μ-loop
 
 taken : (c : Taken)
-    → SegmentTaken (c .before .before .before .before .before .before .before .before .before .before .before .before .before .before .before .before .before .args .parent .now)
-    (take (c .before .before .before .before .before .before .before .before .before .from .given .0 .1 .0 - c .before .before .before .before .before .before .before .before .before .from .given .0 .0) (drop (c .before .before .before .before .before .before .before .before .before .from .given .0 .0) (c .before .before .before .before .before .before .before .before .before .before .before .before .before .before .before .before .before .args .s .now)))
-    (c .before .before .before .before .before .before .before .before .before .before .before .before .before .loop .b) (c .before .before .before .before .before .before .before .before .before .before .before .before .before .loop .used) (c .before .id .given .0 .0) (c .before .id .given .0 .1 .0)
-    (c .before .before .before .before .before .take-segment .last .1 .1 .0)
+    → let part = c .before .before .before .before .before .before .before .before .before in
+    let from = part .from .given .0 .0 in
+    let loop = part .before .before .before .before in
+    let a = loop .before .before .before .before .args in
+    SegmentTaken (a .parent .now) (take (part .from .given .0 .1 .0 - from) (drop from (a .s .now))) (loop .loop .b) (loop .loop .used)
+    (c .before .id .given .0 .0) (c .before .id .given .0 .1 .0) (c .before .before .before .before .before .take-segment .last .1 .1 .0)
 taken c = subst (SegmentSays _ _ _ _ _) (c .before .id .given .1) (c .before .before .before .before .before .take-segment .ensures)
 
 loop-holds : tie.Need-loop-holds Inv-loop μ-loop
 loop-holds c = (c .before .before .before .pre .1, omega arith, omega arith, λ n to b′ k. segments-count (omega arith) k)
 
-loop-less : tie.Need-loop-less Inv-loop μ-loop
-loop-less c = let h = found (c .before .before .before .before .before .before .before .before .before .before) in omega (arith, h .moved, h .within)
-
 loop-again : tie.Need-loop-again Inv-loop μ-loop
 loop-again c =
-    let f = found (c .before .before .before .before .before .before .before .before .before .before) in
+    let p = c .before .before .before .before .before .before .before .before .before .before in
+    let f = found p in
     let q = taken (c .before .before) in
-    let i = c .before .before .before .before .before .before .before .before .before .before .before .before .before .before .before .loop .inv in (
+    let i = p .before .before .before .before .before .loop .inv in (
       segment-kept q ∙ i .0,
       omega (arith, q .room, i .0),
       omega (arith, i .2, segment-long q),
@@ -104,7 +107,8 @@ take-segments-spec =
     (λ c. search needs)
     (λ c. search needs)
     (λ c. search needs)
-    loop-less
+    -- loop-less
+    (λ c. let h = found (c .before .before .before .before .before .before .before .before .before .before) in omega arith)
     loop-again
     -- same-length-5
     (λ c. search needs)

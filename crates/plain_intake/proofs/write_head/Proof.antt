@@ -9,7 +9,7 @@ returns c =
     let d = c .before .before in
     let e = d .before .before .before .before in
     let f = e .before .before .before .before in
-    let s = c .before .before .before .before .before .before .before .before .before .before .before .before .before in
+    let s = f .before .before .before in
     head-written (s .args .id) (s .args .start) (s .args .end) (s .args .count) _ _ _ _ (s .args .at) (s .pre .0) (s .pre .1 .1)
     (f .write-u64 .ensures) (e .write-u32 .ensures) (d .write-u16 .ensures)
 
