@@ -1,5 +1,5 @@
 -- Laws of byte order: it turns around (`order-flip`), is equal for equal lists alone (`order-refl`, `order-equal`, `same-order`), and goes on
--- (`order-trans`, `before-trans`); what a loop over both lists asks at the index i, by bytes and by words (`order-word`, `order-word-less`).
+-- (`order-trans`, `before-trans`); what a loop over both lists asks at the index i, by bytes and by words (`order-word`, `order-word-less`), and how a word is read (`word-..`).
 -- Assumes nothing.
 use Prim.Native.Nat.{ℕ, suc, _+_, _*_, _^_, _≤_, _<_}
 use native.Mathlib.Nat.{mul-le-mul-right, suc-mul}
@@ -10,7 +10,7 @@ use mathlib.Core.Path.{_≡_, refl, sym, ap, ap₂, _∙_}
 use mathlib.Core.Bool.{Bool, true, false, cond, false≢true}
 use mathlib.Core.Logic.{_⊎_, inl, inr}
 use mathlib.Core.List.{List, [], _∷_, _++_}
-use lib.ListN.{length, take, drop, getD, length-drop, take-append-drop, drop-of-length-le}
+use lib.ListN.{length, take, drop, getD, length-take, length-drop, take-append-drop, drop-of-length-le}
 use lib.Seq.{drop-cons, drop-drop, length-take-le}
 use lib.Dec.{ltb}
 use borrow.Author.Tests.{lt-ltb, le-ltb, ltb-true, ltb-false}
@@ -18,7 +18,7 @@ use Rattle.parts.specs.Same.{sameBytes}
 use Rattle.parts.proofs.SameLaws.{same-refl, same-eq}
 use Rattle.parts.proofs.PartLaws.{Bytes, Bytes-take, Bytes-drop}
 use Rattle.packed_int.specs.Be.{be, beAt, bytesOf}
-use Rattle.packed_int.proofs.BeLaws.{be-nil, be-append, be-snoc, be-below, bytesOf-front}
+use Rattle.packed_int.proofs.BeLaws.{be-nil, be-append, be-snoc, be-at-one, be-at-add, be-below, bytesOf-front}
 use Rattle.topics.specs.declared.Order.{Order}
 use Rattle.topics.specs.declared.Order.the-variants.{Less, Equal, Greater}
 use Rattle.topics.specs.Topics.{order, byOrder, before}
@@ -261,3 +261,17 @@ order-word-less w a b i ba bb h k e =
     ap₂ order (sym (take-append-drop w (drop i a))) (sym (take-append-drop w (drop i b)))
     ∙ word-less x y (drop w (drop i a)) (drop w (drop i b)) (lx ∙ sym ly) (Bytes-take w (drop i a) (Bytes-drop i a ba))
     (Bytes-take w (drop i b) (Bytes-drop i b bb)) e
+
+-- ---- a word read byte by byte
+
+module _ (s : List ℕ) (at : ℕ) where
+  pub word-start : 0 ≡ beAt 0 s at
+  unfolding beAt
+  word-start = sym be-nil
+
+  pub word-turn : (k : ℕ) → at + k < length s → beAt k s at * 256 + getD s (at + k) 0 ≡ beAt (k + 1) s at
+  word-turn k h = sym (be-at-add k 1 s at (omega arith) ∙ ap (λ (n : ℕ). beAt k s at * 256 + n) (be-at-one s (at + k) h))
+
+  pub word-fits : (k : ℕ) → k ≤ 8 → Bytes s → beAt k s at < 2 ^ 64
+  unfolding beAt
+  word-fits k h f = be-below 8 (take k (drop at s)) (rw length-take (omega arith)) (Bytes-take k (drop at s) (Bytes-drop at s f))
