@@ -19,7 +19,7 @@ use Rattle.session.specs.Trace.{begin, invalidate}
 use Rattle.session.proofs.Model.{after, beginCall, invalidateCall}
 use Rattle.magnetar.specs.Result.{Ok}
 use Rattle.magnetar.specs.Assignment.{NonAdvancingIncarnation, ConsumerAssignment}
-use Rattle.magnetar.specs.Session.{AssignmentReplay, Did, Run, fail, begin-incarnation}
+use Rattle.magnetar.specs.Session.{AssignmentReplay, Did, Run, fail, with-fields, begin-incarnation}
 use Rattle.same_session.specs.Values.{asFloor}
 use Rattle.same_session.specs.Demand.{done, Caller, afterLink, rustStep}
 use Rattle.same_session.proofs.ReplayAgrees.{Registration, sess}
@@ -57,24 +57,7 @@ swapped false x y = refl
 
 -- the method behind its test
 abbrev beginning : ControllerIncarnation → Run (Unit {0})
-beginning link s =
-    record {
-      after =
-          record {
-            consumer-id = s .consumer-id;
-            topic = s .topic;
-            subscription = s .subscription;
-            consumer-name = s .consumer-name;
-            consumer-type = s .consumer-type;
-            incarnation = link;
-            assignment = none;
-            epoch-floor = s .epoch-floor;
-            buffered-updates = [];
-            replayed-updates = [];
-            invalidated = false;
-          };
-      result = Ok tt;
-    }
+beginning link s = record { after = with-fields link none (s .epoch-floor) [] [] false s; result = Ok tt }
 
 module _ (n : Registration) (link : ControllerIncarnation) (s : Session) where
   abbrev Begins : List AssignmentReplay → session.Result → Did (Unit {0}) → Type 0

@@ -4,7 +4,7 @@
 use Prim.Native.Nat.{ℕ, zero, suc, _+_, _<_}
 use native.Mathlib.Omega.{arith}
 use mathlib.Core.Path.{_≡_, refl, ap, ap₂, sym, _∙_}
-use mathlib.Core.Bool.{true, cond}
+use mathlib.Core.Bool.{Bool, true, cond}
 use mathlib.Core.List.{List, [], map}
 use mathlib.Core.Logic.{_⊎_, inl, inr}
 use mathlib.Core.Option.{some, none, Option·map}
@@ -25,7 +25,7 @@ use Rattle.session.proofs.ViewLaws.{FitReply, Follows}
 use Rattle.session.proofs.TraceLaws.{delta-back, outOf}
 use Rattle.keyed.proofs.KeyedLaws.{choose}
 use Rattle.same_session.specs.Values.{asAssignment, asDelta, asReplay, asFloor, replays}
-use Rattle.same_session.specs.Demand.{delta, replay, topicIn, sheetAt, toldBy, portShown, Caller, Turn, rustStep, rustShown}
+use Rattle.same_session.specs.Demand.{Told, delta, replay, Shown, topicIn, sheetAt, toldBy, portShown, Caller, Turn, rustStep, rustShown}
 use Rattle.same_session.proofs.ReplayAgrees.{Registration, Next, replays-entry}
 use Rattle.same_session.proofs.Mirror.{entryAt, toldIn, shownIn, Idle, Live, Mirror, Good, Fair}
 use Rattle.same_session.proofs.UpdateAgrees.{fair-update}
@@ -49,34 +49,26 @@ shown-agrees n w s x y g = go (g .mirror .state)
     z : Session
     z = after s x
 
+    -- what the port shows, by what it told and whether it is registered
+    shown : Told → Bool → Shown
+    shown t b =
+        record {
+          told = t;
+          assignment = Option·map (asAssignment (z .topic)) (cond b (some (z .list)) none);
+          epoch-floor = asFloor (z .state .«epoch_floor»);
+          incarnation = z .state .incarnation;
+          registered = b;
+          invalidated = z .state .invalidated;
+          waiting = cond b [] (map (asAssignment (z .topic)) (z .queue));
+          undrained = cond b (replays (z .topic) (z .baseline) (z .queue) (z .state .«drain_position»)) [];
+        }
+
     go : Idle n (after s x) (y .next) ⊎ Live n (after s x) (y .next) → shownIn w (x .reply) (after s x) ≡ rustShown y
     go (inl d) =
-        (λ i.
-        let b = d .registered i in
-        record {
-          told = g .told i;
-          assignment = Option·map (asAssignment (z .topic)) (cond b (some (z .list)) none);
-          epoch-floor = asFloor (z .state .«epoch_floor»);
-          incarnation = z .state .incarnation;
-          registered = b;
-          invalidated = z .state .invalidated;
-          waiting = cond b [] (map (asAssignment (z .topic)) (z .queue));
-          undrained = cond b (replays (z .topic) (z .baseline) (z .queue) (z .state .«drain_position»)) [];
-        })
+        (λ i. shown (g .told i) (d .registered i))
         ∙ ap (λ c. rustShown (record { told = y .told; next = c })) (sym (d .is))
     go (inr d) =
-        (λ i.
-        let b = d .registered i in
-        record {
-          told = g .told i;
-          assignment = Option·map (asAssignment (z .topic)) (cond b (some (z .list)) none);
-          epoch-floor = asFloor (z .state .«epoch_floor»);
-          incarnation = z .state .incarnation;
-          registered = b;
-          invalidated = z .state .invalidated;
-          waiting = cond b [] (map (asAssignment (z .topic)) (z .queue));
-          undrained = cond b (replays (z .topic) (z .baseline) (z .queue) (z .state .«drain_position»)) [];
-        })
+        (λ i. shown (g .told i) (d .registered i))
         ∙ ap (λ l.
         record {
           told = y .told;
