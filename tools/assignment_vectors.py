@@ -6,13 +6,11 @@ together again, ranges are sets of values, and rows of segments are dictionaries
 import struct
 from collections import namedtuple
 
-from name_vectors import Refused, key_range, parent_path, utf8
+from name_vectors import ROOM, Refused, key_range, parent_path, utf8
 from wire_vectors import contents, int32
 
 SLOT = 2048
 LONGEST_DELTA = 3210
-# the most bytes that the program takes as an argument, and lends as an output
-ROOM = 16384
 
 Segment = namedtuple("Segment", "id start end buckets")
 Assignment = namedtuple("Assignment", "epoch segments")

@@ -5,6 +5,9 @@ Rust splits them).
 """
 import re
 
+# the most bytes that the program takes as an argument, and lends as an output
+ROOM = 66560
+
 
 class Refused(Exception):
     """A refusal: its number, then the attached numbers, and the broker's text in hexadecimal."""

@@ -3,11 +3,9 @@
 It is read from the specification's words: sets of topics are Python's own, put in order when they are packed, and the message is tested and taken apart by the
 reader of tools/wire_vectors.py.
 """
-from name_vectors import Refused, utf8
+from name_vectors import ROOM, Refused, utf8
 from wire_vectors import WATCH, check, contents, int32
 
-# the most bytes of a buffer, of a message and of an output
-ROOM = 66560
 LONGEST_TOPIC = 65535
 
 

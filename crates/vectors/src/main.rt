@@ -3,65 +3,36 @@
 // A line is a command and its arguments, with a space between two; a line that starts with '#' is passed over. An argument is a decimal number, or bytes: as they
 // stand, or in hexadecimal behind 0x. Names and texts are answered as they stand, other bytes in hexadecimal. Behind the answer of a call that may write stands
 // `same` where all bytes that must stay are so still. What each line should give is reckoned anew by tools/vectors.py, by other means.
-mod buffers;
-mod delta_vectors;
-mod intake_vectors;
 mod name_vectors;
-mod output_vectors;
-mod packed_vectors;
-mod print;
 mod range_vectors;
 mod text_vectors;
-mod watch_vectors;
 mod wire_vectors;
 
-use buffers::front;
 use call_text::text;
+use lent_vectors::buffers::front;
 use libc::STDIN_FILENO;
 
 // The most bytes that are read.
 const INPUT: usize = 1048576;
-
-// Texts, names, ranges and messages.
-fn run_reader(name: &[u8], line: &[u8]) -> bool {
-    if text_vectors::run(name, line) {
-        return true;
-    }
-    if name_vectors::run(name, line) {
-        return true;
-    }
-    if range_vectors::run(name, line) {
-        return true;
-    }
-    wire_vectors::run(name, line)
-}
-
-// Packed assignments, deltas, the calls with an output, the intake, the watch.
-fn run_writer(name: &[u8], line: &[u8]) -> bool {
-    if packed_vectors::run(name, line) {
-        return true;
-    }
-    if delta_vectors::run(name, line) {
-        return true;
-    }
-    if output_vectors::run(name, line) {
-        return true;
-    }
-    if intake_vectors::run(name, line) {
-        return true;
-    }
-    watch_vectors::run(name, line)
-}
 
 fn run(line: &[u8]) {
     if parts::starts_with(line, b"#") {
         return;
     }
     let name = lines::word(line, 0);
-    if run_reader(name, line) {
+    if text_vectors::run(name, line) {
         return;
     }
-    if run_writer(name, line) {
+    if name_vectors::run(name, line) {
+        return;
+    }
+    if range_vectors::run(name, line) {
+        return;
+    }
+    if wire_vectors::run(name, line) {
+        return;
+    }
+    if lent_vectors::run(name, line) {
         return;
     }
     text(b"unknown command\n");

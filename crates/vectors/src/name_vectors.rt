@@ -1,9 +1,9 @@
 // Names of segments built and read, and the parents of names.
-use crate::buffers;
-use crate::print;
 use call_text::attached;
 use call_text::decimal;
 use call_text::text;
+use lent_vectors::buffers;
+use lent_vectors::print;
 use segment_source::SourceAnswer;
 use topic::NameAnswer;
 use types::SegmentId;

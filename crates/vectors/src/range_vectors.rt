@@ -1,7 +1,7 @@
 // Ranges at the limits: the calls on ranges, and rows of ranges.
-use crate::print;
 use key_range::LengthAnswer;
 use key_range::TestAnswer;
+use lent_vectors::print;
 use types::KeyRange;
 
 // length START END

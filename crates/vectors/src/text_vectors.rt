@@ -1,5 +1,5 @@
 // UTF-8.
-use crate::print;
+use lent_vectors::print;
 
 // utf8 BYTES
 pub fn run(name: &[u8], line: &[u8]) -> bool {

@@ -1,7 +1,7 @@
 // Varints, messages and their values.
-use crate::buffers::filled;
-use crate::print;
 use call_text::text;
+use lent_vectors::buffers::filled;
+use lent_vectors::print;
 use messages::Checked;
 use messages::MessageKind;
 use values::Last;

@@ -3,8 +3,8 @@
 use mathlib.Core.Path.{sym}
 use lib.Seq.{length-take-le}
 use borrow.Author.Needs.{needs}
-use Rattle.vectors.proofs.buffers.front_mut.Statement.{statement}
-use Rattle.vectors.proofs.buffers.front_mut.Tie as tie
+use Rattle.lent_vectors.proofs.buffers.front_mut.Statement.{statement}
+use Rattle.lent_vectors.proofs.buffers.front_mut.Tie as tie
 
 slice-aggregate-result : tie.Need-slice-aggregate-result
 slice-aggregate-result c = sym (length-take-le _ _ (c .before .if1 .taken))

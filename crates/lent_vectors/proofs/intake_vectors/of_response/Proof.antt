@@ -1,8 +1,8 @@
 -- `of_response` lends `take_in` its buffer and the response's own epoch. Assumes nothing.
 use Rattle.readers.specs.Messages.{responseOf}
 use borrow.Author.Needs.{needs}
-use Rattle.vectors.proofs.intake_vectors.of_response.Statement.{statement}
-use Rattle.vectors.proofs.intake_vectors.of_response.Tie as tie
+use Rattle.lent_vectors.proofs.intake_vectors.of_response.Statement.{statement}
+use Rattle.lent_vectors.proofs.intake_vectors.of_response.Tie as tie
 
 read-response-requires : tie.Need-read-response-requires
 read-response-requires c κs = search needs

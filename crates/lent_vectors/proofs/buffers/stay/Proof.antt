@@ -3,8 +3,8 @@
 use Prim.Native.Nat.{_-_, _≤_}
 use borrow.Author.Needs.{needs}
 use lib.ListN.{length}
-use Rattle.vectors.proofs.buffers.stay.Statement.{statement}
-use Rattle.vectors.proofs.buffers.stay.Tie as tie
+use Rattle.lent_vectors.proofs.buffers.stay.Statement.{statement}
+use Rattle.lent_vectors.proofs.buffers.stay.Tie as tie
 
 abbrev Inv-loop : tie.InvT-loop
 Inv-loop from before s i₀ i = from ≤ i

@@ -1,7 +1,7 @@
 -- `write_between` calls `write_delta` on two packed assignments, whose delta has room. Assumes nothing.
 use borrow.Author.Needs.{needs}
-use Rattle.vectors.proofs.delta_vectors.write_between.Statement.{statement}
-use Rattle.vectors.proofs.delta_vectors.write_between.Tie as tie
+use Rattle.lent_vectors.proofs.delta_vectors.write_between.Statement.{statement}
+use Rattle.lent_vectors.proofs.delta_vectors.write_between.Tie as tie
 
 is-packed-requires : tie.Need-is-packed-requires
 is-packed-requires c κs = search needs

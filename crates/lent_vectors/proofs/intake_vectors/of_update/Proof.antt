@@ -1,8 +1,8 @@
 -- `of_update` lends `take_in` its buffer and the update's own epoch. Assumes nothing.
 use Rattle.readers.specs.Messages.{updateOf}
 use borrow.Author.Needs.{needs}
-use Rattle.vectors.proofs.intake_vectors.of_update.Statement.{statement}
-use Rattle.vectors.proofs.intake_vectors.of_update.Tie as tie
+use Rattle.lent_vectors.proofs.intake_vectors.of_update.Statement.{statement}
+use Rattle.lent_vectors.proofs.intake_vectors.of_update.Tie as tie
 
 read-update-requires : tie.Need-read-update-requires
 read-update-requires c κs = search needs

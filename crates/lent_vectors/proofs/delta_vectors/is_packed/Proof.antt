@@ -3,9 +3,9 @@
 use mathlib.Core.Path.{sym, _∙_}
 use mathlib.Core.Bool.{false≢true}
 use borrow.Author.Needs.{needs}
-use Rattle.vectors.proofs.VectorLaws.{starts-whole}
-use Rattle.vectors.proofs.delta_vectors.is_packed.Statement.{statement}
-use Rattle.vectors.proofs.delta_vectors.is_packed.Tie as tie
+use Rattle.lent_vectors.proofs.VectorLaws.{starts-whole}
+use Rattle.lent_vectors.proofs.delta_vectors.is_packed.Statement.{statement}
+use Rattle.lent_vectors.proofs.delta_vectors.is_packed.Tie as tie
 
 read-whole-requires : tie.Need-read-whole-requires
 read-whole-requires c κs = search needs
