@@ -1,9 +1,6 @@
 // Topics in byte order, and a packed set of them: each topic a length of 16 bits and its bytes.
 ghost use mathlib.Core.Path.{_≡_};
 ghost use mathlib.Core.Bool.{true, _&&_};
-ghost use Prim.Native.Nat.{_+_, _≤_};
-ghost use lib.ListN.{length};
-ghost use Rattle.packed_int.specs.Be.{beAt};
 ghost use Rattle.topics.specs.Topics.{order, before, rising};
 ghost use Rattle.topics.specs.Alike.{Alike};
 ghost use Rattle.topics.specs.Packed.{topicsOf, isWhole, allUtf8, isSet, placeOf};
@@ -21,20 +18,6 @@ pub struct Place {
     pub present: bool,
 }
 
-// The 8 bytes from index at on. The compiler makes one load of this form, and not of `packed_int::read_u64`.
-fn word(s: &[u8], at: usize) -> u64
-    requires { ⌜ at + 8 ≤ length (now s) ⌝ }
-    ensures { λ r. ⌜ r ≡ beAt 8 (now (s .entry)) at ⌝ }
-{
-    let mut v: u64 = 0;
-    let mut k: usize = 0;
-    while k < 8 {
-        v = (s[at + k] as u64) + v * 256;
-        k += 1;
-    }
-    v
-}
-
 // How many bytes at the front of both are alike, by words of 8 bytes: topics of one namespace begin alike.
 fn same_words(a: &[u8], b: &[u8]) -> usize
     ensures { λ r. ⌜ Alike (now (a .entry)) (now (b .entry)) r ⌝ }
@@ -44,7 +27,7 @@ fn same_words(a: &[u8], b: &[u8]) -> usize
         if b.len() - i < 8 {
             return i;
         }
-        if word(a, i) != word(b, i) {
+        if packed_int::read_u64(a, i) != packed_int::read_u64(b, i) {
             return i;
         }
         i += 8;

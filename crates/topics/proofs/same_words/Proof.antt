@@ -27,11 +27,11 @@ sub-if1 c = omega arith
 returns : tie.Need-returns Inv-loop μ-loop
 returns c = c .before .before .loop .inv
 
-word-requires : tie.Need-word-requires Inv-loop μ-loop
-word-requires c κs = omega arith
+read-u64-requires : tie.Need-read-u64-requires Inv-loop μ-loop
+read-u64-requires c κs = omega arith
 
-word-requires-2 : tie.Need-word-requires-2 Inv-loop μ-loop
-word-requires-2 c κs = omega arith
+read-u64-requires-2 : tie.Need-read-u64-requires-2 Inv-loop μ-loop
+read-u64-requires-2 c κs = omega arith
 
 returns-2 : tie.Need-returns-2 Inv-loop μ-loop
 returns-2 c = c .before .before .before .before .before .loop .inv
@@ -47,7 +47,7 @@ loop-again c =
     let l = c .before .before .before .before .before in
     let a = l .before .before .before .args in
     let i = l .loop .i in
-    let e = sym (c .before .before .word .ensures) ∙ c .if2 .left ∙ c .before .word2 .ensures in
+    let e = sym (c .before .before .read-u64 .ensures) ∙ c .if2 .left ∙ c .before .read-u642 .ensures in
     record {
       first = omega arith;
       second = omega arith;
@@ -70,8 +70,8 @@ same-words-spec =
     sub-loop
     sub-if1
     returns
-    word-requires
-    word-requires-2
+    read-u64-requires
+    read-u64-requires-2
     returns-2
     add-i
     loop-less
