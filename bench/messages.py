@@ -3,7 +3,7 @@
 
 a: 4 segments without buckets. b: 145 segments without buckets. c: one segment with 506 buckets that rise. s: c with its buckets in falling order.
 f: b with its segments in falling order. x: 5,000 segments, which no slot can hold. response: the answer to request 1 with no segments, at that epoch.
-a2: a with 2 other ids. b2: b with 72 other ids, f2 the same of f. c2: c with its upper 253 buckets one longer. Each comes at the same epoch, so that either is taken after the other.
+a-assignment, b-assignment, c-assignment: the part of field 2 alone. a2: a with 2 other ids. b2: b with 72 other ids, f2 the same of f. c2: c with its upper 253 buckets one longer. Each comes at the same epoch, so that either is taken after the other.
 
 And updates of watch 7 for sets of n topics of 44 bytes, of which 36 are the same in all: w-n-rising, w-n-shuffled and w-n-falling are snapshots; w-n-few adds 5 topics and
 removes 5, w-n-half and w-n-half-shuffled add n / 4 and remove n / 4. Each of these diffs has a second one, with -back behind its name, that takes it back.
@@ -35,20 +35,28 @@ def segment(identity, start, end, buckets=()):
     return number(1, identity) + number(2, start) + number(3, end) + part(4, name) + ranges
 
 
+def assignment(segments):
+    return number(1, 20000) + b"".join(part(2, one) for one in segments)
+
+
 def update(segments):
-    return number(1, 7) + part(2, number(1, 20000) + b"".join(part(2, one) for one in segments))
+    return number(1, 7) + part(2, assignment(segments))
 
 
 RISING = [(128 * i, 128 * i + 100) for i in range(506)]
 LONGER = [(128 * i, 128 * i + 100 + i // 253) for i in range(506)]
+LISTS = {
+    "a": [segment(i, 16384 * i, 16384 * i + 16383) for i in range(4)],
+    "b": [segment(2 * i, 400 * i, 400 * i + 399) for i in range(145)],
+    "c": [segment(0, 0, 65535, RISING)],
+}
 MESSAGES = {
-    "a": update(segment(i, 16384 * i, 16384 * i + 16383) for i in range(4)),
     "a2": update(segment(i + i // 2 * 4, 16384 * i, 16384 * i + 16383) for i in range(4)),
-    "b": update(segment(2 * i, 400 * i, 400 * i + 399) for i in range(145)),
     "b2": update(segment(2 * i + i % 2, 400 * i, 400 * i + 399) for i in range(145)),
-    "f": update(segment(2 * i, 400 * i, 400 * i + 399) for i in reversed(range(145))),
+    **{name: update(segments) for name, segments in LISTS.items()},
+    **{f"{name}-assignment": assignment(segments) for name, segments in LISTS.items()},
+    "f": update(LISTS["b"][::-1]),
     "f2": update(segment(2 * i + i % 2, 400 * i, 400 * i + 399) for i in reversed(range(145))),
-    "c": update([segment(0, 0, 65535, RISING)]),
     "c2": update([segment(0, 0, 65535, LONGER)]),
     "s": update([segment(0, 0, 65535, RISING[::-1])]),
     "x": update(segment(i, 0, 65535) for i in range(5000)),

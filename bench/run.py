@@ -148,25 +148,26 @@ def rows(heads, lines):
     return "\n".join([head, "|" + "---|" * len(heads), *rest])
 
 
-def piece_table(bench, theirs, ours, names=tuple(MESSAGES)):
+def piece_table(bench, theirs, ours, names, part=""):
+    """A piece of an update by itself; the port's may be lent a part of the message alone."""
     lines = []
     for name in names:
-        what = MESSAGES[name]
-        file = bench.file(name)
-        lines.append([f"{name}: {what}", f"{os.path.getsize(file):,}", *measured("0", [bench.rust, theirs, file], [bench.pieces, ours, file])])
+        file, own = bench.file(name), bench.file(name + part)
+        cells = measured("0", [bench.rust, theirs, file], [bench.pieces, ours, own])
+        lines.append([f"{name}: {MESSAGES[name]}", f"{os.path.getsize(file):,}", *cells])
     return rows(["case", "bytes", *MEASURED], lines)
 
 
 def scan_table(bench):
-    return piece_table(bench, "decode", "scan")
+    return piece_table(bench, "decode", "scan", "abcs")
 
 
 def intake_table(bench):
-    return piece_table(bench, "intake", "intake")
+    return piece_table(bench, "intake", "intake", "abcs")
 
 
 def plain_table(bench):
-    return piece_table(bench, "both", "plain", "abc")
+    return piece_table(bench, "both", "plain", "abc", "-assignment")
 
 
 def update_table(bench):

@@ -3,7 +3,6 @@ use intake::Intake;
 use plain_intake::PlainIntake;
 use schema::Checked;
 use schema::MessageKind;
-use values::PartStep;
 
 // 0 where the update is valid, 1 where it is refused.
 #[no_mangle]
@@ -25,18 +24,14 @@ pub extern "C" fn speed_take_in(message: &[u8], parent: &[u8]) -> usize {
     }
 }
 
-// The same by the one walk over an assignment in its usual form; 0 where nothing is told of it.
+// The same of an assignment by the one walk over its usual form; 0 where nothing is told of it.
 #[no_mangle]
-pub extern "C" fn speed_take_plain(message: &[u8], parent: &[u8]) -> usize {
+pub extern "C" fn speed_take_plain(assignment: &[u8], parent: &[u8]) -> usize {
     let mut b = [0u8; 2048];
     if !utf8::is_utf8(parent) {
         return 0;
     }
-    let PartStep::Found(start, len, _) = values::next_part(message, 0, 2) else {
-        return 0;
-    };
-    let end = start + len;
-    match plain_intake::take_plain(&message[start..end], parent, &mut b) {
+    match plain_intake::take_plain(assignment, parent, &mut b) {
         PlainIntake::Taken(_, size) => size,
         PlainIntake::Other => 0,
     }
