@@ -1,9 +1,9 @@
 -- The cases of an update, one law for each answer of the functions.
 --
--- In order: epochs and the list where they lie (`buffer-epoch` to `list-starts`); a sound store (`identity-good` to `list-good`); an unregistered session (`epoch-low`, `queue-full`,
--- `queue-joined`); a registered one (`list-same`, `epoch-stale`, `list-held`); what the assignment comes to (`content-refuses` to
--- `content-joins`); link and consumer (`other-link`, `other-consumer`, `addressed`); the message (`update-epoch` to `message-valid`); the
--- call (`store-good` to `call-sound`).
+-- In order: epochs and the list where they lie (`buffer-epoch` to `list-starts`); a store that is not damaged (`identity-good` to
+-- `list-good`); an unregistered session (`epoch-low`, `queue-full`, `queue-joined`); a registered one (`list-same`, `epoch-stale`,
+-- `list-held`); what the assignment comes to (`content-refuses` to `content-joins`); link and consumer (`other-link`, `other-consumer`,
+-- `addressed`); the message (`update-epoch` to `message-valid`); the call (`store-good` to `call-sound`).
 -- Assumes nothing.
 use Prim.Native.Nat.{ℕ, _+_, _*_, _≤_, _<_}
 use native.Mathlib.Omega.{arith}
