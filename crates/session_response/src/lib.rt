@@ -161,8 +161,9 @@ fn take_response(store: &[u8], message: &[u8], b: &mut [u8]) -> Intake
     ensures { λ x. ⌜ Answers x (now (b .exit)) (responseSays (topicOf (slot (now (store .entry)) 0)) (responseOf (now (message .entry)))) ⌝ }
 {
     let head = readers::read_response(message);
+    let epoch = head.layout_epoch;
     if head.has_assignment {
-        return session_intake::take_assignment(store, message, 4, head.layout_epoch, b);
+        return session_intake::take_assignment(store, message, 4, epoch, b);
     }
     let error = head.error;
     Intake::Refused(denial(error, head.request_id))
