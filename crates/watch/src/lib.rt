@@ -28,18 +28,27 @@ pub enum WatchAnswer {
     Refused(Refusal),
 }
 
-// The topics of a snapshot, as the set at the front of buffer and as the output.
-fn write_snapshot(buffer: &mut [u8], orders: Orders, p: &[u8], out: &mut [u8])
+// The topics of a snapshot, as the set at the front of buffer and as the output. Answers the length of the set.
+fn write_snapshot(buffer: &mut [u8], orders: Orders, p: &[u8], out: &mut [u8]) -> usize
     requires { ⌜ OrdersOf (now p) orders ⌝ }
     requires { ⌜ allShort (namedIn 1 (now p)) ≡ true ⌝ }
     requires { ⌜ sizeTopics (sorted (namedIn 1 (now p))) ≤ length (now buffer) ⌝ }
     requires { ⌜ sizeTopics (sorted (namedIn 1 (now p))) < length (now out) ⌝ }
-    ensures { λ _. ⌜ (now (buffer .exit) ≡ put (now (buffer .entry)) 0 (encodeTopics (sorted (namedIn 1 (now (p .entry))))))
-        × (now (out .exit) ≡ put (now (out .entry)) 0 (snapshotIn (now (p .entry)) .output)) ⌝ }
+    ensures { λ r. ⌜ (now (buffer .exit) ≡ put (now (buffer .entry)) 0 (encodeTopics (sorted (namedIn 1 (now (p .entry))))))
+        × (now (out .exit) ≡ put (now (out .entry)) 0 (snapshotIn (now (p .entry)) .output))
+        × (r ≡ sizeTopics (sorted (namedIn 1 (now (p .entry))))) ⌝ }
 {
     let n = topic_lists::write_list(Listing::Added, orders, &p[..0], p, buffer);
     packed_int::put_bytes(out, 1, &buffer[..n]);
     out[0] = 0;
+    n
+}
+
+// A list that is packed is no longer than the message's part of n bytes: it fits without being measured.
+fn fits_whole(n: usize, set: usize, out: usize) -> bool
+    ensures { λ r. ⌜ (r ≡ true → (n ≤ set) × (n < out)) ⌝ }
+{
+    if n <= set { n < out } else { false }
 }
 
 fn snapshot(buffer: &mut [u8], p: &[u8], out: &mut [u8]) -> WatchAnswer
@@ -55,6 +64,10 @@ fn snapshot(buffer: &mut [u8], p: &[u8], out: &mut [u8]) -> WatchAnswer
         added: s.rises,
         removed: false,
     };
+    if fits_whole(p.len(), buffer.len(), out.len()) {
+        let n = write_snapshot(buffer, orders, p, out);
+        return WatchAnswer::Changed(n, 1 + n);
+    }
     let z = topic_lists::measure(Listing::Added, orders, &p[..0], p);
     if buffer.len() < z {
         return WatchAnswer::Refused(Refusal::SetTooLong);

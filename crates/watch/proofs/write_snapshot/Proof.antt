@@ -74,7 +74,7 @@ returns c =
     let w = c .before .before .before .before .before .before .before in
     let p = c .before .before .put-bytes .ensures in
     let e = size w ∙ sym (length-encode (sorted (namedIn 1 (start w .args .p .now)))) in
-    (wrote w, snapshot-written _ _ _ _ _ _ e (omega (arith, size w, start w .pre .1 .1 .1)) (wrote w) p)
+    (wrote w, snapshot-written _ _ _ _ _ _ e (omega (arith, size w, start w .pre .1 .1 .1)) (wrote w) p, size w)
 
 pub write-snapshot-spec : {M : Type 1} → statement M
 write-snapshot-spec =
