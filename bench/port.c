@@ -101,8 +101,11 @@ static void reconnects(size_t queued, int times) {
     }
 }
 
+// What a set costs but once, as a heap that is tidied, comes before the turns that are counted: so each message has a turn before them.
 static void prepare_watch(void) {
     watch(&messages[0]);
+    watch(&messages[2]);
+    watch(&messages[1]);
     watch(&messages[2]);
 }
 

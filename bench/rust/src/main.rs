@@ -171,8 +171,9 @@ impl Watched {
 fn watches(set: &[u8], messages: [&[u8]; 2], times: usize) {
     let watch = ScalableTopicsWatch::new(7, "tenant/namespace".into());
     let mut run = Watched { watch, refused: 0, added: 0, removed: 0 };
-    run.update(set);
-    run.update(messages[1]);
+    for message in [set, messages[1], messages[0], messages[1]] {
+        run.update(message);
+    }
     for turn in 0..times {
         run.update(messages[turn % 2]);
     }
