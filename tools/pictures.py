@@ -64,17 +64,21 @@ def session():
 
 
 def figures():
-    """Section, case, and the port's share of the Rust's instructions, of each table that has such a column."""
-    found, section, column = [], "", None
+    """Section, case, and the port's share of the Rust's instructions, of each table that has such a column. A bold word before a table names a part of the section."""
+    found, section, part, heads = [], "", "", []
     for line in (ROOT / "docs/BENCHMARKS.md").read_text().splitlines():
-        section = line.removeprefix("## ") if line.startswith("## ") else section
+        if line.startswith("## "):
+            section, part = line.removeprefix("## "), ""
+        elif match := re.match(r"\*\*(.+?)\*\*:", line):
+            part = ": " + match[1].lower()
         cells = [cell.strip() for cell in line.strip("|").split("|")]
         if not line.startswith("|"):
-            column = None
-        elif "port / Rust" in cells:
-            column = cells.index("port / Rust")
-        elif column is not None and re.fullmatch(r"[\d,.]+", cells[column]):
-            found.append((section, cells[0], float(cells[column].replace(",", ""))))
+            heads = []
+        elif not heads:
+            heads = cells
+        elif "port / Rust" in heads and re.fullmatch(r"[\d,.]+", share := cells[heads.index("port / Rust")]):
+            name = f"{cells[0]} {heads[0]}" if re.fullmatch(r"[\d,]+", cells[0]) else cells[0]
+            found.append((section + part, name, float(share.replace(",", ""))))
     return found
 
 
