@@ -5,13 +5,14 @@
     python3 tools/claims.py --spec DIR             also: docs/sentences.txt is the list of the papers in DIR
     python3 tools/claims.py --spec DIR --write     rewrites docs/sentences.txt first
 
-DIR holds mission.md and 01-scope.md; the environment may name it as CUDDREWYN_SPEC. Each fault is a line `claims: ...`, and the exit code is 1.
+DIR holds mission.md, 01-scope.md and 02-change-requests.md; the environment may name it as CUDDREWYN_SPEC. Each fault is a line `claims: ...`, and the
+exit code is 1.
 
-Sentences. Each of the mission's three demands is a block. In 01 a paragraph is a block, and so is a list item; a heading is none. A heading or
-block that starts with one of LEADS begins that section; others belong to the section before. In a block a sentence ends at a full stop with white
-space behind it, unless a lone capital letter stands before the stop (`A. ..`). Its id is the section and its number there, from 1 on; a sentence
-with a number or letter of its own (`7 ..`, `A. ..`) keeps that. The list has the id and the first 12 hex digits of the SHA-256 of the sentence,
-its white space made single blanks.
+Sentences. Each of the mission's three demands is a block. In 01 and 02 a paragraph is a block, and so is a list item; a heading is none. A heading or
+block of 01 that starts with one of LEADS begins that section; others belong to the section before. A block of 02 that starts with a request's letter is
+a section, as RequestK. In a block a sentence ends at a full stop with white space behind it, unless a lone capital letter stands before the stop
+(`A. ..`). Its id is the section and its number there, from 1 on; a sentence with a number or letter of its own (`7 ..`, `A. ..`) keeps that. The list
+has the id and the first 12 hex digits of the SHA-256 of the sentence, its white space made single blanks.
 """
 import argparse, hashlib, os, re, sys
 from collections import Counter
@@ -44,6 +45,10 @@ def listing(folder):
         section = next((key for lead, key in LEADS.items() if block.startswith(lead)), section)
         if section and not block.startswith("#"):
             parts.append((section, block.removeprefix("- ")))
+    for block in blocks((folder / "02-change-requests.md").read_text()):
+        if not block.startswith("#"):
+            letter = re.match(r"([a-n])\) ", block)
+            parts.append(("Request" + letter[1].upper() if letter else "Requests", block))
     count, lines = Counter(), []
     for section, text in parts:
         for sentence in map(str.strip, re.split(r"(?<=\.)(?<! [A-Z]\.) ", " " + " ".join(text.split()))):
@@ -124,7 +129,7 @@ def check_helpers(text):
 
 def main():
     parser = argparse.ArgumentParser(description="Checks docs/CLAIMS.md.")
-    parser.add_argument("--spec", default=os.environ.get("CUDDREWYN_SPEC"), help="folder of mission.md and 01-scope.md")
+    parser.add_argument("--spec", default=os.environ.get("CUDDREWYN_SPEC"), help="folder of mission.md, 01-scope.md and 02-change-requests.md")
     parser.add_argument("--write", action="store_true", help="rewrite docs/sentences.txt from that folder")
     args = parser.parse_args()
     if args.write and not args.spec:
