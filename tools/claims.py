@@ -18,6 +18,8 @@ import argparse, hashlib, os, re, sys
 from collections import Counter
 from pathlib import Path
 
+import refused
+
 ROOT = Path(__file__).resolve().parent.parent
 LIST = ROOT / "docs/sentences.txt"
 LEADS = {
@@ -106,8 +108,12 @@ def check_names(text):
         path, _, name = citation.partition(":")
         if not (ROOT / path).is_file():
             fault(f"{citation}: no such file")
+        elif path.endswith(".edit"):
+            tried = [function for function, _ in refused.named(ROOT / path)]
+            if name not in tried and (name or len(tried) > 1):
+                fault(f"{citation}: " + ("no wrong program of it there" if name else "several wrong programs, so name the function"))
         elif path.endswith((".rt", ".antt")) != bool(name):
-            fault(f"{citation}: a name belongs behind .rt and .antt, and there alone")
+            fault(f"{citation}: a name belongs behind .rt, .antt and .edit alone")
         elif name and not declares(ROOT / path, name):
             fault(f"{citation}: not declared there")
     proved = set(re.findall(r"^(\w+):", (ROOT / "crates.txt").read_text(), re.M))

@@ -1,0 +1,87 @@
+#!/usr/bin/env python3
+"""Holds the log of each must-fail edit to what the edit says: every wrong line is refused in its own function, at a fact.
+
+An edit may change several functions, one wrong line (or pair of lines) in each: a round. A comment before each change names the function, or the
+definition where the file is one of specs/, and says what is wrong:
+
+    # read_key: no field has the number 0
+    file: src/lib.rt
+    old:     if number == 0 {
+    new:     if number == 1 {
+
+rt demands that the whole is refused. This script demands of target/must-fail/CRATE/LABEL/.log that each function named is refused by an error of its own:
+one in its own proof that is neither the echo of another refusal ("was not admitted") nor that of a proof file which no longer fits the code's shape
+("has no `Need-..`", "has no field"); or, where rattle makes the proof, that its `search` does not close a need. A callee's contract stays as it was, so
+what a caller's proof is asked is not changed by a wrong line in a function that it calls: each function's refusal is the one that it has alone. An
+edit of a definition stands alone in its file, and has to be refused at a fact anywhere in the crate.
+
+    python3 tools/refused.py [ROOT]      the last line is 'N wrong programs in M edits, K not refused in their own function'
+"""
+import re
+import sys
+from pathlib import Path
+
+NAMED = re.compile(r"^# ((?:[^\s:]+::)*[^\s:]+): (.+)$")
+ECHO = ("was not admitted", "were not admitted", "so this cannot be checked")
+UNFIT = re.compile(r"has no `Need-|that can be named from here|has no field\s+`|expected type `tie\.Need-[^`]*`,? but this has type `tie\.Need-")
+ERROR = re.compile(r"^(\S*?)((?:proofs|specs)/\S+?\.antt:\d+:\d+): error: (.*?)(?=^\S+: (?:error|note)|^fn |^enum |^struct |\Z)", re.M | re.S)
+
+
+def named(edit):
+    """The functions and definitions that an edit names, with what is wrong in each."""
+    return [(m[1], m[2]) for line in edit.read_text(encoding="utf-8").splitlines() if (m := NAMED.match(line))]
+
+
+def unnamed(edit):
+    """Whether a change stands behind no name, or behind that of a function that a change before it has."""
+    names, free = [], False
+    for line in edit.read_text(encoding="utf-8").splitlines():
+        if m := NAMED.match(line):
+            names.append(m[1])
+            free = True
+        elif line.startswith("old: ") and not free:
+            return True
+    return len(set(names)) < len(names) or not names
+
+
+def facts(log):
+    """The errors of a log at a fact: where each stands, and its words."""
+    return [(m[2], m[3]) for m in ERROR.finditer(log) if not any(e in m[3] for e in ECHO) and not UNFIT.search(m[3])]
+
+
+def own_errors(log, crate, function):
+    """The places at which the function's own proof is refused."""
+    *above, last = function.split("::")
+    # functions that call one another have one proof, in a folder `+even+odd`
+    folder = re.compile("proofs/" + "".join(re.escape(a) + "/" for a in above) + rf"(?:{last}|(?:\+\w+)*\+{last}(?:\+\w+)*)/")
+    places = [place for place, _ in facts(log) if folder.match(place)]
+    made = re.search(rf"^fn {crate}::{re.escape(function)}: no proof: .*`search` does not close (.*)$", log, re.M)
+    return places + (["made proof: " + made[1]] if made else [])
+
+
+def main(root):
+    edits = sorted(root.glob("crates/*/must-fail/*.edit"))
+    wrong = bad = 0
+    for edit in edits:
+        where, crate, log = edit.relative_to(root), edit.parts[-3], root / "target/must-fail" / edit.parts[-3] / edit.stem / ".log"
+        if unnamed(edit):
+            bad += 1
+            print(f"{where}: a change without a function named before it, or a function twice")
+        if not log.is_file():
+            bad += 1
+            print(f"{where}: no log")
+            continue
+        text, pairs = log.read_text(encoding="utf-8", errors="replace"), named(edit)
+        of_code = not re.search(r"^file: specs/", edit.read_text(encoding="utf-8"), re.M)
+        for function, what in pairs:
+            wrong += 1
+            alone = len(pairs) == 1 and (not of_code or not function[:1].islower())
+            if not (facts(text) if alone else own_errors(text, crate, function)):
+                bad += 1
+                print(f"{where}: {function} is not refused at a fact of its own: {what}")
+    print(f"{wrong} wrong programs in {len(edits)} edits, {bad} not refused in their own function")
+    return 1 if bad else 0
+
+
+if __name__ == "__main__":
+    sys.exit(main(Path(sys.argv[1] if len(sys.argv) > 1 else ".").resolve()))
