@@ -1,44 +1,116 @@
 #!/usr/bin/env python3
-"""Prints, from the output of `rt ci`, the seconds that each crate's check took, and its must-fail edits together; with --write also to docs/BENCHMARKS.md."""
-import re
-import sys
+"""The gate's seconds: of each crate's check and of its must-fail edits, on the clock and of the processor.
+
+    python3 tools/seconds.py --run TIMES COMMAND...    runs `rt ci`, say, and writes the processor's seconds of each check and edit to TIMES
+    python3 tools/seconds.py LOG TIMES [--write]       prints both, and what passes the budget; with --write the table of docs/BENCHMARKS.md too.
+                                                       The gate leaves the two as target/gate.log and target/gate.json
+
+A noisy machine changes the seconds on the clock and hardly those of the processor, so the budget is in the latter. The whole is what the system reckons for
+the command and all that it started; a single check is read from the process table every fifth of a second, so that it may lack its last fifth.
+"""
+import json, os, re, resource, subprocess, sys, time
 from pathlib import Path
 
 CHECKED = re.compile(r"rt: (\w+) proved \((\d+) s\)")
-EDITED = re.compile(r"rt: must-fail (\w+)/\S+: .*?(\d+) s\)")
+EDITED = re.compile(r"rt: must-fail (\w+)/(\S+?): .*?(\d+) s\)")
+BUDGET = {"whole": 2000, "check": 20, "crate": 60}
+TICK = os.sysconf("SC_CLK_TCK")
 
 
-def read(path):
-    """Seconds of each crate's check, and those of its edits."""
+def label(pid):
+    """What a process of the checker works on: a crate, or a crate and the name of an edit."""
+    words = Path(f"/proc/{pid}/cmdline").read_text(errors="replace").split("\0")
+    if os.path.basename(words[0]) != "rattle" or "--crate-name" not in words:
+        return None
+    at = words.index("--crate-name")
+    edit = re.search(r"/must-fail/[^/]+/([^/]+)/src/", words[at + 2])
+    return words[at + 1] + ("/" + edit[1] if edit else "")
+
+
+def sample(known, spent, family):
+    """Adds the processor's seconds, so far, of each checker that runs below this process."""
+    running = set(filter(str.isdigit, os.listdir("/proc")))
+    for ended in set(known) - running:
+        del known[ended]
+    for pid in running:
+        try:
+            after = Path(f"/proc/{pid}/stat").read_text().rsplit(")", 1)[1].split()
+            if pid not in known:
+                known[pid] = label(pid) if os.getpgid(int(pid)) == family else None
+            elif known[pid]:
+                spent[known[pid], pid] = (int(after[11]) + int(after[12])) / TICK
+        except (OSError, IndexError):
+            pass
+
+
+def run(times, command):
+    known, spent, began = {}, {}, time.time()
+    process = subprocess.Popen(command)
+    family = os.getpgid(process.pid)
+    while process.poll() is None:
+        sample(known, spent, family)
+        time.sleep(0.2)
+    usage = resource.getrusage(resource.RUSAGE_CHILDREN)
+    parts = {}
+    for (name, _), seconds in spent.items():
+        parts[name] = parts.get(name, 0) + seconds
+    Path(times).write_text(json.dumps({"whole": usage.ru_utime + usage.ru_stime, "clock": time.time() - began, "parts": parts}))
+    return process.returncode
+
+
+def read(log, times):
+    """For each crate: seconds of its check, and of each edit, as (clock, processor)."""
+    spent = json.loads(Path(times).read_text())
     checks, edits = {}, {}
-    for line in open(path, encoding="utf-8", errors="replace"):
-        if match := CHECKED.match(line):
-            checks[match[1]] = int(match[2])
-        elif match := EDITED.match(line):
-            edits.setdefault(match[1], []).append(int(match[2]))
-    return checks, edits
+    for line in open(log, encoding="utf-8", errors="replace"):
+        if m := CHECKED.match(line):
+            checks[m[1]] = int(m[2]), spent["parts"].get(m[1], 0)
+        elif m := EDITED.match(line):
+            edits.setdefault(m[1], []).append((int(m[3]), spent["parts"].get(f"{m[1]}/{m[2]}", 0)))
+    return checks, edits, spent
 
 
-def table(checks, edits):
-    lines = ["| crate | check | edits |", "|---|---|---|"]
-    lines += [f"| `{crate}` | {seconds} s | {len(edits.get(crate, []))}: {sum(edits.get(crate, []))} s |" for crate, seconds in checks.items()]
-    tried = sum(map(len, edits.values()))
-    return "\n".join(lines + [f"| all | {sum(checks.values())} s | {tried}: {sum(map(sum, edits.values()))} s |"])
+def rows(checks, edits):
+    """crate, edits, then clock and processor of the check and of the edits; a row for all at the end."""
+    table = [(c, len(edits.get(c, [])), *own, sum(e[0] for e in edits.get(c, [])), sum(e[1] for e in edits.get(c, []))) for c, own in checks.items()]
+    return table + [("all", *(sum(column) for column in list(zip(*table))[1:]))]
 
 
-def main(path, write):
-    checks, edits = read(path)
-    print(f"{'crate':<20}{'check':>8}{'edits':>8}{'':>4}")
-    for crate, seconds in checks.items():
-        tried = edits.get(crate, [])
-        print(f"{crate:<20}{seconds:>6} s{sum(tried):>6} s  ({len(tried)} edits)")
-    total = sum(map(sum, edits.values()))
-    print(f"{'all':<20}{sum(checks.values()):>6} s{total:>6} s  ({sum(map(len, edits.values()))} edits)")
+def document(table, spent):
+    lines = ["| crate | check: clock | processor | edits | clock | processor |", "|---|---|---|---|---|---|"]
+    for crate, count, clock, cpu, edit_clock, edit_cpu in table:
+        name = crate if crate == "all" else f"`{crate}`"
+        lines.append(f"| {name} | {clock} s | {cpu:.0f} s | {count} | {edit_clock} s | {edit_cpu:.0f} s |")
+    lines.append(f"\n`rt ci` in all: {spent['clock']:.0f} s on the clock, {spent['whole']:.0f} s of the processor.")
+    return "\n".join(lines)
+
+
+def over_budget(checks, edits, spent):
+    for crate, (_, cpu) in checks.items():
+        if cpu > BUDGET["check"]:
+            yield f"the check of {crate} takes {cpu:.0f} s of {BUDGET['check']}"
+        if (both := cpu + sum(e[1] for e in edits.get(crate, []))) > BUDGET["crate"]:
+            yield f"{crate} with its edits takes {both:.0f} s of {BUDGET['crate']}"
+    if spent["whole"] > BUDGET["whole"]:
+        yield f"rt ci takes {spent['whole']:.0f} s of {BUDGET['whole']}"
+
+
+def report(log, times, write):
+    checks, edits, spent = read(log, times)
+    table = rows(checks, edits)
+    print(f"{'seconds: clock, processor':<26}{'check':>12}{'edits':>14}")
+    for crate, count, clock, cpu, edit_clock, edit_cpu in table:
+        print(f"{crate:<26}{clock:>5}{cpu:>7.1f}{edit_clock:>7}{edit_cpu:>7.1f}  ({count} edits)")
+    print(f"rt ci: {spent['clock']:.0f} s on the clock, {spent['whole']:.0f} s of the processor")
+    for line in over_budget(checks, edits, spent):
+        print("over budget: " + line)
     if write:
-        document = Path(__file__).resolve().parent.parent / "docs/BENCHMARKS.md"
-        text = document.read_text(encoding="utf-8")
-        new = table(checks, edits)
-        document.write_text(re.sub(r"(<!-- gate -->\n).*?(<!-- end -->)", lambda m: m[1] + new + "\n" + m[2], text, flags=re.S), encoding="utf-8")
+        path = Path(__file__).resolve().parent.parent / "docs/BENCHMARKS.md"
+        text = path.read_text(encoding="utf-8")
+        path.write_text(re.sub(r"(<!-- gate -->\n).*?(<!-- end -->)", lambda m: m[1] + document(table, spent) + "\n" + m[2], text, flags=re.S), encoding="utf-8")
 
 
-main(sys.argv[1], "--write" in sys.argv[2:])
+if __name__ == "__main__":
+    if sys.argv[1:2] == ["--run"]:
+        sys.exit(run(sys.argv[2], sys.argv[3:]))
+    report(sys.argv[1], sys.argv[2], "--write" in sys.argv[3:])
