@@ -66,19 +66,27 @@ pub fn spoiled_sheet(mut packed: Vec<u8>, rng: &mut Rng) -> Vec<u8> {
     packed
 }
 
-fn random_delta(rng: &mut Rng) -> Delta {
+pub fn random_delta(rng: &mut Rng) -> Delta {
     let lost = random_ids(40, rng);
     let gained = random_ids(40, rng).iter().map(|id| random_segment(*id, rng)).collect();
     Delta { epoch: rng.word() >> rng.below(64), lost, gained }
 }
 
 /// The packed form, now and then spoiled.
-fn lent(packed: Vec<u8>, rng: &mut Rng) -> Vec<u8> {
+pub fn lent(packed: Vec<u8>, rng: &mut Rng) -> Vec<u8> {
     if rng.one_in(5) { spoiled_sheet(packed, rng) } else { packed }
 }
 
+/// A random list, packed, now and then spoiled.
+pub fn lent_sheet(rng: &mut Rng) -> Vec<u8> {
+    let epoch = rng.word() >> rng.below(64);
+    let most = rng.pick(&[60, 200, 2048]);
+    let packed = random_sheet(epoch, most, rng).packed();
+    lent(packed, rng)
+}
+
 /// Rooms around the length that the result needs.
-fn room(needed: usize, most: usize, rng: &mut Rng) -> usize {
+pub fn room(needed: usize, most: usize, rng: &mut Rng) -> usize {
     let rooms = [needed, needed, needed, needed.saturating_sub(1), needed + 1, 0, most];
     rng.pick(&rooms).min(most)
 }
@@ -163,21 +171,13 @@ impl Lists {
         }
     }
 
-    fn sheet(&mut self) -> Vec<u8> {
-        let rng = &mut self.rng;
-        let epoch = rng.word() >> rng.below(64);
-        let most = rng.pick(&[60, 200, 2048]);
-        let packed = random_sheet(epoch, most, rng).packed();
-        lent(packed, rng)
-    }
-
     fn delta(&mut self) -> Vec<u8> {
         let delta = random_delta(&mut self.rng);
         lent(delta.packed().expect("few ids"), &mut self.rng)
     }
 
     fn try_to_pb(&mut self, tally: &mut Tally) {
-        let sheet = self.sheet();
+        let sheet = lent_sheet(&mut self.rng);
         let parent = self.rng.pick(PARENTS);
         let needed = written(&sheet, parent, usize::MAX).1.len();
         let room = room(needed, self.output.length(), &mut self.rng);
@@ -185,7 +185,7 @@ impl Lists {
     }
 
     fn try_apply(&mut self, tally: &mut Tally) {
-        let (sheet, delta) = (self.sheet(), self.delta());
+        let (sheet, delta) = (lent_sheet(&mut self.rng), self.delta());
         let needed = delta::apply(&sheet, &delta, usize::MAX).1.len();
         let room = room(needed, self.output.length(), &mut self.rng);
         check_apply(tally, &mut self.output, &sheet, &delta, room);
@@ -199,11 +199,11 @@ impl Lists {
     }
 }
 
-fn bare(ids: impl Iterator<Item = u64>) -> Vec<Segment> {
+pub fn bare(ids: impl Iterator<Item = u64>) -> Vec<Segment> {
     ids.map(|id| Segment { id, start: 0, end: 65_535, buckets: Vec::new() }).collect()
 }
 
-fn delta_of(lost: impl Iterator<Item = u64>, gained: Vec<Segment>) -> Vec<u8> {
+pub fn delta_of(lost: impl Iterator<Item = u64>, gained: Vec<Segment>) -> Vec<u8> {
     Delta { epoch: 9, lost: lost.collect(), gained }.packed().expect("counts below 65,536")
 }
 

@@ -11,6 +11,7 @@ include!(concat!(env!("OUT_DIR"), "/sources.rs"));
 #[allow(dead_code)]
 mod raw;
 
+mod either_order;
 mod generate;
 mod lists;
 #[cfg_attr(not(feature = "watch"), allow(dead_code))]

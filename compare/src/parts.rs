@@ -1,4 +1,5 @@
 //! The parts of a run: first what is written down, then what is random or long, sharing the time.
+use crate::either_order::{self, EitherOrder};
 use crate::lists::{self, Lists};
 use crate::names::Names;
 use crate::session::damaged::Damaged;
@@ -18,6 +19,8 @@ pub fn directed(tally: &mut Tally, seed: u64) {
     Names::new(seed).directed(tally);
     tally.place = "large lists".into();
     lists::directed(tally, seed);
+    tally.place = EITHER_ORDER.into();
+    either_order::directed(tally, seed);
     #[cfg(feature = "watch")]
     {
         tally.place = "long topics".into();
@@ -30,6 +33,7 @@ enum Work {
     Damaged(Damaged),
     Names(Names),
     Lists(Lists),
+    EitherOrder(EitherOrder),
     Short(Short),
     #[cfg(feature = "watch")]
     Watch(crate::watch::Watch),
@@ -43,6 +47,7 @@ impl Work {
             Self::Damaged(damaged) => damaged.step(tally),
             Self::Names(names) => names.step(tally),
             Self::Lists(lists) => lists.step(tally),
+            Self::EitherOrder(either_order) => either_order.step(tally),
             Self::Short(short) => return short.step(tally),
             #[cfg(feature = "watch")]
             Self::Watch(watch) => watch.step(tally),
@@ -79,6 +84,7 @@ pub struct Parts(Vec<Part>);
 pub const SMALL_STORES: &str = "sessions, small stores";
 pub const NAMES: &str = "names, ranges, kinds";
 pub const LISTS: &str = "lists lent alone";
+pub const EITHER_ORDER: &str = "deltas in either order";
 pub const WATCH: &str = "topics watch";
 
 impl Parts {
@@ -92,6 +98,7 @@ impl Parts {
             ("damaged records and stores", 4, Work::Damaged(Damaged::new(seed))),
             (NAMES, 1, Work::Names(Names::new(seed))),
             (LISTS, 2, Work::Lists(Lists::new(seed))),
+            (EITHER_ORDER, 1, Work::EitherOrder(EitherOrder::new(seed))),
             #[cfg(feature = "watch")]
             (WATCH, 5, Work::Watch(crate::watch::Watch::new(seed))),
         ];

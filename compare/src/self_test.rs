@@ -1,6 +1,6 @@
 //! Whether the comparison notices a wrong bit, for each call and each place of what it gives.
 use crate::model::session::{LIST, SLOT};
-use crate::parts::{LISTS, NAMES, Parts, SMALL_STORES, WATCH};
+use crate::parts::{EITHER_ORDER, LISTS, NAMES, Parts, SMALL_STORES, WATCH};
 use crate::spoil::{Place, arm, armed, disarm, leave_to_rust};
 use crate::tally::{Call, Tally};
 
@@ -31,7 +31,14 @@ const CALLS: &[(Call, bool, usize)] = &[
 
 fn places() -> Vec<(Call, Place)> {
     let mut places = vec![(Call::ConsumerType, Place::Kind)];
-    for (call, record, slices) in CALLS {
+    places.extend(places_of(|_| true));
+    places
+}
+
+/// All that some of the calls give.
+fn places_of(wanted: fn(Call) -> bool) -> Vec<(Call, Place)> {
+    let mut places = Vec::new();
+    for (call, record, slices) in CALLS.iter().filter(|(call, ..)| wanted(*call)) {
         let state = (0..if *record { 8 } else { 0 }).map(Place::State);
         let lent = (0..*slices).flat_map(|slice| (0..3).map(move |part| Place::Lent(slice, part)));
         places.extend(REPLY.iter().copied().chain(state).chain(lent).map(|place| (*call, place)));
@@ -73,14 +80,14 @@ fn part_of(call: Call) -> &'static str {
     }
 }
 
-/// Steps until that many calls were spoiled or a difference was found; whether one was.
-fn found(parts: &mut Parts, tally: &mut Tally, call: Call, place: Place, most: usize) -> bool {
+/// Steps of a part until that many calls were spoiled or a difference was found; whether one was.
+fn found(parts: &mut Parts, tally: &mut Tally, part: &str, call: Call, place: Place, most: usize) -> bool {
     let before = tally.differences;
     for _ in 0..most {
         arm(call, place);
         for _ in 0..STEPS {
             if armed() && tally.differences == before {
-                parts.step_of(part_of(call), tally);
+                parts.step_of(part, tally);
             }
         }
         disarm();
@@ -91,12 +98,13 @@ fn found(parts: &mut Parts, tally: &mut Tally, call: Call, place: Place, most: u
     tally.differences > before
 }
 
-/// Tries each place; how many there are, and how many were missed.
-fn tried(parts: &mut Parts, tally: &mut Tally, places: &[(Call, Place)], most: usize) -> (usize, usize) {
+/// Tries each place, in the part that `part_of` gives; how many there are, and how many were missed.
+fn tried(parts: &mut Parts, tally: &mut Tally, part_of: fn(Call) -> &'static str, places: &[(Call, Place)], most: usize) -> (usize, usize) {
     let mut missed = 0;
     for (call, place) in places {
-        if !found(parts, tally, *call, *place, most) {
-            println!("self-test: not noticed: {place:?} of {call:?}");
+        let part = part_of(*call);
+        if !found(parts, tally, part, *call, *place, most) {
+            println!("self-test: not noticed in {part}: {place:?} of {call:?}");
             missed += 1;
         }
     }
@@ -112,12 +120,14 @@ pub fn run() -> i32 {
     let mut tally = Tally::new();
     tally.quiet = true;
     let mut parts = Parts::new(&mut tally, 1);
-    let (all, missed) = tried(&mut parts, &mut tally, &places(), 1);
-    let (texts, missed_texts) = tried(&mut parts, &mut tally, &text_places(), TRIES);
+    let (all, missed) = tried(&mut parts, &mut tally, part_of, &places(), 1);
+    let both_orders = places_of(|call| matches!(call, Call::Apply | Call::Join));
+    let (orders, missed_orders) = tried(&mut parts, &mut tally, |_| EITHER_ORDER, &both_orders, 1);
+    let (texts, missed_texts) = tried(&mut parts, &mut tally, part_of, &text_places(), TRIES);
     leave_to_rust(true);
-    let (of_rust, missed_by_rust) = tried(&mut parts, &mut tally, &places_of_the_rust(), TRIES);
+    let (of_rust, missed_by_rust) = tried(&mut parts, &mut tally, part_of, &places_of_the_rust(), TRIES);
     leave_to_rust(false);
-    let (all, missed) = (all + texts, missed + missed_texts);
+    let (all, missed) = (all + orders + texts, missed + missed_orders + missed_texts);
     let extra = tally.differences - (all - missed + of_rust - missed_by_rust) as u64;
     println!(
         "self-test: of {all} wrong bits {} noticed; of {of_rust} by the Rust alone {}; {extra} differences besides",

@@ -1,7 +1,7 @@
 -- A delta turns the old assignment into the new one; a join applied is its parts applied one after the other; join is associative.
 --
--- In order: values that pass the tests are proper (`ok-proper`, `ids-proper`, `delta-ok-proper`); what an id finds after each operation
--- (`find-apply`, `find-lost`, `find-gained`, `same-found`, `find-without-same`); the results are proper; the laws (`delta-law`,
+-- In order: values that pass the tests are proper (`ok-proper`, `ids-proper`, `delta-ok-proper`, `is-delta-proper`); what an id finds after
+-- each operation (`find-apply`, `find-lost`, `find-gained`, `same-found`, `find-without-same`); the results are proper; the laws (`delta-law`,
 -- `apply-join`, `join-assoc`); and that a join's gained records are what `apply` makes of the first delta's (`join-overlay`).
 -- Assumes nothing.
 use Prim.Native.Nat.{ℕ, suc}
@@ -10,6 +10,7 @@ use mathlib.Core.Path.{_≡_, refl, ap, ap₂, sym, _∙_}
 use mathlib.Core.Bool.{Bool, true, false, cond, not, _||_, or-false}
 use mathlib.Core.List.{List, [], _∷_}
 use mathlib.Core.Option.{Option, some, none, Option·map}
+use lib.ListN.{length}
 use lib.Dec.{eqb, leb}
 use borrow.Author.Tests.{eqb-true, leb-true}
 use Rattle.ranges.specs.Meaning.{both-true}
@@ -20,7 +21,7 @@ use Rattle.packed.specs.Assignment.{AssignedSegment, idOf, ConsumerAssignment, 
 use Rattle.packed.specs.Equal.{sameSegment}
 use Rattle.packed.proofs.AssignmentLaws.{ok-head, ok-tail}
 use Rattle.packed.proofs.EqualLaws.{segment-refl, segment-eq}
-use Rattle.delta.specs.Delta.{AssignmentDelta, idsFrom, okDelta}
+use Rattle.delta.specs.Delta.{AssignmentDelta, sizeDelta, deltaOf, idsFrom, okDelta, isDelta}
 use Rattle.delta.specs.Change.{hasSame, without, deltaBetween}
 use Rattle.delta.specs.Join.{Proper, ProperDelta, strike, apply, names, join}
 
@@ -51,6 +52,10 @@ pub delta-ok-proper : (d : AssignmentDelta) → okDelta d ≡ true → ProperDel
 unfolding okDelta
 delta-ok-proper d e =
     let p = both-true (idsFrom 0 (d .lost)) _ e in (ids-proper 0 (d .lost) (p .0), ok-proper 0 (d .gained) (p .1))
+
+pub is-delta-proper : (l : List ℕ) → isDelta l ≡ true → ProperDelta (deltaOf l)
+unfolding isDelta
+is-delta-proper l e = delta-ok-proper (deltaOf l) (both-true (eqb (sizeDelta (deltaOf l)) (length l)) _ e .1)
 
 -- ---- what an id finds after each operation
 

@@ -11,9 +11,7 @@ use mathlib.Core.Path.{_≡_, refl, sym, ap, _∙_, subst}
 use mathlib.Core.Bool.{Bool, true, false, and-false}
 use mathlib.Core.List.{List, _++_}
 use lib.ListN.{length, length-append}
-use lib.Dec.{eqb}
 use borrow.Author.Tests.{le-leb, lt-leb}
-use Rattle.ranges.specs.Meaning.{both-true}
 use Rattle.refusal.specs.declared.Refusal.the-variants.{MalformedInput, ResultTooLong}
 use Rattle.output.specs.Output.{outcome, refuse, written}
 use Rattle.output.specs.declared.WriteAnswer.the-variants.{Written}
@@ -27,7 +25,7 @@ use Rattle.packed.proofs.RoundLaws.{length-encodeSegments}
 use Rattle.delta.specs.Delta.{AssignmentDelta, encodeIds, encodeDelta, sizeDelta, deltaOf, isDelta}
 use Rattle.delta.specs.Join.{join}
 use Rattle.delta.proofs.RoundLaws.{length-idsOf, length-encodeIds, length-encodeDelta, Walkable, walkable}
-use Rattle.delta.proofs.DeltaLaws.{delta-ok-proper, join-overlay}
+use Rattle.delta.proofs.DeltaLaws.{is-delta-proper, join-overlay}
 use Rattle.overlay.specs.Overlay.{overlay, recordsIn, idsIn, RecordRow, IdRow, fitOf, union}
 use Rattle.overlay.specs.declared.Fit.the-variants.{Beyond}
 use Rattle.join.specs.declared.Rows.{Rows}
@@ -98,9 +96,9 @@ module _ {d e : List ℕ} {a b : Rows} (v : Walks d a) (w : Walks e b) (o : List
   X = record { layoutEpoch = num 8 e; lost = L; gained = G }
 
   result : J ≡ X
-  unfolding isDelta join deltaOf union overlay
+  unfolding join deltaOf union overlay
   result =
-      let p = delta-ok-proper (deltaOf d) (both-true (eqb (sizeDelta (deltaOf d)) (length d)) _ (v .is-delta) .1) in
+      let p = is-delta-proper d (v .is-delta) in
       cc (join-overlay (deltaOf d) (deltaOf e) p, v .lost-is, v .gained-is, w .lost-is, w .gained-is)
 
   long : length (encodeDelta X) ≡ 12 + 8 * length L + sizeSegments G
