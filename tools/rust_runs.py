@@ -1,5 +1,5 @@
 #!/usr/bin/env python3
-"""Writes crates/rust_runs/specs/Sessions.antt: the sessions of crates/recorded, which the Rust has answered, as equations of its transcription.
+"""Writes crates/rust_runs/specs/Sessions.antt: the sessions of compare/recorded, which the Rust has answered, as equations of its transcription.
 
     python3 tools/rust_runs.py            rewrites the file
     python3 tools/rust_runs.py --check    exit 1 where the file is not what would be written
@@ -10,7 +10,7 @@ from pathlib import Path
 ROOT = Path(__file__).resolve().parent.parent
 FILE = ROOT / "crates/rust_runs/specs/Sessions.antt"
 SESSIONS = 20
-HEAD = """-- Sessions that the Rust has answered (crates/recorded), as equations of its transcription, by computation. tools/rust_runs.py writes this file.
+HEAD = """-- Sessions that the Rust has answered (compare/recorded), as equations of its transcription, by computation. tools/rust_runs.py writes this file.
 -- Assumes nothing.
 use mathlib.Core.Path.{_≡_, refl}
 use mathlib.Core.Bool.{true, false}
@@ -104,12 +104,12 @@ def call(words):
 def sessions():
     """For each session its topic, its calls and what is seen behind each."""
     answers = {}
-    for text_line in (ROOT / "crates/recorded/stdout").read_text().splitlines()[:-1]:
+    for text_line in (ROOT / "compare/recorded/stdout").read_text().splitlines()[:-1]:
         if not text_line.startswith(" "):
             block = answers.setdefault(int(text_line.split()[0]), [])
         block.append(text_line)
     found = []
-    for number, text_line in enumerate((ROOT / "crates/recorded/stdin").read_text().splitlines(), 1):
+    for number, text_line in enumerate((ROOT / "compare/recorded/stdin").read_text().splitlines(), 1):
         words = text_line.split()
         if words[0] == "open":
             found.append((words[3], [], []))

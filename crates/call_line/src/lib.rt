@@ -1,7 +1,9 @@
 // What a line of a log of calls is: a call, or what is wrong with it.
 //
-// A line is tested whole before anything is taken from it: the call's name, the number of words, then each word from the left. The words of a line that
-// passes are read by the functions of `lines`.
+// A line is tested whole before anything is taken from it: the call's name, the number of words, then each word from the left. What is wrong is written where
+// it is found. The words of a line that passes are read by the functions of `lines`.
+use call_text::decimal;
+use call_text::newline;
 use call_text::quoted;
 use call_text::text;
 use libc::STDOUT_FILENO;
@@ -19,200 +21,120 @@ pub enum CallName {
     Invalidate,
 }
 
-// What is wrong with a line, and with which word.
-pub enum Fault {
-    UnknownCall,
-    TooFewWords,
-    TooManyWords,
-    NotANumber(usize),
-    NotHexadecimal(usize),
-    UnknownKind(usize),
-    TooLong,
-    NoSession,
-}
-
 pub enum Line {
     Call(CallName),
-    Damaged(Fault),
+    // It is no call, and why was written.
+    Damaged,
 }
 
-// What the first word of a line is.
-enum FirstWord {
-    Call(CallName),
-    Unknown,
+// `LINE damaged: REASON`, where `at` is the line's number. Answers false: the line is no call.
+pub fn damaged(at: u64, reason: &[u8]) -> bool {
+    decimal(at);
+    text(b" damaged: ");
+    text(reason);
+    newline();
+    false
 }
 
-// What a word has to be.
-enum WordKind {
-    Number,
-    Bytes,
-    ConsumerType,
+// The same, with the word that it is about behind the reason.
+fn damaged_word(at: u64, reason: &[u8], word: &[u8]) -> bool {
+    decimal(at);
+    text(b" damaged: ");
+    text(reason);
+    quoted(STDOUT_FILENO, word);
+    newline();
+    false
 }
 
-// What a test of words finds.
-enum Verdict {
-    Good,
-    Damaged(Fault),
-}
-
-fn first_word(word: &[u8]) -> FirstWord {
-    if parts::same(word, b"open") {
-        return FirstWord::Call(CallName::Open);
-    }
-    if parts::same(word, b"update") {
-        return FirstWord::Call(CallName::Update);
-    }
-    if parts::same(word, b"response") {
-        return FirstWord::Call(CallName::Response);
-    }
-    if parts::same(word, b"drain") {
-        return FirstWord::Call(CallName::Drain);
-    }
-    if parts::same(word, b"begin") {
-        return FirstWord::Call(CallName::Begin);
-    }
-    if parts::same(word, b"invalidate") {
-        return FirstWord::Call(CallName::Invalidate);
-    }
-    FirstWord::Unknown
-}
-
-pub fn show_name(name: CallName) {
-    match name {
-        CallName::Open => text(b"open"),
-        CallName::Update => text(b"update"),
-        CallName::Response => text(b"response"),
-        CallName::Drain => text(b"drain"),
-        CallName::Begin => text(b"begin"),
-        CallName::Invalidate => text(b"invalidate"),
-    }
-}
-
-// How many words a call has, its name among them.
-fn words_of(name: CallName) -> usize {
-    match name {
-        CallName::Open => 7,
-        CallName::Update => 3,
-        CallName::Response => 3,
-        CallName::Drain => 1,
-        CallName::Begin => 2,
-        CallName::Invalidate => 1,
-    }
-}
-
-fn open_kind(k: usize) -> WordKind {
-    match k {
-        1 => WordKind::Number,
-        2 => WordKind::Number,
-        6 => WordKind::ConsumerType,
-        _ => WordKind::Bytes,
-    }
-}
-
-// What word k of a call has to be.
-fn kind_of(name: CallName, k: usize) -> WordKind {
-    if let CallName::Open = name {
-        return open_kind(k);
-    }
-    if k == 1 {
-        WordKind::Number
-    } else {
-        WordKind::Bytes
-    }
-}
-
-fn test_number(word: &[u8], k: usize) -> Verdict {
+fn test_number(at: u64, word: &[u8]) -> bool {
     match lines::number(word) {
-        Decimal::Value(_) => Verdict::Good,
-        Decimal::Invalid => Verdict::Damaged(Fault::NotANumber(k)),
+        Decimal::Value(_) => true,
+        Decimal::Invalid => damaged_word(at, b"not a number: ", word),
     }
 }
 
-fn test_bytes(word: &[u8], k: usize) -> Verdict {
+fn test_length(at: u64, n: usize, most: usize) -> bool {
+    if n <= most {
+        true
+    } else {
+        damaged(at, b"too long")
+    }
+}
+
+fn test_bytes(at: u64, word: &[u8]) -> bool {
     if !parts::starts_with(word, b"0x") {
-        if MAX_BYTES < word.len() {
-            return Verdict::Damaged(Fault::TooLong);
-        }
-        return Verdict::Good;
+        return test_length(at, word.len(), MAX_BYTES);
     }
-    if !lines::is_hexadecimal(word) {
-        return Verdict::Damaged(Fault::NotHexadecimal(k));
+    if lines::is_hexadecimal(word) {
+        return test_length(at, word.len(), 2 + 2 * MAX_BYTES);
     }
-    if 2 + 2 * MAX_BYTES < word.len() {
-        return Verdict::Damaged(Fault::TooLong);
-    }
-    Verdict::Good
+    damaged_word(at, b"not hexadecimal: ", word)
 }
 
-fn test_consumer_type(word: &[u8], k: usize) -> Verdict {
-    if parts::same(word, b"stream") {
-        return Verdict::Good;
+fn test_consumer_type(at: u64, word: &[u8]) -> bool {
+    if lines::place_of(b"stream checkpoint", word) < 2 {
+        return true;
     }
-    if parts::same(word, b"checkpoint") {
-        return Verdict::Good;
-    }
-    Verdict::Damaged(Fault::UnknownKind(k))
+    damaged_word(at, b"unknown kind ", word)
 }
 
-fn test_word(word: &[u8], kind: WordKind, k: usize) -> Verdict {
-    match kind {
-        WordKind::Number => test_number(word, k),
-        WordKind::Bytes => test_bytes(word, k),
-        WordKind::ConsumerType => test_consumer_type(word, k),
+// A word is what its letter in the form of a call says.
+fn test_word(at: u64, word: &[u8], letter: u8) -> bool {
+    match letter {
+        b'n' => test_number(at, word),
+        b'k' => test_consumer_type(at, word),
+        _ => test_bytes(at, word),
     }
 }
 
-// The first word of a call, from word 1 on, that is not what it has to be.
-fn test_words(line: &[u8], name: CallName, count: usize) -> Verdict {
+// A line has as many words as the form of its call has letters.
+fn test_count(at: u64, found: usize, count: usize) -> bool {
+    if found < count {
+        return damaged(at, b"too few words");
+    }
+    if count < found {
+        return damaged(at, b"too many words");
+    }
+    true
+}
+
+// Each word behind the call's name is what its letter says.
+fn test_words(at: u64, line: &[u8], form: &[u8]) -> bool {
     let mut k: usize = 1;
-    while k < count {
-        if let Verdict::Damaged(fault) = test_word(lines::word(line, k), kind_of(name, k), k) {
-            return Verdict::Damaged(fault);
+    while k < form.len() {
+        if !test_word(at, lines::word(line, k), form[k]) {
+            return false;
         }
         k = k + 1;
     }
-    Verdict::Good
+    true
 }
 
-// A line that starts with a call's name.
-fn of_call(line: &[u8], name: CallName) -> Line {
-    let count = words_of(name);
-    let found = lines::word_count(line);
-    if found < count {
-        return Line::Damaged(Fault::TooFewWords);
-    }
-    if count < found {
-        return Line::Damaged(Fault::TooManyWords);
-    }
-    match test_words(line, name, count) {
-        Verdict::Damaged(fault) => Line::Damaged(fault),
-        Verdict::Good => Line::Call(name),
+// The calls by their places among the names.
+fn call(place: usize) -> Line {
+    match place {
+        0 => Line::Call(CallName::Open),
+        1 => Line::Call(CallName::Update),
+        2 => Line::Call(CallName::Response),
+        3 => Line::Call(CallName::Drain),
+        4 => Line::Call(CallName::Begin),
+        5 => Line::Call(CallName::Invalidate),
+        _ => Line::Damaged,
     }
 }
 
-pub fn tested(line: &[u8]) -> Line {
-    match first_word(lines::word(line, 0)) {
-        FirstWord::Unknown => Line::Damaged(Fault::UnknownCall),
-        FirstWord::Call(name) => of_call(line, name),
+// Tests line number `at`. The form of a call has a letter for each word: `c` the call's name, `n` a number, `b` bytes, `k` a kind of consumer.
+pub fn tested(at: u64, line: &[u8]) -> Line {
+    let name = lines::word(line, 0);
+    let place = lines::place_of(b"open update response drain begin invalidate", name);
+    let form = lines::word(b"cnnbbbk cnb cnb c cn c", place);
+    if form.len() == 0 {
+        damaged_word(at, b"unknown call ", name);
+        return Line::Damaged;
     }
-}
-
-// A reason, then word k of the line.
-fn show_word(reason: &[u8], line: &[u8], k: usize) {
-    text(reason);
-    quoted(STDOUT_FILENO, lines::word(line, k));
-}
-
-// Why a line is damaged.
-pub fn show_fault(fault: Fault, line: &[u8]) {
-    match fault {
-        Fault::UnknownCall => show_word(b"unknown call ", line, 0),
-        Fault::TooFewWords => text(b"too few words"),
-        Fault::TooManyWords => text(b"too many words"),
-        Fault::NotANumber(k) => show_word(b"not a number: ", line, k),
-        Fault::NotHexadecimal(k) => show_word(b"not hexadecimal: ", line, k),
-        Fault::UnknownKind(k) => show_word(b"unknown kind ", line, k),
-        Fault::TooLong => text(b"too long"),
-        Fault::NoSession => text(b"no session is open"),
+    if test_count(at, lines::word_count(line), form.len()) && test_words(at, line, form) {
+        call(place)
+    } else {
+        Line::Damaged
     }
 }

@@ -10,6 +10,14 @@ pub fn decimal(n: u64) {
     io::print_decimal(STDOUT_FILENO, n);
 }
 
+pub fn space() {
+    text(b" ");
+}
+
+pub fn newline() {
+    text(b"\n");
+}
+
 // A label, then a number.
 pub fn labelled(label: &[u8], n: u64) {
     text(label);
@@ -18,31 +26,13 @@ pub fn labelled(label: &[u8], n: u64) {
 
 // A space, then a number.
 pub fn attached(n: u64) {
-    labelled(b" ", n);
+    space();
+    decimal(n);
 }
 
 // Four hexadecimal digits.
 pub fn hex4(n: u16) {
     io::print_hex(STDOUT_FILENO, n as u64, 4);
-}
-
-// How far a number is from 0.
-fn magnitude(v: i32) -> u64 {
-    let wide = v as i64;
-    if wide < 0 {
-        (0 - wide) as u64
-    } else {
-        wide as u64
-    }
-}
-
-// A space, then a number that may be negative.
-pub fn attached_signed(v: i32) {
-    if v < 0 {
-        labelled(b" -", magnitude(v));
-    } else {
-        attached(magnitude(v));
-    }
 }
 
 // A byte as \xHH.

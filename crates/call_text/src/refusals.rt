@@ -1,127 +1,58 @@
 // A refusal: the specification's number, the variant's name, then the numbers attached to it.
 use crate::print::attached;
-use crate::print::attached_signed;
 use crate::print::labelled;
+use crate::print::space;
 use crate::print::text;
 use refusal::Refusal;
-use types::KeyRangeError;
+use reply::Reply;
 
-// The kind of an invalid range, then its numbers.
-fn source(e: KeyRangeError) {
-    match e {
-        KeyRangeError::StartOutOfBounds { start } => {
-            attached(1);
-            attached(start as u64);
-        }
-        KeyRangeError::EndOutOfBounds { end } => {
-            attached(2);
-            attached(end as u64);
-        }
-        KeyRangeError::Reversed { start, end } => {
-            attached(3);
-            attached(start as u64);
-            attached(end as u64);
-        }
+// The names by the specification's numbers, word 0 for none.
+fn named(number: usize) {
+    text(lines::word(
+        b" StoreTooShort OutputTooShort InvalidWireFormat WrongWireType RepeatedField MissingField \
+              InvalidUtf8 IdentityTooLong InvalidRange InvalidBucketRange OverlappingBucketRanges \
+              InvalidParent AttachmentMismatch DuplicateSegment AssignmentTooLong Broker Empty InvalidSegment \
+              SegmentIdMismatch MalformedInput ResultTooLong MalformedStore IncarnationMismatch \
+              ConsumerMismatch NonAdvancingIncarnation CrossIncarnationEpochRegression StaleEpoch \
+              PreBaselineBufferFull WatchMismatch MalformedSet SetTooLong",
+        number,
+    ));
+}
+
+// A space, then a number; where it may be negative it is a word of 64 bits in two's complement.
+fn attached_as(is_signed: bool, v: u64) {
+    if is_signed && 9223372036854775807 < v {
+        labelled(b" -", std::num::wrapping_sub_u64(0, v));
+    } else {
+        attached(v);
     }
 }
 
-// A name, then two numbers.
-fn pair(name: &[u8], a: u64, b: u64) {
-    labelled(name, a);
-    attached(b);
-}
-
-// Refusals of a link, a watch, a broker and the queue.
-fn of_state(r: Refusal) {
-    match r {
-        Refusal::Broker { code } => {
-            text(b"Broker");
-            attached_signed(code);
-        }
-        Refusal::Empty { request_id } => labelled(b"Empty ", request_id),
-        Refusal::EmptyUpdate { watch_id } => labelled(b"EmptyUpdate ", watch_id),
-        Refusal::IncarnationMismatch { got, expected } => {
-            pair(b"IncarnationMismatch ", got.0, expected.0)
-        }
-        Refusal::ConsumerMismatch { got, expected } => pair(b"ConsumerMismatch ", got, expected),
-        Refusal::NonAdvancingIncarnation { got, prev } => {
-            pair(b"NonAdvancingIncarnation ", got.0, prev.0)
-        }
-        Refusal::CrossIncarnationEpochRegression { got, floor } => {
-            pair(b"CrossIncarnationEpochRegression ", got, floor)
-        }
-        Refusal::StaleEpoch { got, prev } => pair(b"StaleEpoch ", got, prev),
-        Refusal::PreBaselineBufferFull { max } => labelled(b"PreBaselineBufferFull ", max as u64),
-        Refusal::WatchMismatch { got, expected } => pair(b"WatchMismatch ", got, expected),
-        _ => {}
+// The numbers of a refusal, each behind a space. With signs, a broker's code and the ends of a bucket range may be negative.
+pub fn values(r: Reply, with_signs: bool) {
+    if 0 < r.count {
+        attached_as(with_signs && r.number == 16, r.first);
     }
-}
-
-// Refusals of a segment; any other is of the state.
-fn of_segment(r: Refusal) {
-    match r {
-        Refusal::InvalidRange {
-            segment_id,
-            source: e,
-        } => {
-            labelled(b"InvalidRange ", segment_id.0);
-            source(e);
-        }
-        Refusal::InvalidKeyRange { source: e } => {
-            text(b"InvalidKeyRange");
-            source(e);
-        }
-        Refusal::InvalidBucketRange {
-            segment_id,
-            index,
-            start,
-            end,
-        } => {
-            pair(b"InvalidBucketRange ", segment_id.0, index as u64);
-            attached_signed(start);
-            attached_signed(end);
-        }
-        Refusal::OverlappingBucketRanges { segment_id } => {
-            labelled(b"OverlappingBucketRanges ", segment_id.0)
-        }
-        Refusal::AttachmentMismatch { segment_id } => {
-            labelled(b"AttachmentMismatch ", segment_id.0)
-        }
-        Refusal::DuplicateSegment { segment_id } => labelled(b"DuplicateSegment ", segment_id.0),
-        Refusal::SegmentIdMismatch {
-            segment_id,
-            topic_id,
-        } => pair(b"SegmentIdMismatch ", segment_id.0, topic_id.0),
-        _ => of_state(r),
+    if 1 < r.count {
+        attached(r.second);
     }
-}
-
-// Refusals without numbers; any other has some.
-fn named(r: Refusal) {
-    match r {
-        Refusal::StoreTooShort => text(b"StoreTooShort"),
-        Refusal::OutputTooShort => text(b"OutputTooShort"),
-        Refusal::InvalidWireFormat => text(b"InvalidWireFormat"),
-        Refusal::WrongWireType => text(b"WrongWireType"),
-        Refusal::RepeatedField => text(b"RepeatedField"),
-        Refusal::MissingField => text(b"MissingField"),
-        Refusal::InvalidUtf8 => text(b"InvalidUtf8"),
-        Refusal::IdentityTooLong => text(b"IdentityTooLong"),
-        Refusal::InvalidParent => text(b"InvalidParent"),
-        Refusal::AssignmentTooLong => text(b"AssignmentTooLong"),
-        Refusal::InvalidSegment => text(b"InvalidSegment"),
-        Refusal::MalformedInput => text(b"MalformedInput"),
-        Refusal::ResultTooLong => text(b"ResultTooLong"),
-        Refusal::MalformedStore => text(b"MalformedStore"),
-        Refusal::MalformedSet => text(b"MalformedSet"),
-        Refusal::SetTooLong => text(b"SetTooLong"),
-        _ => of_segment(r),
+    if 2 < r.count {
+        attached_as(with_signs, r.third);
+    }
+    if 3 < r.count {
+        attached_as(with_signs, r.fourth);
     }
 }
 
 // `refused N NAME V1 V2 ..`
-pub fn refused(r: Refusal) {
-    labelled(b"refused ", refusal::number(r) as u64);
-    text(b" ");
-    named(r);
+pub fn refused(x: Refusal) {
+    let r = reply::refused(x);
+    labelled(b"refused ", r.number as u64);
+    space();
+    match x {
+        Refusal::InvalidKeyRange { source: _ } => text(b"InvalidKeyRange"),
+        Refusal::EmptyUpdate { watch_id: _ } => text(b"EmptyUpdate"),
+        _ => named(r.number as usize),
+    }
+    values(r, true);
 }

@@ -94,6 +94,19 @@ pub fn word_count(line: &[u8]) -> usize {
     n + 1
 }
 
+// Where a word stands in a row of words, counted from 0; their number where it is none of them.
+pub fn place_of(row: &[u8], w: &[u8]) -> usize {
+    let count = word_count(row);
+    let mut k: usize = 0;
+    while k < count {
+        if parts::same(word(row, k), w) {
+            return k;
+        }
+        k = k + 1;
+    }
+    k
+}
+
 // A word as a decimal number.
 pub enum Decimal {
     Value(u64),

@@ -1,5 +1,43 @@
-// Runs a log of a session's calls on a store of full size: see `call_log`, or start it with --help.
+// Runs a log of a session's calls, read from standard input, on a store of full size: each call is run on the session, and its answer is written to standard
+// output.
+//
+// A line is a call and its words, with one space between two. Empty lines and lines that start with '#' are passed over, but counted. A number is decimal.
+// Bytes are hexadecimal behind 0x, or as they stand.
+//
+//     open CONSUMER INCARNATION TOPIC SUBSCRIPTION NAME KIND      KIND: stream or checkpoint
+//     update INCARNATION MESSAGE
+//     response INCARNATION MESSAGE
+//     drain
+//     begin INCARNATION
+//     invalidate
+//
+// Each call is answered by a line `LINE CALL ANSWER`; a line that is none by `LINE damaged: REASON`, and the run goes on. The whole page is `help`.
+//
+// The calls are the proved ones. The functions here promise only what keeps them in bounds: what is read and what is written is not proved.
+mod arguments;
+mod calls;
+mod help;
+mod input;
+mod report;
+mod step;
+
+// The bytes of a full-size store: three slots and a queue of 1,024.
+const STORE: usize = 2103296;
+
+// Does what the program's arguments ask: runs the log in standard input on a store, or shows the help page.
+fn start(store: &mut [u8; STORE]) {
+    let options = arguments::given();
+    if options.is_wrong {
+        return;
+    }
+    if options.help {
+        help::show();
+        return;
+    }
+    input::run_log(options, store);
+}
+
 fn main() {
-    let mut store = [0u8; call_log::STORE];
-    call_log::start(&mut store);
+    let mut store = [0u8; STORE];
+    start(&mut store);
 }

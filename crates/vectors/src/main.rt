@@ -3,39 +3,64 @@
 // A line is a command and its arguments, with a space between two; a line that starts with '#' is passed over. An argument is a decimal number, or bytes: as they
 // stand, or in hexadecimal behind 0x. Names and texts are answered as they stand, other bytes in hexadecimal. Behind the answer of a call that may write stands
 // `same` where all bytes that must stay are so still. What each line should give is reckoned anew by tools/vectors.py, by other means.
+mod buffers;
+mod delta_vectors;
+mod intake_vectors;
 mod name_vectors;
+mod output_vectors;
+mod packed_vectors;
+mod print;
 mod range_vectors;
-mod text_vectors;
+mod watch_vectors;
 mod wire_vectors;
 
+use crate::buffers::filled;
+use crate::buffers::front;
 use call_text::text;
-use lent_vectors::buffers::front;
 use libc::STDIN_FILENO;
 
 // The most bytes that are read.
 const INPUT: usize = 1048576;
 
-fn run(line: &[u8]) {
-    if parts::starts_with(line, b"#") {
-        return;
-    }
+// Runs a line whose words 1 and 2 stand for the bytes a and b.
+fn run_command(line: &[u8], a: &[u8], b: &[u8]) {
     let name = lines::word(line, 0);
-    if text_vectors::run(name, line) {
+    if packed_vectors::run(name, a) {
         return;
     }
-    if name_vectors::run(name, line) {
+    if name_vectors::run(name, line, b) {
         return;
     }
     if range_vectors::run(name, line) {
         return;
     }
-    if wire_vectors::run(name, line) {
+    if wire_vectors::run(name, line, a, b) {
         return;
     }
-    if lent_vectors::run(name, line) {
+    if delta_vectors::run(name, a, b) {
+        return;
+    }
+    if output_vectors::run(name, line, a, b) {
+        return;
+    }
+    if intake_vectors::run(name, line, b) {
+        return;
+    }
+    if watch_vectors::run(name, line) {
         return;
     }
     text(b"unknown command\n");
+}
+
+fn run(line: &[u8]) {
+    if parts::starts_with(line, b"#") {
+        return;
+    }
+    let mut a = filled(0);
+    let mut b = filled(0);
+    let n = lines::bytes_at(line, 1, &mut a);
+    let m = lines::bytes_at(line, 2, &mut b);
+    run_command(line, &a[..n], &b[..m]);
 }
 
 fn run_all(text: &[u8]) {

@@ -1,7 +1,7 @@
 // Ranges at the limits: the calls on ranges, and rows of ranges.
+use crate::print;
 use key_range::LengthAnswer;
 use key_range::TestAnswer;
-use lent_vectors::print;
 use types::KeyRange;
 
 // length START END
@@ -63,25 +63,13 @@ fn overlap(line: &[u8]) {
 }
 
 pub fn run(name: &[u8], line: &[u8]) -> bool {
-    if parts::same(name, b"length") {
-        length(line);
-        return true;
+    match lines::place_of(b"length contains contains_range touches overlap", name) {
+        0 => length(line),
+        1 => contains(line),
+        2 => contains_range(line),
+        3 => touches(line),
+        4 => overlap(line),
+        _ => return false,
     }
-    if parts::same(name, b"contains") {
-        contains(line);
-        return true;
-    }
-    if parts::same(name, b"contains_range") {
-        contains_range(line);
-        return true;
-    }
-    if parts::same(name, b"touches") {
-        touches(line);
-        return true;
-    }
-    if parts::same(name, b"overlap") {
-        overlap(line);
-        return true;
-    }
-    false
+    true
 }

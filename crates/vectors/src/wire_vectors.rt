@@ -1,7 +1,7 @@
-// Varints, messages and their values.
+// UTF-8, varints, messages and their values.
+use crate::print;
+use call_text::newline;
 use call_text::text;
-use lent_vectors::buffers::filled;
-use lent_vectors::print;
 use messages::Checked;
 use messages::MessageKind;
 use values::Last;
@@ -22,42 +22,33 @@ fn kind(n: u64) -> MessageKind {
 }
 
 // varint BYTES: the value and the length
-fn varint(line: &[u8]) {
-    let mut buffer = [0u8; 256];
-    let n = lines::bytes_at(line, 1, &mut buffer);
-    match wire::read_varint(&buffer[..n]) {
+fn varint(bytes: &[u8]) {
+    match wire::read_varint(bytes) {
         Varint::Value(v, len) => print::pair(v, len as u64),
         Varint::Broken => text(b"broken\n"),
     }
 }
 
 // fault KIND BYTES: the first fault of a message
-fn fault(line: &[u8]) {
-    let mut buffer = filled(0);
-    let n = lines::bytes_at(line, 2, &mut buffer);
-    match messages::first_fault(kind(lines::number_at(line, 1)), &buffer[..n]) {
+fn fault(line: &[u8], message: &[u8]) {
+    match messages::first_fault(kind(lines::number_at(line, 1)), message) {
         Checked::Valid => text(b"valid\n"),
         Checked::Refused(x) => print::refused(x),
     }
 }
 
 // last FIELD BYTES: the last number of a field
-fn last(line: &[u8]) {
-    let mut buffer = [0u8; 256];
-    let n = lines::bytes_at(line, 2, &mut buffer);
-    match values::last_number(&buffer[..n], lines::number_at(line, 1)) {
+fn last(line: &[u8], message: &[u8]) {
+    match values::last_number(message, lines::number_at(line, 1)) {
         Last::Found(v) => print::number(v),
         Last::Absent => text(b"absent\n"),
     }
 }
 
 // text FIELD BYTES: the last part of a field
-fn last_text(line: &[u8]) {
-    let mut buffer = [0u8; 256];
-    let n = lines::bytes_at(line, 2, &mut buffer);
-    let message = &buffer[..n];
+fn last_text(line: &[u8], message: &[u8]) {
     text(values::text(message, line, lines::number_at(line, 1)));
-    text(b"\n");
+    newline();
 }
 
 // uint32 NUMBER: a varint's value as an unsigned 32-bit integer
@@ -69,39 +60,31 @@ fn uint32(line: &[u8]) {
 fn int32(line: &[u8]) {
     let a = values::int32(lines::number_at(line, 1));
     let b = values::int32(lines::number_at(line, 2));
+    let mut k: usize = 2;
     if a < b {
-        text(b"less\n");
+        k = 0;
     } else if a == b {
-        text(b"equal\n");
-    } else {
-        text(b"greater\n");
+        k = 1;
     }
+    text(lines::word(b"less equal greater", k));
+    newline();
 }
 
-pub fn run(name: &[u8], line: &[u8]) -> bool {
-    if parts::same(name, b"varint") {
-        varint(line);
-        return true;
+// utf8 BYTES
+fn utf8(bytes: &[u8]) {
+    print::yes(utf8::is_utf8(bytes));
+}
+
+pub fn run(name: &[u8], line: &[u8], a: &[u8], b: &[u8]) -> bool {
+    match lines::place_of(b"utf8 varint fault last text uint32 int32", name) {
+        0 => utf8(a),
+        1 => varint(a),
+        2 => fault(line, b),
+        3 => last(line, b),
+        4 => last_text(line, b),
+        5 => uint32(line),
+        6 => int32(line),
+        _ => return false,
     }
-    if parts::same(name, b"fault") {
-        fault(line);
-        return true;
-    }
-    if parts::same(name, b"last") {
-        last(line);
-        return true;
-    }
-    if parts::same(name, b"text") {
-        last_text(line);
-        return true;
-    }
-    if parts::same(name, b"uint32") {
-        uint32(line);
-        return true;
-    }
-    if parts::same(name, b"int32") {
-        int32(line);
-        return true;
-    }
-    false
+    true
 }

@@ -1,0 +1,120 @@
+// The lines of standard input, one after the other, and the sum at the end.
+//
+// The input is read into a buffer. The lines that are whole are run, and what is left moves to the front. A line that fills the buffer is dropped as it comes,
+// and is damaged at its end.
+ghost use Prim.Native.Nat.{_+_, _≤_};
+ghost use lib.ListN.{length};
+use crate::arguments::Options;
+use crate::step;
+use crate::step::Run;
+use libc::STDIN_FILENO;
+
+// The bytes of the buffer: a line has to be shorter. Any whose words stand for at most 65,536 bytes each is.
+const BUFFER: usize = 524288;
+
+// The run with so many bytes left to be run.
+fn with_waiting(run: Run, n: usize) -> Run {
+    let mut next = run;
+    next.waiting = n;
+    next
+}
+
+// Runs the lines that are whole; the bytes behind them wait.
+fn run_lines(options: Options, run: Run, lines_read: &[u8], store: &mut [u8]) -> Run {
+    let mut next = run;
+    let mut at: usize = 0;
+    while at < lines_read.len() {
+        let end = lines::line_end(lines_read, at);
+        if lines_read.len() <= end {
+            return with_waiting(next, lines_read.len() - at);
+        }
+        next = step::run_line(options, next, &lines_read[at..end], store);
+        if next.is_over {
+            return next;
+        }
+        at = end + 1;
+    }
+    with_waiting(next, 0)
+}
+
+// Runs the last line, which no line break ends.
+fn run_last(options: Options, run: Run, line: &[u8], store: &mut [u8]) -> Run {
+    let mut next = run;
+    if 0 < line.len() {
+        next = step::run_line(options, run, line, store);
+    } else if run.is_cut {
+        next = step::run_line(options, run, line, store);
+    }
+    next.is_over = true;
+    next
+}
+
+// Moves the n bytes from a place on to the front.
+fn move_down(buffer: &mut [u8], from: usize, n: usize)
+    requires { ⌜ from + n ≤ length (now buffer) ⌝ }
+{
+    let mut i: usize = 0;
+    while i < n {
+        let b = buffer[from + i];
+        buffer[i] = b;
+        i = i + 1;
+    }
+}
+
+// Reads once, behind the first n bytes, and answers how many came: none at the end of the input, or where it cannot be read.
+fn read_behind(buffer: &mut [u8], n: usize) -> usize
+    requires { ⌜ n ≤ length (now buffer) ⌝ }
+    ensures { λ r. ⌜ n + r ≤ length (now (buffer .entry)) ⌝ }
+{
+    let got = libc::read(STDIN_FILENO, &mut buffer[n..]);
+    if got < 0 {
+        os::fail(b"standard input");
+    }
+    io::count(got, &buffer[n..])
+}
+
+// Reads once, behind the bytes that wait, and runs the lines that are whole. Where the bytes that wait fill the buffer they are dropped.
+fn read_and_run(options: Options, run: Run, buffer: &mut [u8], store: &mut [u8]) -> Run {
+    let waiting = run.waiting;
+    if buffer.len() <= waiting {
+        let mut next = with_waiting(run, 0);
+        next.is_cut = true;
+        return next;
+    }
+    let end = waiting + read_behind(buffer, waiting);
+    if end == waiting {
+        return run_last(options, run, &buffer[..waiting], store);
+    }
+    let next = run_lines(options, run, &buffer[..end], store);
+    let left = next.waiting;
+    if left <= end {
+        move_down(buffer, end - left, left);
+    }
+    next
+}
+
+// A proved loop has to end, and nothing says that the input does: the turns are counted down from a number that no run uses up.
+fn run_input(options: Options, buffer: &mut [u8], store: &mut [u8]) -> Run {
+    let mut run = step::at_start();
+    let mut turns = u64::MAX;
+    while 0 < turns {
+        run = read_and_run(options, run, buffer, store);
+        if run.is_over {
+            return run;
+        }
+        turns = turns - 1;
+    }
+    run
+}
+
+fn run_over(options: Options, buffer: &mut [u8; BUFFER], store: &mut [u8]) {
+    if !step::show_sum(run_input(options, buffer, store)) {
+        os::fail(b"standard output");
+    }
+}
+
+// Runs the log in standard input on a store.
+pub fn run_log(options: Options, store: &mut [u8]) {
+    let mut buffer = [0u8; BUFFER];
+    run_over(options, &mut buffer, store);
+}

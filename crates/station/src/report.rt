@@ -1,0 +1,94 @@
+// What stands behind a call's name: its answer, the session's record, what changed, and the list that is held.
+use crate::calls::show_broker_text;
+use call_text::decimal;
+use call_text::labelled;
+use call_text::newline;
+use call_text::space;
+use call_text::text;
+use packed::SLOT;
+use refusal::Refusal;
+use session::Answer;
+use session::Floor;
+use session::SessionRecord;
+
+// A refusal; of a broker's, the text too.
+fn show_refused(x: Refusal, line: &[u8], store: &[u8]) {
+    call_text::refused(x);
+    if let Refusal::Broker { code: _ } = x {
+        show_broker_text(line, store);
+    }
+}
+
+// A delta at the front of the output.
+fn show_delta(out: &[u8]) {
+    text(b"delta ");
+    list_text::delta_counts(out);
+}
+
+// The same of a push of the queue, with its place.
+fn show_replay(place: usize, out: &[u8]) {
+    labelled(b"replay at ", place as u64);
+    space();
+    list_text::delta_counts(out);
+}
+
+// The answer; a delta stands at the front of the output.
+pub fn show_answer(answer: Answer, line: &[u8], store: &[u8], out: &[u8]) {
+    match answer {
+        Answer::Refused(x) => show_refused(x, line, store),
+        Answer::Accepted => text(b"accepted"),
+        Answer::Unchanged => text(b"none"),
+        Answer::Delta(_) => show_delta(out),
+        Answer::Replay(place, _) => show_replay(place, out),
+    }
+}
+
+fn show_flag(label: &[u8], b: bool) {
+    text(label);
+    if b {
+        text(b"yes");
+    } else {
+        text(b"no");
+    }
+}
+
+fn show_floor(floor: Floor) {
+    match floor {
+        Floor::Unset => text(b"none"),
+        Floor::At(epoch) => decimal(epoch),
+    }
+}
+
+// The record of an open session.
+pub fn show_state(r: SessionRecord) {
+    let incarnation = r.incarnation;
+    let floor = r.epoch_floor;
+    labelled(b"  state incarnation ", incarnation.0);
+    text(b" floor ");
+    show_floor(floor);
+    show_flag(b" registered ", r.registered);
+    show_flag(b" invalidated ", r.invalidated);
+    labelled(b" queue ", r.queue_count as u64);
+    labelled(b" drained ", r.drain_position as u64);
+    newline();
+}
+
+// What an answer's delta loses and gains.
+pub fn show_changes(answer: Answer, out: &[u8]) {
+    match answer {
+        Answer::Delta(_) => list_text::changes(out),
+        Answer::Replay(_, _) => list_text::changes(out),
+        _ => {}
+    }
+}
+
+// The list in its slot while registered, else none.
+pub fn show_held(is_registered: bool, store: &[u8]) {
+    if !is_registered {
+        text(b"  held none\n");
+        return;
+    }
+    if session_store::MIN_STORE <= store.len() {
+        list_text::held(&store[2 * SLOT..3 * SLOT]);
+    }
+}
