@@ -6,6 +6,8 @@ ghost use Prim.Native.Nat.{_+_, _*_, _≤_};
 ghost use lib.ListN.{length};
 use call_text::hex4;
 use call_text::labelled;
+use call_text::newline;
+use call_text::space;
 use call_text::text;
 
 // The range in the 4 bytes from a place on: SSSS-EEEE.
@@ -50,11 +52,11 @@ fn segment(s: &[u8], label: &[u8], at: usize) -> usize
         return end;
     }
     labelled(label, packed_int::read_u64(s, at));
-    text(b" ");
+    space();
     range(s, at + 8);
-    text(b" ");
+    space();
     buckets(s, at + 14, count);
-    text(b"\n");
+    newline();
     at + 14 + 4 * count
 }
 
@@ -82,7 +84,7 @@ fn lost(s: &[u8], at: usize, n: u16) -> usize
             return s.len();
         }
         labelled(b"  lost ", packed_int::read_u64(s, p));
-        text(b"\n");
+        newline();
         p = p + 8;
         left = left - 1;
     }
@@ -116,6 +118,6 @@ pub fn held(s: &[u8]) {
     let count = packed_int::read_u16(s, 8);
     labelled(b"  held epoch ", packed_int::read_u64(s, 0));
     labelled(b" segments ", count as u64);
-    text(b"\n");
+    newline();
     segments(s, b"    ", 10, count);
 }

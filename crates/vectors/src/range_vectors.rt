@@ -19,29 +19,17 @@ fn told(r: TestAnswer) {
     }
 }
 
-// contains START END HASH
-fn contains(line: &[u8]) {
+// contains START END HASH, contains_range START END START END, touches START END START END
+fn test(place: usize, line: &[u8]) {
     let start = lines::number32_at(line, 1);
     let end = lines::number32_at(line, 2);
-    told(key_range::contains(start, end, lines::number32_at(line, 3)));
-}
-
-// contains_range START END START END
-fn contains_range(line: &[u8]) {
-    let start = lines::number32_at(line, 1);
-    let end = lines::number32_at(line, 2);
-    let other_start = lines::number32_at(line, 3);
-    let other_end = lines::number32_at(line, 4);
-    told(key_range::contains_range(start, end, other_start, other_end));
-}
-
-// touches START END START END
-fn touches(line: &[u8]) {
-    let start = lines::number32_at(line, 1);
-    let end = lines::number32_at(line, 2);
-    let other_start = lines::number32_at(line, 3);
-    let other_end = lines::number32_at(line, 4);
-    told(key_range::is_adjacent_to(start, end, other_start, other_end));
+    let third = lines::number32_at(line, 3);
+    let fourth = lines::number32_at(line, 4);
+    match place {
+        0 => told(key_range::contains(start, end, third)),
+        1 => told(key_range::contains_range(start, end, third, fourth)),
+        _ => told(key_range::is_adjacent_to(start, end, third, fourth)),
+    }
 }
 
 // overlap COUNT and COUNT pairs START END, 506 at most
@@ -63,11 +51,10 @@ fn overlap(line: &[u8]) {
 }
 
 pub fn run(name: &[u8], line: &[u8]) -> bool {
-    match lines::place_of(b"length contains contains_range touches overlap", name) {
-        0 => length(line),
-        1 => contains(line),
-        2 => contains_range(line),
-        3 => touches(line),
+    let place = lines::place_of(b"contains contains_range touches length overlap", name);
+    match place {
+        0..=2 => test(place, line),
+        3 => length(line),
         4 => overlap(line),
         _ => return false,
     }

@@ -6,10 +6,10 @@ use Rattle.list_text.proofs.lost.Statement.{statement}
 use Rattle.list_text.proofs.lost.Tie as tie
 
 abbrev Inv-loop : tie.InvT-loop
-Inv-loop s at n p₀ left₀ t6 t7 p left = p ≤ length s
+Inv-loop s at n p₀ left₀ t6 p left = p ≤ length s
 
 abbrev μ-loop : tie.MeasureT-loop
-μ-loop s at n p₀ left₀ t6 t7 p left = left
+μ-loop s at n p₀ left₀ t6 p left = left
 
 loop-holds : tie.Need-loop-holds Inv-loop μ-loop
 loop-holds c = search needs
@@ -29,11 +29,8 @@ read-u64-requires c κs = search needs
 labelled-requires : tie.Need-labelled-requires Inv-loop μ-loop
 labelled-requires c κs = search needs
 
-slice-aggregate-text : tie.Need-slice-aggregate-text Inv-loop μ-loop
-slice-aggregate-text c = search needs
-
-text-requires : tie.Need-text-requires Inv-loop μ-loop
-text-requires c κs = search needs
+newline-requires : tie.Need-newline-requires Inv-loop μ-loop
+newline-requires c κs = search needs
 
 add-p : tie.Need-add-p Inv-loop μ-loop
 add-p c = search needs
@@ -62,8 +59,7 @@ lost-spec =
     slice-aggregate-labelled
     read-u64-requires
     labelled-requires
-    slice-aggregate-text
-    text-requires
+    newline-requires
     add-p
     sub-left
     loop-less

@@ -1,0 +1,51 @@
+// The help page.
+use call_text::text;
+
+pub fn show() {
+    text(
+        b"Runs a log of a station's session calls and prints what each call answers.
+
+    station [--lists] [--state] [--stop] < LOG
+    station --help
+
+  --state   after each call, the session's record
+  --lists   after each call, what it lost and gained, and the list that is held
+  --stop    the run ends at the first damaged line
+  --help    this page
+
+The log: one call to a line, one space between two words. Empty lines and lines that start
+with # are passed over, but counted.
+
+  open CONSUMER INCARNATION TOPIC SUBSCRIPTION NAME KIND    a session; KIND: stream, checkpoint
+  update INCARNATION MESSAGE                                a push of the controller
+  response INCARNATION MESSAGE                              the answer to the registration
+  drain                                                     the next push of the queue
+  begin INCARNATION                                         a new link to the controller
+  invalidate                                                the controller is not trusted now
+
+CONSUMER and INCARNATION are decimal numbers below 2^64. TOPIC, SUBSCRIPTION, NAME and MESSAGE
+are bytes, at most 65536: in hexadecimal behind 0x, or as they stand. A MESSAGE is what the
+controller sends, in Protocol Buffers. A log may have any number of lines, each of at most
+524287 bytes. The session has a store of full size, with a queue of 1024 pushes.
+
+For each call a line LINE CALL ANSWER, where LINE is its number in the log and ANSWER one of
+
+  accepted
+  none                                       nothing changed
+  delta epoch E lost L gained G              what the push changed, in numbers
+  replay at PLACE epoch E lost L gained G    the same of a push of the queue, and its place
+  refused N NAME V1 V2 ..                    the specification's number, the name, its numbers
+
+and behind `refused 16 Broker CODE` the broker's text: text \"..\". In quotes every byte that is
+not printable ASCII, and each quote and backslash, is written \\xHH.
+With --state:   state incarnation I floor F registered R invalidated V queue Q drained D
+With --lists:   lost ID, gained ID START-END BUCKETS, and held epoch E segments N with a row
+ID START-END BUCKETS for each segment; - for no buckets.
+For a line that is no call LINE damaged: REASON; the run goes on.
+At the end C calls: A accepted, R refused; D damaged lines.
+
+The exit status is always 0: look at the last line, which counts refused calls and damaged
+lines. An option that is not known is named on standard error, and nothing is run.
+",
+    );
+}
