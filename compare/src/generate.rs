@@ -60,7 +60,7 @@ fn put_number(bytes: &mut Vec<u8>, value: u64, style: Style, rng: &mut Rng) {
     if style == Style::Wild && rng.one_in(4) { put_long_varint(bytes, value, rng) } else { put_varint(bytes, value) }
 }
 
-fn put_field(bytes: &mut Vec<u8>, field: &Field, style: Style, rng: &mut Rng) {
+pub fn put_field(bytes: &mut Vec<u8>, field: &Field, style: Style, rng: &mut Rng) {
     match field {
         Field::Number(number, value, bits) => {
             put_number(bytes, number * 8, style, rng);

@@ -4,7 +4,7 @@ use crate::lists::{self, Lists};
 use crate::names::Names;
 use crate::session::damaged::Damaged;
 use crate::session::walk::{Size, Walk};
-use crate::session::{directed as rows, limits};
+use crate::session::{directed as rows, limits, orders};
 use crate::short::Short;
 use crate::tally::Tally;
 use std::time::{Duration, Instant};
@@ -15,6 +15,8 @@ pub fn directed(tally: &mut Tally, seed: u64) {
     rows::run(tally, seed);
     tally.place = "limits".into();
     limits::run(tally, seed);
+    tally.place = "segments in two orders".into();
+    orders::directed(tally, seed);
     tally.place = "names".into();
     Names::new(seed).directed(tally);
     tally.place = "large lists".into();
@@ -82,6 +84,7 @@ pub struct Parts(Vec<Part>);
 
 /// The parts that the self-test asks for.
 pub const SMALL_STORES: &str = "sessions, small stores";
+pub const ORDERS: &str = "segments in two orders";
 pub const NAMES: &str = "names, ranges, kinds";
 pub const LISTS: &str = "lists lent alone";
 pub const EITHER_ORDER: &str = "deltas in either order";
@@ -93,6 +96,7 @@ impl Parts {
         let works = [
             ("short messages", 6, Work::Short(Short::new(seed, tally))),
             (SMALL_STORES, 5, walk("small", Size::Small)),
+            (ORDERS, 3, Work::Walk(Walk::new(seed, "orders", Size::Small).in_two_orders())),
             ("sessions, long queues", 5, walk("middle", Size::Middle)),
             ("sessions, full size", 6, walk("full", Size::Full)),
             ("damaged records and stores", 4, Work::Damaged(Damaged::new(seed))),

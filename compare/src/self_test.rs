@@ -1,7 +1,7 @@
 //! Whether the comparison notices a wrong bit, for each call and each place of what it gives.
 use crate::model::session::{LIST, SLOT};
-use crate::parts::{EITHER_ORDER, LISTS, NAMES, Parts, SMALL_STORES, WATCH};
-use crate::spoil::{Place, arm, armed, disarm, leave_to_rust};
+use crate::parts::{EITHER_ORDER, LISTS, NAMES, ORDERS, Parts, SMALL_STORES, WATCH};
+use crate::spoil::{Judge, Place, arm, armed, disarm, leave_to};
 use crate::tally::{Call, Tally};
 
 const REPLY: &[Place] = &[Place::Answer, Place::Number, Place::Count, Place::Value(0), Place::Value(1), Place::Value(2), Place::Value(3)];
@@ -69,6 +69,16 @@ fn places_of_the_rust() -> Vec<(Call, Place)> {
     places
 }
 
+/// What of an update or a response the same call with the segments in another order can judge: all that it gives and leaves.
+fn places_of_the_order() -> Vec<(Call, Place)> {
+    let mut places = Vec::new();
+    for (call, slices) in [(Call::Update, &[0, 2][..]), (Call::Response, &[0])] {
+        let lent = slices.iter().flat_map(|slice| (0..3).map(move |part| Place::Lent(*slice, part)));
+        places.extend(REPLY.iter().copied().chain((0..8).map(Place::State)).chain(lent).map(|place| (call, place)));
+    }
+    places
+}
+
 /// The part of a run whose steps have this call.
 fn part_of(call: Call) -> &'static str {
     match call {
@@ -124,15 +134,20 @@ pub fn run() -> i32 {
     let both_orders = places_of(|call| matches!(call, Call::Apply | Call::Join));
     let (orders, missed_orders) = tried(&mut parts, &mut tally, |_| EITHER_ORDER, &both_orders, 1);
     let (texts, missed_texts) = tried(&mut parts, &mut tally, part_of, &text_places(), TRIES);
-    leave_to_rust(true);
+    leave_to(Judge::Rust);
     let (of_rust, missed_by_rust) = tried(&mut parts, &mut tally, part_of, &places_of_the_rust(), TRIES);
-    leave_to_rust(false);
+    leave_to(Judge::Order);
+    let (of_order, missed_by_order) = tried(&mut parts, &mut tally, |_| ORDERS, &places_of_the_order(), TRIES);
+    leave_to(Judge::All);
     let (all, missed) = (all + orders + texts, missed + missed_orders + missed_texts);
-    let extra = tally.differences - (all - missed + of_rust - missed_by_rust) as u64;
+    let alone = (of_rust - missed_by_rust, of_order - missed_by_order);
+    let extra = tally.differences - (all - missed + alone.0 + alone.1) as u64;
     println!(
-        "self-test: of {all} wrong bits {} noticed; of {of_rust} by the Rust alone {}; {extra} differences besides",
+        "self-test: of {all} wrong bits {} noticed; of {of_rust} by the Rust alone {}; of {of_order} by another order of the segments alone {}; \
+         {extra} differences besides",
         all - missed,
-        of_rust - missed_by_rust
+        alone.0,
+        alone.1
     );
-    i32::from(missed + missed_by_rust > 0 || extra > 0)
+    i32::from(missed + missed_by_rust + missed_by_order > 0 || extra > 0)
 }

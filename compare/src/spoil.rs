@@ -23,16 +23,27 @@ pub enum Place {
 
 thread_local! {
     static ARMED: Cell<Option<(Call, Place)>> = const { Cell::new(None) };
-    static RUST_ALONE: Cell<bool> = const { Cell::new(false) };
+    static JUDGE: Cell<Judge> = const { Cell::new(Judge::All) };
 }
 
-/// Leaves the judgement of a session's calls to the Rust: what the model says is not reported.
-pub fn leave_to_rust(alone: bool) {
-    RUST_ALONE.set(alone);
+/// Whose word on a session's calls is reported.
+#[derive(Clone, Copy, PartialEq, Eq)]
+pub enum Judge {
+    All,
+    Model,
+    Rust,
+    /// The call that has the same message with its segments in another order.
+    Order,
 }
 
-pub fn rust_alone() -> bool {
-    RUST_ALONE.get()
+/// Leaves the judgement of a session's calls to this one.
+pub fn leave_to(judge: Judge) {
+    JUDGE.set(judge);
+}
+
+/// Whether this one's word is reported.
+pub fn listens_to(judge: Judge) -> bool {
+    JUDGE.get() == Judge::All || JUDGE.get() == judge
 }
 
 /// The next call of this kind where the place exists is spoiled there.

@@ -88,6 +88,8 @@ pub struct Tally {
     counts: Vec<[Count; COLUMNS]>,
     pub calls: u64,
     pub differences: u64,
+    /// Messages in two orders of their segments: accepted, refused by the same number, refused by two.
+    pub orders: [u64; 3],
     /// The part of the run that is on, and its step.
     pub place: String,
     pub quiet: bool,
@@ -95,7 +97,7 @@ pub struct Tally {
 
 impl Tally {
     pub fn new() -> Self {
-        Self { counts: vec![[Count::default(); COLUMNS]; REACH.len()], calls: 0, differences: 0, place: String::new(), quiet: false }
+        Self { counts: vec![[Count::default(); COLUMNS]; REACH.len()], calls: 0, differences: 0, orders: [0; 3], place: String::new(), quiet: false }
     }
 
     /// Counts a call; `oracle`: its answer was compared with the Rust's.
@@ -128,11 +130,16 @@ impl Tally {
             }
             println!("{line}");
         }
+        let [accepted, same, other] = self.orders;
+        println!("  messages in two orders of their segments: {accepted} accepted, {same} refused by the same number, {other} by two");
     }
 
     /// The answers that should have come and did not.
     pub fn unseen(&self) -> Vec<String> {
         let mut missing = Vec::new();
+        if self.orders.contains(&0) {
+            missing.push("two orders accepted, refused by the same number, by two".into());
+        }
         for (call, numbers, answers) in reach() {
             let refusals = numbers.iter().map(|number| column(raw::REFUSED, *number));
             let others = answers.iter().map(|answer| column(*answer, 0));

@@ -91,6 +91,35 @@ pub fn fields(table: &'static [Row], bytes: &[u8], part: Range<usize>) -> Result
     if table.iter().any(lacking) { Err(MISSING) } else { Ok(found) }
 }
 
+/// A field as it stands, whatever it means; what is broken has number 0 and is the last.
+pub struct RawField {
+    pub number: u64,
+    pub bytes: Range<usize>,
+    /// Where a length-delimited one has its content.
+    pub content: Option<Range<usize>>,
+}
+
+pub fn raw_fields(bytes: &[u8]) -> Vec<RawField> {
+    let (mut found, mut at) = (Vec::new(), 0);
+    while at < bytes.len() {
+        let field = raw_field(bytes, at).unwrap_or(RawField { number: 0, bytes: at..bytes.len(), content: None });
+        at = field.bytes.end;
+        found.push(field);
+    }
+    found
+}
+
+fn raw_field(bytes: &[u8], at: usize) -> Result<RawField, u8> {
+    let (key, behind) = varint(bytes, at, bytes.len())?;
+    let (number, kind) = (key / 8, key % 8);
+    if key > u64::from(u32::MAX) || number == 0 || matches!(kind, 3 | 4 | 6 | 7) {
+        return Err(BROKEN);
+    }
+    let end = skipped(kind, bytes, behind, bytes.len())?;
+    let content = if kind == 2 { Some(varint(bytes, behind, end)?.1..end) } else { None };
+    Ok(RawField { number, bytes: at..end, content })
+}
+
 fn wire_type(holds: Holds) -> u64 {
     if matches!(holds, Holds::Number) { 0 } else { 2 }
 }

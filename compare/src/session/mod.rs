@@ -2,6 +2,7 @@
 pub mod damaged;
 pub mod directed;
 pub mod limits;
+pub mod orders;
 pub mod script;
 pub mod stage;
 pub mod twin;

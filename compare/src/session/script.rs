@@ -1,4 +1,5 @@
 //! Sessions written out by hand.
+use super::orders;
 use super::stage::{Ask, ROOM, Stage};
 use super::twin::Twin;
 use crate::generate::{Assignment, Part, Style};
@@ -47,6 +48,11 @@ impl<'a> Script<'a> {
 
     pub fn ask(&mut self, ask: &Ask) -> Reply {
         self.stage.ask(self.tally, ask, self.twin.as_mut()).reply
+    }
+
+    /// The same, also with the segments of its message in another order.
+    pub fn ask_in_two_orders(&mut self, ask: &Ask) {
+        orders::ask(self.tally, ask, &mut self.stage, &mut self.twin, &mut self.rng);
     }
 
     /// An update of these bytes with this much output.

@@ -9,7 +9,7 @@ use crate::raw::{self, Record, SessionReply};
 use crate::reply::{is_ours, show};
 use crate::rng::Rng;
 use crate::shrink::shrunk;
-use crate::spoil::rust_alone;
+use crate::spoil::{Judge, listens_to};
 use crate::tally::{Call, Tally, first_difference, hex};
 use crate::texts;
 
@@ -25,7 +25,7 @@ pub enum Ask {
 }
 
 impl Ask {
-    fn call(&self) -> Call {
+    pub fn call(&self) -> Call {
         match self {
             Self::Update { .. } => Call::Update,
             Self::Response { .. } => Call::Response,
@@ -36,14 +36,14 @@ impl Ask {
         }
     }
 
-    fn message(&self) -> &[u8] {
+    pub fn message(&self) -> &[u8] {
         match self {
             Self::Update { message, .. } | Self::Response { message, .. } => message,
             _ => &[],
         }
     }
 
-    fn with_message(&self, bytes: &[u8]) -> Self {
+    pub fn with_message(&self, bytes: &[u8]) -> Self {
         let mut ask = self.clone();
         if let Self::Update { message, .. } | Self::Response { message, .. } = &mut ask {
             *message = bytes.to_vec();
@@ -62,6 +62,13 @@ impl Ask {
 
 /// The output buffer; what is behind the lent part must stay too.
 const OUT_BUFFER: usize = 4096;
+
+/// What a call of ours gave and left.
+pub struct Outcome {
+    pub given: SessionReply,
+    pub store: Vec<u8>,
+    pub out: Vec<u8>,
+}
 
 #[derive(Clone)]
 pub struct Stage {
@@ -90,7 +97,7 @@ impl Stage {
         let wrong = self.differs(&prediction, &given);
         let good = wrong.is_none();
         let wrong_twin = twin.as_ref().and_then(|twin| twin.differs(&given.state, &self.store));
-        if let Some(what) = wrong.filter(|_| !rust_alone()).or(wrong_twin) {
+        if let Some(what) = reported(wrong, wrong_twin) {
             let input =
                 || format!("store of {} bytes, kind {}, texts {:?}", self.store.len(), texts.kind, texts.texts.each_ref().map(|text| hex(text)));
             tally.differ(Call::Open, &what, input);
@@ -107,6 +114,21 @@ impl Stage {
 
     /// Makes the call on our side, and on the Rust's where a twin is lent and none of ours is due, and compares everything.
     pub fn ask(&mut self, tally: &mut Tally, ask: &Ask, twin: Option<&mut Twin>) -> SessionReply {
+        let (given, prediction, good) = self.judged(tally, ask, twin);
+        self.settle(&prediction, good);
+        given
+    }
+
+    /// The same, with store and output as the call itself left them.
+    pub fn ask_keeping(&mut self, tally: &mut Tally, ask: &Ask, twin: Option<&mut Twin>) -> Outcome {
+        let (given, prediction, good) = self.judged(tally, ask, twin);
+        let outcome = Outcome { given, store: self.store.clone(), out: self.out.clone() };
+        self.settle(&prediction, good);
+        outcome
+    }
+
+    /// What was given, what should have been, and whether the two are the same; differences are reported.
+    fn judged(&mut self, tally: &mut Tally, ask: &Ask, twin: Option<&mut Twin>) -> (SessionReply, Prediction, bool) {
         let prediction = predict(ask, &self.record, &self.mirror);
         let mut message = ask.message().to_vec();
         let given = make(ask, self.record, &mut self.store, &mut message, &mut self.out);
@@ -116,14 +138,13 @@ impl Stage {
         let wrong = self.differs(&prediction, &given).or_else(|| (message != ask.message()).then(|| "the message was changed".into()));
         let (wrong_twin, text) = self.compare(ask, &given, fed);
         let good = wrong.is_none();
-        if let Some(what) = wrong.filter(|_| !rust_alone()).or(wrong_twin) {
+        if let Some(what) = reported(wrong, wrong_twin) {
             tally.differ(ask.call(), &what, || self.show(&self.smallest(ask)));
         }
         if matches!(ask, Ask::Response { .. }) {
             check_text(tally, ask.message(), text);
         }
-        self.settle(&prediction, good);
-        given
+        (given, prediction, good)
     }
 
     /// Feeds the Rust's session and compares with it; also the broker's text, where it gave one.
@@ -177,7 +198,7 @@ impl Stage {
     }
 
     /// All that decides the call's answer.
-    fn show(&self, ask: &Ask) -> String {
+    pub fn show(&self, ask: &Ask) -> String {
         let with = match ask {
             Ask::Update { message, incarnation, room } => format!("incarnation {incarnation}, output of {room}, message {}", hex(message)),
             Ask::Response { message, incarnation } => format!("incarnation {incarnation}, message {}", hex(message)),
@@ -211,6 +232,11 @@ impl Stage {
             None => format!("malformed {}..", hex(&slot[..64])),
         }
     }
+}
+
+/// What is reported of what the model and the Rust say.
+fn reported(model: Option<String>, rust: Option<String>) -> Option<String> {
+    model.filter(|_| listens_to(Judge::Model)).or(rust.filter(|_| listens_to(Judge::Rust)))
 }
 
 /// What 01 says of the call.

@@ -7,6 +7,7 @@ use crate::raw::{self, Record, Reply};
 use crate::reply::{show, taken};
 use crate::scalable_consumer::{AssignmentError, AssignmentReplay, ControllerIncarnation, ScalableConsumerSession, ScalableConsumerType};
 
+#[derive(Clone)]
 pub struct Twin {
     session: ScalableConsumerSession,
     /// What `take_replayed_updates` gives, taken from a copy; kept until another call than a drain is fed.
@@ -137,13 +138,18 @@ impl Twin {
         self.queue_differs(record)
     }
 
+    /// All that the Rust's session holds.
+    pub fn text(&self) -> String {
+        format!("{:?}", self.session)
+    }
+
     /// Now and then, for it is slow: the Rust's queue is private, but its Debug text has an epoch for each entry. It is empty once registered.
     fn queue_differs(&self, record: &Record) -> Option<String> {
         let every = if record.queue_count > 16 { 256 } else { 8 };
         if !self.fed.is_multiple_of(every) {
             return None;
         }
-        let text = format!("{:?}", self.session);
+        let text = self.text();
         let queue = text.split("buffered_updates: [").nth(1)?.split("replayed_updates: [").next()?;
         let theirs = queue.matches("layout_epoch: ").count();
         let ours = if record.registered { 0 } else { record.queue_count };

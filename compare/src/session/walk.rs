@@ -1,8 +1,9 @@
 //! Random sessions on stores of any size, each call fed to both sides.
+use super::orders;
 use super::stage::{Ask, ROOM, Stage};
 use super::twin::Twin;
 use super::world::{TOPICS, World};
-use crate::generate::{Style, damaged, refusing_response};
+use crate::generate::{Assignment, Style, damaged, refusing_response};
 use crate::model::identity::Texts;
 use crate::model::session::{SLOT, STORE_FULL, STORE_LEAST};
 use crate::rng::Rng;
@@ -34,6 +35,8 @@ pub struct Walk {
     pushed: u64,
     /// How often a queue is let grow: of so many calls one is a response, a begin or an invalidate.
     patience: usize,
+    /// Each message is also asked with its segments in another order.
+    two_orders: bool,
 }
 
 impl Walk {
@@ -42,7 +45,24 @@ impl Walk {
         let store = rng.bytes(if size == Size::Full { STORE_FULL } else { 0 });
         let stage = Stage::new(Default::default(), store, &mut rng);
         let texts = Texts { texts: [Vec::new(), Vec::new(), Vec::new()], kind: 0 };
-        Self { rng, size, stage, twin: None, world: World::new(""), texts, consumer_id: 0, left: 0, fill: 0, pushed: 0, patience: 1 }
+        Self {
+            rng,
+            size,
+            stage,
+            twin: None,
+            world: World::new(""),
+            texts,
+            consumer_id: 0,
+            left: 0,
+            fill: 0,
+            pushed: 0,
+            patience: 1,
+            two_orders: false,
+        }
+    }
+
+    pub fn in_two_orders(self) -> Self {
+        Self { two_orders: true, ..self }
     }
 
     /// Some calls of the session that is on, or a new one.
@@ -54,7 +74,11 @@ impl Walk {
             self.left -= 1;
             let ask = if self.fill > 0 { self.push() } else { self.next() };
             self.fill = self.fill.saturating_sub(1);
-            self.stage.ask(tally, &ask, self.twin.as_mut());
+            if self.two_orders {
+                orders::ask(tally, &ask, &mut self.stage, &mut self.twin, &mut self.rng);
+            } else {
+                self.stage.ask(tally, &ask, self.twin.as_mut());
+            }
             if matches!(ask, Ask::Begin { .. } | Ask::Invalidate) {
                 self.fill = self.rng.pick(&[0, 0, 2, 5]);
             }
@@ -81,7 +105,13 @@ impl Walk {
         self.texts = Texts { texts: texts.map(|text| text.as_bytes().to_vec()), kind: rng.pick(&[0, 1, 2, -1]) };
         let incarnation = rng.pick(&[0, 1, 5, u64::MAX - 2]);
         self.stage = Stage::new(Default::default(), store, rng);
-        self.patience = if self.size == Size::Full { 25 } else { rng.pick(&[1, 3, 12]) };
+        self.patience = if self.size == Size::Full {
+            25
+        } else if self.two_orders {
+            1
+        } else {
+            rng.pick(&[1, 3, 12])
+        };
         (self.left, self.fill) = match self.size {
             Size::Full if !rng.one_in(4) => (1200, rng.between(1000, 1025)),
             Size::Full => (200, 0),
@@ -139,12 +169,21 @@ impl Walk {
     fn update(&mut self) -> Ask {
         let (epoch, style) = (self.near(self.behind()), self.style());
         self.pushed = epoch;
-        let faulty = self.rng.one_in(8);
-        let list = if faulty { self.world.faulty(epoch, &mut self.rng) } else { self.world.list(epoch, &mut self.rng) };
+        let faulty = self.rng.one_in(if self.two_orders { 3 } else { 8 });
+        let list = if faulty { self.faulty(epoch) } else { self.world.list(epoch, &mut self.rng) };
         let consumer_id = if self.rng.one_in(40) { self.rng.word() } else { self.consumer_id };
         let message = list.update(consumer_id, style, &mut self.rng);
         let message = self.sometimes_damaged(message);
         Ask::Update { message, incarnation: self.incarnation(), room: self.room() }
+    }
+
+    /// A list with a fault, or with two where the order may decide which is named.
+    fn faulty(&mut self, epoch: u64) -> Assignment {
+        let mut list = self.world.faulty(epoch, &mut self.rng);
+        if self.two_orders && self.rng.one_in(2) {
+            self.world.put_fault(&mut list, &mut self.rng);
+        }
+        list
     }
 
     fn sometimes_damaged(&mut self, message: Vec<u8>) -> Vec<u8> {
@@ -163,7 +202,8 @@ impl Walk {
         let request = self.rng.word() >> self.rng.below(64);
         let message = match self.rng.below(10) {
             0 => refusing_response(request, style, &mut self.rng),
-            1 => self.world.faulty(epoch, &mut self.rng).response(request, style, &mut self.rng),
+            1 => self.faulty(epoch).response(request, style, &mut self.rng),
+            2 | 3 if self.two_orders => self.faulty(epoch).response(request, style, &mut self.rng),
             _ => self.world.list(epoch, &mut self.rng).response(request, style, &mut self.rng),
         };
         let message = self.sometimes_damaged(message);

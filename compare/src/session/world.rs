@@ -109,6 +109,12 @@ impl World {
             list.parts.push(self.part(7, rng));
         }
         self.last = kept;
+        self.put_fault(&mut list, rng);
+        list
+    }
+
+    /// Puts a fault into a list that has a segment.
+    pub fn put_fault(&self, list: &mut Assignment, rng: &mut Rng) {
         let at = rng.below(list.parts.len());
         match rng.below(5) {
             0 => self.bad_range(&mut list.parts[at], rng),
@@ -121,7 +127,6 @@ impl World {
                 rng.shuffle(&mut list.parts);
             }
         }
-        list
     }
 
     fn bad_range(&self, part: &mut Part, rng: &mut Rng) {
@@ -158,7 +163,11 @@ fn sharing_buckets(part: &mut Part, rng: &mut Rng) {
     part.buckets.insert(at, (value, value));
 }
 
+/// A name that is cut to nothing is bad already: a second fault leaves it.
 fn bad_name(part: &mut Part, rng: &mut Rng) {
+    if part.topic.is_empty() {
+        return;
+    }
     let at = rng.below(part.topic.len());
     match rng.below(4) {
         0 => part.topic.truncate(at),

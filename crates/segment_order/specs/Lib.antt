@@ -1,0 +1,4 @@
+pub mod Shuffled
+pub mod SegmentOrder
+pub mod Written
+pub mod Rows
