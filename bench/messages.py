@@ -106,6 +106,13 @@ def watch_updates(size):
 for count in SIZES:
     MESSAGES |= watch_updates(count)
 
+# texts of some 4 KB: plain; of sequences of two, three and four bytes; German, whose letters are mostly plain; and a segment's name
+TEXTS = {
+    "ascii": "a" * 4096, "two": "é" * 2048, "three": "€" * 1365, "four": "🛰" * 1024,
+    "german": "Größe über Flüsse: naïve café, " * 128, "name": "segment://tenant/namespace/topic/0000-7fff-1",
+}
+MESSAGES |= {f"text-{name}": text.encode() for name, text in TEXTS.items()}
+
 if __name__ == "__main__":
     folder = pathlib.Path(sys.argv[1])
     folder.mkdir(parents=True, exist_ok=True)

@@ -1,6 +1,6 @@
 #!/usr/bin/env python3
 """Measures the port beside the Rust and prints the tables of docs/BENCHMARKS.md; with --write they replace those in the file. A table's mark as a word (update,
-reconnect, scan, intake, plain, watch, memory, sizes) makes that one alone.
+reconnect, scan, intake, plain, text, watch, memory, sizes) makes that one alone.
 
 Instructions are counted by callgrind: a run of some turns less a run of none, by their number. Times are the shortest of five runs of many turns less the shortest of
 five of none. The heap is what valgrind finds. It needs rt, gcc and valgrind. The Rust's side is measured where CUDDREWYN_RUST names the folder of the Rust's sources
@@ -28,6 +28,14 @@ MESSAGES = {
     "b": "145 segments without buckets",
     "c": "one segment, 506 buckets that rise",
     "s": "the same, buckets falling",
+}
+TEXTS = {
+    "ascii": "plain bytes alone (row 1)",
+    "two": "sequences of two bytes (row 2)",
+    "three": "sequences of three bytes (row 4)",
+    "four": "sequences of four bytes (row 7)",
+    "german": "German: plain bytes, now and then two",
+    "name": "a segment's name",
 }
 # What it is; the two messages that come in turn; whether the session is registered; how many pushes its queue holds; how many segments each update loses and gains.
 UPDATES = [
@@ -170,6 +178,14 @@ def plain_table(bench):
     return piece_table(bench, "both", "plain", "abc", "-assignment")
 
 
+def text_table(bench):
+    lines = []
+    for name, what in TEXTS.items():
+        file = bench.file(f"text-{name}")
+        lines.append([what, f"{os.path.getsize(file):,}", *measured("0", [bench.rust, "text", file], [bench.pieces, "text", file])[:3]])
+    return rows(["text", "bytes", *MEASURED[:3]], lines)
+
+
 def update_table(bench):
     lines = []
     for what, first, second, registered, queued, changed in UPDATES:
@@ -248,8 +264,8 @@ def size_table(bench):
 
 
 TABLES = {
-    "update": update_table, "reconnect": reconnect_table, "scan": scan_table, "intake": intake_table, "plain": plain_table, "watch": watch_table,
-    "memory": memory_table, "sizes": size_table,
+    "update": update_table, "reconnect": reconnect_table, "scan": scan_table, "intake": intake_table, "plain": plain_table, "text": text_table,
+    "watch": watch_table, "memory": memory_table, "sizes": size_table,
 }
 
 

@@ -3,6 +3,7 @@
 
 The vectors are the lines of crates/vectors/stdin. Each subject has its judge: tools/name_vectors.py (texts, names, ranges), tools/wire_vectors.py,
 tools/assignment_vectors.py (packed assignments, deltas, the calls with an output, the intake) and tools/watch_vectors.py. `--write` writes stdout anew.
+The ends of every row of Unicode's Table 3-7 (tools/text_vectors.py) have to be among them, answered as their row says.
 """
 import pathlib
 import re
@@ -10,6 +11,7 @@ import sys
 
 import assignment_vectors
 import name_vectors
+import text_vectors
 import watch_vectors
 import wire_vectors
 from name_vectors import Refused
@@ -61,6 +63,8 @@ def main():
             sys.exit(f"vectors: stdin:{number}: '{line}' should give '{told}', stdout has '{have}'")
     if len(lines) != len(held):
         sys.exit(f"vectors: stdout has {len(held)} lines, should have {len(lines)}")
+    if missing := text_vectors.missing({line: told for _, line, told in lines}):
+        sys.exit(f"vectors: of the rows of Table 3-7 stdin does not have, or Python's decoder answers otherwise: {', '.join(missing)}")
     print(f"vectors: {len(lines)} lines as reckoned")
 
 

@@ -3,6 +3,7 @@
 //!     rust-session decode FILE TIMES      an update decoded by prost
 //!     rust-session intake FILE TIMES      the assignment of an update that was decoded beforehand
 //!     rust-session both FILE TIMES        an update decoded, and its assignment
+//!     rust-session text FILE TIMES        a text by `core::str::from_utf8`
 //!     rust-session update, reconnect, watch ..      as bench/port.c has them; each message is decoded by prost
 //!     rust-session binding FIRST SECOND TIMES       updates of a registered session through bindings/rust
 //!     rust-session open                   a session and nothing else
@@ -101,6 +102,11 @@ fn both(message: &[u8], times: usize) {
     println!("{}", (0..times).filter(refused).count());
 }
 
+fn text(bytes: &[u8], times: usize) {
+    let refused = |_: &usize| black_box(core::str::from_utf8(black_box(bytes))).is_err();
+    println!("{}", (0..times).filter(refused).count());
+}
+
 fn updates(messages: [&[u8]; 2], registered: bool, queued: usize, times: usize) {
     let mut run = Run::open();
     for _ in 0..queued {
@@ -191,6 +197,7 @@ fn main() {
         ["decode", file, times] => decode(&read(file), number(times)),
         ["intake", file, times] => intake(&read(file), number(times)),
         ["both", file, times] => both(&read(file), number(times)),
+        ["text", file, times] => text(&read(file), number(times)),
         ["update", first, second, registered, queued, times] => {
             updates([&read(first), &read(second)], number(registered) != 0, number(queued), number(times));
         }

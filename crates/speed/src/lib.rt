@@ -1,4 +1,4 @@
-// What the benchmarks call of the pieces of an update: one exported function for each piece that is measured.
+// What the benchmarks call of the pieces of an update, and the text check: one exported function for each piece that is measured.
 use intake::Intake;
 use plain_intake::PlainIntake;
 use schema::Checked;
@@ -11,6 +11,12 @@ pub extern "C" fn speed_first_fault(message: &[u8]) -> u8 {
         Checked::Valid => 0,
         Checked::Refused(_) => 1,
     }
+}
+
+// 0 where the text is UTF-8, else 1.
+#[no_mangle]
+pub extern "C" fn speed_text(text: &[u8]) -> u8 {
+    if utf8::is_utf8(text) { 0 } else { 1 }
 }
 
 // The size of the packed assignment that an update comes to below the parent, 0 where it is refused.

@@ -1,7 +1,8 @@
 -- Laws of a text that is read sequence by sequence.
 --
--- In order: a text is its first sequence and the rest (`text-step`); the end of a slice (`text-end`); the steps of a loop at the place `at` of
--- a slice: a sequence (`passes-sequence`), eight bytes (`passes-eight`), a byte of the first row (`plain-next`).
+-- In order: a text is its first sequence and the rest (`text-step`); the end of a slice (`text-end`); at the place `at`
+-- of a slice: no sequence (`sequence-stops`), a sequence (`sequence-passes`), a byte of the first row (`plain-passes`,
+-- `plain-next`); bytes that may be passed over (`passes-none`, `passes-more`).
 -- Assumes nothing.
 use Prim.Native.Nat.{ℕ, zero, suc, _+_, _-_, _≤_, _<_}
 use native.Mathlib.Omega.{arith}
@@ -37,27 +38,36 @@ pub text-end : (s : List ℕ) (at : ℕ) → length s ≤ at → isUtf8 (drop at
 unfolding isUtf8 textAfter
 text-end s at h = rw (drop-of-length-le s h)
 
--- ---- a turn of a loop
+-- ---- the sequence of n bytes at a place
 
--- the sequence there, of n bytes
-pub passes-sequence : (s : List ℕ) (at n : ℕ) → at < length s → n ≡ sequenceOf (drop at s) → Passes s at n
-passes-sequence s at n h e =
-    let step : isUtf8 (drop at s) ≡ cond (eqb n 0) false (isUtf8 (drop n (drop at s))) =
-    text-step (drop at s) (omega (arith, length-drop at s)) ∙ rw (← e) in
-    record {
-      inside = omega (arith, length-drop at s, e, sequence-le (drop at s));
-      stops = λ z. step ∙ rw (eq-eqb n 0 z);
-      goes-on = λ z. step ∙ rw (ne-eqb n 0 z, drop-drop n at s);
-    }
+module _ (s : List ℕ) (at n : ℕ) (h : at < length s) (e : n ≡ sequenceOf (drop at s)) where
+  sequence-step : isUtf8 (drop at s) ≡ cond (eqb n 0) false (isUtf8 (drop (at + n) s))
+  sequence-step = text-step (drop at s) (omega (arith, length-drop at s)) ∙ rw (← e, drop-drop n at s)
 
--- eight bytes that may be passed over
-pub passes-eight : (s : List ℕ) (at : ℕ) → at + 8 ≤ length s → isUtf8 (drop at s) ≡ isUtf8 (drop (at + 8) s) → Passes s at 8
-passes-eight s at h e = record { inside = h; stops = λ z. absurd (omega arith); goes-on = λ _. e }
+  pub sequence-inside : at + n ≤ length s
+  sequence-inside = omega (arith, length-drop at s, e, sequence-le (drop at s))
 
--- ---- a byte of the first row, i places behind at
+  pub sequence-stops : n ≡ 0 → isUtf8 (drop at s) ≡ false
+  sequence-stops z = sequence-step ∙ rw (eq-eqb n 0 z)
+
+  pub sequence-passes : (n ≡ 0 → ⊥) → isUtf8 (drop at s) ≡ isUtf8 (drop (at + n) s)
+  sequence-passes z = sequence-step ∙ rw (ne-eqb n 0 z)
+
+-- a byte of the first row; the same i places behind at
+pub plain-passes : (s : List ℕ) (at : ℕ) → at < length s → getD s at 0 ≤ 127 → isUtf8 (drop at s) ≡ isUtf8 (drop (at + 1) s)
+plain-passes s at h b = sequence-passes s at 1 h (sym (first-row s at h b)) (λ z. absurd (omega arith))
 
 pub plain-next : (s : List ℕ) (at i : ℕ) → at + i < length s → getD s (at + i) 0 ≤ 127
     → isUtf8 (drop (at + i) s) ≡ isUtf8 (drop (at + (i + 1)) s)
-plain-next s at i h b =
-    let e : at + i + 1 ≡ at + (i + 1) = omega arith in
-    passes-sequence s (at + i) 1 h (sym (first-row s (at + i) h b)) .goes-on (λ z. absurd (omega arith)) ∙ rw e
+plain-next s at i h b = let e : at + i + 1 ≡ at + (i + 1) = omega arith in plain-passes s (at + i) h b ∙ rw e
+
+-- ---- bytes that may be passed over
+
+module _ (s : List ℕ) (from : ℕ) where
+  pub passes-none : from ≤ length s → Passes s from from
+  passes-none h = record { onward = omega arith; inside = h; same = refl }
+
+  -- k more behind those
+  pub passes-more : (at k : ℕ) → Passes s from at → at + k ≤ length s → isUtf8 (drop at s) ≡ isUtf8 (drop (at + k) s)
+      → Passes s from (at + k)
+  passes-more at k p h e = record { onward = omega (arith, p .onward); inside = h; same = p .same ∙ e }

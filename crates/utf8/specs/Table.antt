@@ -1,7 +1,9 @@
--- UTF-8 by Unicode's Table 3-7, "Well-Formed UTF-8 Byte Sequences" (01, Fields: "Texts are UTF-8").
+-- UTF-8 by Unicode's Table 3-7, "Well-Formed UTF-8 Byte Sequences" (01, Fields: "Texts are UTF-8"; 02, c: "row by row in
+-- the table's order").
 --
--- `table` is that table, row by row: the spans of the first, second, third and fourth byte. A text is UTF-8 where it is sequences that fit
--- a row, one behind the other. `isUtf8` is the name that contracts cite.
+-- `table` is that table, line by line: the spans of the first, second, third and fourth byte, and behind them the row's
+-- code points. A text is UTF-8 where it is sequences that fit a row, one behind the other. `isUtf8` is the name that
+-- contracts cite.
 -- Assumes nothing.
 use Prim.Native.Nat.{ℕ, zero, suc, _-_}
 use mathlib.Core.Bool.{Bool, true, false, cond, _&&_}
@@ -17,21 +19,18 @@ pub record Span : Type 0 where
 abbrev pub span : ℕ → ℕ → Span
 span low high = record { low = low; high = high }
 
--- a trailing byte that the bytes before it do not narrow
-abbrev pub trail : Span
-trail = span 0x80 0xBF
-
+-- a row for each of the table's rows, in its order
 unfoldable pub table : List (List Span)
 table =
-    (span 0x00 0x7F ∷ [])
-    ∷ (span 0xC2 0xDF ∷ trail ∷ [])
-    ∷ (span 0xE0 0xE0 ∷ span 0xA0 0xBF ∷ trail ∷ [])
-    ∷ (span 0xE1 0xEC ∷ trail ∷ trail ∷ [])
-    ∷ (span 0xED 0xED ∷ span 0x80 0x9F ∷ trail ∷ [])
-    ∷ (span 0xEE 0xEF ∷ trail ∷ trail ∷ [])
-    ∷ (span 0xF0 0xF0 ∷ span 0x90 0xBF ∷ trail ∷ trail ∷ [])
-    ∷ (span 0xF1 0xF3 ∷ trail ∷ trail ∷ trail ∷ [])
-    ∷ (span 0xF4 0xF4 ∷ span 0x80 0x8F ∷ trail ∷ trail ∷ [])
+    (span 0x00 0x7F ∷ [])  -- U+0000 to U+007F
+    ∷ (span 0xC2 0xDF ∷ span 0x80 0xBF ∷ [])  -- U+0080 to U+07FF
+    ∷ (span 0xE0 0xE0 ∷ span 0xA0 0xBF ∷ span 0x80 0xBF ∷ [])  -- U+0800 to U+0FFF
+    ∷ (span 0xE1 0xEC ∷ span 0x80 0xBF ∷ span 0x80 0xBF ∷ [])  -- U+1000 to U+CFFF
+    ∷ (span 0xED 0xED ∷ span 0x80 0x9F ∷ span 0x80 0xBF ∷ [])  -- U+D000 to U+D7FF
+    ∷ (span 0xEE 0xEF ∷ span 0x80 0xBF ∷ span 0x80 0xBF ∷ [])  -- U+E000 to U+FFFF
+    ∷ (span 0xF0 0xF0 ∷ span 0x90 0xBF ∷ span 0x80 0xBF ∷ span 0x80 0xBF ∷ [])  -- U+10000 to U+3FFFF
+    ∷ (span 0xF1 0xF3 ∷ span 0x80 0xBF ∷ span 0x80 0xBF ∷ span 0x80 0xBF ∷ [])  -- U+40000 to U+FFFFF
+    ∷ (span 0xF4 0xF4 ∷ span 0x80 0x8F ∷ span 0x80 0xBF ∷ span 0x80 0xBF ∷ [])  -- U+100000 to U+10FFFF
     ∷ []
 
 -- the byte b lies in the span

@@ -1,54 +1,61 @@
 // Whether a part is UTF-8, by Unicode's Table 3-7, "Well-Formed UTF-8 Byte Sequences".
 //
-// `sequence` goes through the table's rows in their order; `is_utf8` goes through the part once, sequence by sequence, and eight bytes of the
-// first row at a time.
+// `sequence` is that table, line by line: its rows in their order, each with the spans of its bytes. `is_utf8` goes
+// through the part sequence by sequence; behind one of the first row it passes over what follows of that row, eight
+// bytes at a time.
 ghost use mathlib.Core.Path.{_≡_};
 ghost use mathlib.Core.Bool.{true, cond};
 ghost use mathlib.Core.List.{[], _∷_};
-ghost use Prim.Native.Nat.{_+_, _≤_, _<_};
+ghost use Prim.Native.Nat.{_+_, _≤_};
 ghost use lib.ListN.{length, drop};
-ghost use Rattle.utf8.specs.Table.{span, trail, fits, sequenceOf, isUtf8};
+ghost use Rattle.utf8.specs.Table.{span, fits, sequenceOf, isUtf8};
 ghost use Rattle.utf8.specs.Passes.{Passes};
 
-// The byte at the place i is there and lies in the span from low to high.
-fn in_span(s: &[u8], i: usize, low: u8, high: u8) -> bool
-    ensures { λ r. ⌜ r ≡ fits (span low high ∷ []) (drop i (now (s .entry))) ⌝ }
+// The byte values from the first to the second.
+struct Span(u8, u8);
+
+// The byte at the place i is there and lies in the span.
+fn in_span(s: &[u8], i: usize, byte: Span) -> bool
+    ensures { λ r. ⌜ r ≡ fits (span (byte .0) (byte .1) ∷ []) (drop i (now (s .entry))) ⌝ }
 {
     if i < s.len() {
         let b = s[i];
-        if low <= b {
-            return b <= high;
+        if byte.0 <= b {
+            return b <= byte.1;
         }
     }
     false
 }
 
-// 2 where the second byte is a trailing byte, else 0.
-fn two(s: &[u8]) -> usize
-    ensures { λ r. ⌜ r ≡ cond (fits (trail ∷ []) (drop 1 (now (s .entry)))) 2 0 ⌝ }
+// 2 where the second byte lies in its span, else 0.
+fn two(s: &[u8], second: Span) -> usize
+    ensures { λ r. ⌜ r ≡ cond (fits (span (second .0) (second .1) ∷ []) (drop 1 (now (s .entry)))) 2 0 ⌝ }
 {
-    if in_span(s, 1, 0x80, 0xBF) { 2 } else { 0 }
+    if in_span(s, 1, second) { 2 } else { 0 }
 }
 
-// 3 where the second byte lies in the span and the third is a trailing byte, else 0.
-fn three(s: &[u8], low: u8, high: u8) -> usize
-    ensures { λ r. ⌜ r ≡ cond (fits (span low high ∷ trail ∷ []) (drop 1 (now (s .entry)))) 3 0 ⌝ }
+// 3 where the second and the third byte lie in their spans, else 0.
+fn three(s: &[u8], second: Span, third: Span) -> usize
+    ensures { λ r. ⌜ r ≡ cond
+        (fits (span (second .0) (second .1) ∷ span (third .0) (third .1) ∷ []) (drop 1 (now (s .entry)))) 3 0 ⌝ }
 {
-    if in_span(s, 1, low, high) {
-        if in_span(s, 2, 0x80, 0xBF) {
+    if in_span(s, 1, second) {
+        if in_span(s, 2, third) {
             return 3;
         }
     }
     0
 }
 
-// 4 where the second byte lies in the span and the third and fourth are trailing bytes, else 0.
-fn four(s: &[u8], low: u8, high: u8) -> usize
-    ensures { λ r. ⌜ r ≡ cond (fits (span low high ∷ trail ∷ trail ∷ []) (drop 1 (now (s .entry)))) 4 0 ⌝ }
+// 4 where the second, the third and the fourth byte lie in their spans, else 0.
+fn four(s: &[u8], second: Span, third: Span, fourth: Span) -> usize
+    ensures { λ r. ⌜ r ≡ cond
+        (fits (span (second .0) (second .1) ∷ span (third .0) (third .1) ∷ span (fourth .0) (fourth .1) ∷ [])
+        (drop 1 (now (s .entry)))) 4 0 ⌝ }
 {
-    if in_span(s, 1, low, high) {
-        if in_span(s, 2, 0x80, 0xBF) {
-            if in_span(s, 3, 0x80, 0xBF) {
+    if in_span(s, 1, second) {
+        if in_span(s, 2, third) {
+            if in_span(s, 3, fourth) {
                 return 4;
             }
         }
@@ -56,7 +63,8 @@ fn four(s: &[u8], low: u8, high: u8) -> usize
     0
 }
 
-// The length of the well-formed sequence at the front of the part, or 0 where there is none. The second byte allowed depends on the first.
+// The length of the well-formed sequence at the front of the part, or 0 where there is none. A line of the match is a
+// row of the table: the span of the first byte, then those of the bytes behind it.
 pub fn sequence(s: &[u8]) -> usize
     ensures { λ r. ⌜ r ≡ sequenceOf (now (s .entry)) ⌝ }
 {
@@ -66,30 +74,20 @@ pub fn sequence(s: &[u8]) -> usize
     let lead = s[0];
     match lead {
         0x00..=0x7F => 1,
-        0xC2..=0xDF => two(s),
-        0xE0 => three(s, 0xA0, 0xBF),
-        0xE1..=0xEC => three(s, 0x80, 0xBF),
-        0xED => three(s, 0x80, 0x9F),
-        0xEE..=0xEF => three(s, 0x80, 0xBF),
-        0xF0 => four(s, 0x90, 0xBF),
-        0xF1..=0xF3 => four(s, 0x80, 0xBF),
-        0xF4 => four(s, 0x80, 0x8F),
+        0xC2..=0xDF => two(s, Span(0x80, 0xBF)),
+        0xE0 => three(s, Span(0xA0, 0xBF), Span(0x80, 0xBF)),
+        0xE1..=0xEC => three(s, Span(0x80, 0xBF), Span(0x80, 0xBF)),
+        0xED => three(s, Span(0x80, 0x9F), Span(0x80, 0xBF)),
+        0xEE..=0xEF => three(s, Span(0x80, 0xBF), Span(0x80, 0xBF)),
+        0xF0 => four(s, Span(0x90, 0xBF), Span(0x80, 0xBF), Span(0x80, 0xBF)),
+        0xF1..=0xF3 => four(s, Span(0x80, 0xBF), Span(0x80, 0xBF), Span(0x80, 0xBF)),
+        0xF4 => four(s, Span(0x80, 0x8F), Span(0x80, 0xBF), Span(0x80, 0xBF)),
         _ => 0,
     }
 }
 
-// The same at a place of the part. A byte of the table's first row, the usual one, is told by one test.
-fn sequence_at(s: &[u8], at: usize) -> usize
-    requires { ⌜ at < length (now s) ⌝ }
-    ensures { λ r. ⌜ r ≡ sequenceOf (drop at (now (s .entry))) ⌝ }
-{
-    if s[at] <= 0x7F {
-        return 1;
-    }
-    sequence(&s[at..])
-}
-
-// The eight bytes from a place on are all of the table's first row. They are counted without a branch out of the loop, so that a machine may test them at once.
+// The eight bytes from a place on are all of the first row. They are counted with no way out of the loop, so that a
+// machine may test them at once.
 fn eight_plain(s: &[u8], at: usize) -> bool
     requires { ⌜ at + 8 ≤ length (now s) ⌝ }
     ensures { λ r. ⌜ (r ≡ true → isUtf8 (drop at (now (s .entry))) ≡ isUtf8 (drop (at + 8) (now (s .entry)))) ⌝ }
@@ -105,17 +103,34 @@ fn eight_plain(s: &[u8], at: usize) -> bool
     others == 0
 }
 
-// How many bytes from a place on are passed over: eight of the first row, or one sequence; 0 where no sequence stands there.
-fn passed(s: &[u8], at: usize) -> usize
-    requires { ⌜ at < length (now s) ⌝ }
-    ensures { λ r. ⌜ Passes (now (s .entry)) at r ⌝ }
+// The place behind the bytes of the first row from a place on, as far as there are eight of them together.
+fn eights_end(s: &[u8], from: usize) -> usize
+    requires { ⌜ from ≤ length (now s) ⌝ }
+    ensures { λ r. ⌜ Passes (now (s .entry)) from r ⌝ }
 {
-    if 8 <= s.len() - at {
-        if eight_plain(s, at) {
-            return 8;
+    let mut at = from;
+    while 8 <= s.len() - at {
+        if !eight_plain(s, at) {
+            return at;
         }
+        at = at + 8;
     }
-    sequence_at(s, at)
+    at
+}
+
+// The place behind the bytes of the first row from a place on.
+fn plain_end(s: &[u8], from: usize) -> usize
+    requires { ⌜ from ≤ length (now s) ⌝ }
+    ensures { λ r. ⌜ Passes (now (s .entry)) from r ⌝ }
+{
+    let mut at = eights_end(s, from);
+    while at < s.len() {
+        if 0x7F < s[at] {
+            return at;
+        }
+        at = at + 1;
+    }
+    at
 }
 
 // The part is UTF-8.
@@ -124,11 +139,14 @@ pub fn is_utf8(s: &[u8]) -> bool
 {
     let mut at: usize = 0;
     while at < s.len() {
-        let n = passed(s, at);
+        let n = sequence(&s[at..]);
         if n == 0 {
             return false;
         }
         at = at + n;
+        if n == 1 {
+            at = plain_end(s, at);
+        }
     }
     true
 }

@@ -1,0 +1,15 @@
+#!/usr/bin/env python3
+"""Makes the vectors of the text check: writes their part of crates/vectors/stdin, the rows of Unicode's Table 3-7 in their order (tools/text_vectors.py)."""
+from text_vectors import cases, line
+from vectors import replace
+
+
+def lines():
+    yield "# of each row the lowest sequence, then with each later byte just below and just above its span; the highest, likewise; all between plain bytes"
+    for number, spans, some in cases():
+        yield f"# row {number}: {spans}"
+        yield from (line(text) for text, _ in some)
+
+
+if __name__ == "__main__":
+    replace("# ==== texts by Unicode's Table 3-7, row by row: by tools/text_lines.py", lines())
