@@ -1,6 +1,6 @@
 #!/usr/bin/env python3
 """Measures the port beside the Rust and prints the tables of docs/BENCHMARKS.md; with --write they replace those in the file. A table's mark as a word (update,
-reconnect, scan, intake, plain, text, watch, memory, sizes) makes that one alone.
+reconnect, scan, intake, plain, text, watch, keys, memory, sizes) makes that one alone.
 
 Instructions are counted by callgrind: a run of some turns less a run of none, by their number. Times are the shortest of five runs of many turns less the shortest of
 five of none. The heap is what valgrind finds. It needs rt, gcc and valgrind. The Rust's side is measured where CUDDREWYN_RUST names the folder of the Rust's sources
@@ -64,6 +64,8 @@ WATCHES = [
     ("diff of n / 2, rising", "half", "half-back", lambda n: (n // 4, n // 4)),
     ("diff of n / 2, shuffled", "half-shuffled", "half-shuffled-back", lambda n: (n // 4, n // 4)),
 ]
+# Bytes of a key; segments of the list.
+KEYS = [(0, 4), (8, 4), (32, 4), (1024, 4), (65535, 4), (8, 145)]
 # What it is; how many calls of the run are refused; the call and its messages.
 STACKS = [
     ("an update, case a", 0, "update", "a", "a"),
@@ -89,6 +91,7 @@ class Bench:
             run("rt", "staticlib", library, cwd=ROOT)
         self.port = self.compiled("port", "export", "-pthread")
         self.pieces = self.compiled("pieces", "speed")
+        self.keys = self.compiled("keys", "export")
         self.rust = self.built()
 
     def compiled(self, name, library, *more):
@@ -216,6 +219,17 @@ def watch_table(bench):
     return rows(["case", "bytes", *MEASURED], lines)
 
 
+def key_table(bench):
+    """The segment of a key beside a plain C hash. Both have to find the same one."""
+    lines = []
+    for length, segments in KEYS:
+        told = run(bench.keys, "c", length, segments, 1).stdout.strip()
+        counts = [instructions(told, [bench.keys, side, length, segments], TURNS) for side in ("c", "port")]
+        cells = [f"{count:,}" for count in (length, segments, *counts)]
+        lines.append([*cells, f"{counts[1] / counts[0]:.2f}"])
+    return rows(["bytes of the key", "segments", "C, instructions", "port, instructions", "port / C"], lines)
+
+
 def heap(bench, *words):
     """The bytes that a run of the Rust leaves in use, and how often it allocates; nothing where it is not measured."""
     if bench.rust is None:
@@ -265,7 +279,7 @@ def size_table(bench):
 
 TABLES = {
     "update": update_table, "reconnect": reconnect_table, "scan": scan_table, "intake": intake_table, "plain": plain_table, "text": text_table,
-    "watch": watch_table, "memory": memory_table, "sizes": size_table,
+    "watch": watch_table, "keys": key_table, "memory": memory_table, "sizes": size_table,
 }
 
 

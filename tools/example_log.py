@@ -125,6 +125,19 @@ def damage():
     yield "update", 2, update(9, NORTH)
 
 
+def questions():
+    yield "# Segments 1 and 2 are gained again at epoch 10."
+    yield "update", 2, update(10, NORTH, EAST, SOUTH)
+    yield "# A planner types names of spacecraft. Their hashes are 10b7, 567c, baaf and c3a3."
+    for name in (b"hubble", b"rosetta", b"cassini", b"voyager"):
+        yield "segment", name
+    yield "# No name."
+    yield "segment",
+    yield "# A station that is not registered holds no segment."
+    yield "invalidate",
+    yield "segment", b"hubble"
+
+
 def shown(word):
     """A word of a line: plain texts as they stand, all other bytes in hexadecimal."""
     if not isinstance(word, bytes):
@@ -138,7 +151,7 @@ def line(step):
 
 def main():
     head = "# A pass of the station svalbard-2 as a log of calls, written by tools/example_log.py. The answers stand in stdout."
-    parts = [[head], first_link(), pushes(), second_link(), damage()]
+    parts = [[head], first_link(), pushes(), second_link(), damage(), questions()]
     text = "\n\n".join("\n".join(map(line, part)) for part in parts)
     (CRATES / "station" / "stdin").write_text(text + "\n", encoding="ascii")
 

@@ -1,15 +1,17 @@
 #!/usr/bin/env python3
-"""Reckons anew what the program `vectors` should write, by other means than the code's, and compares it with crates/vectors/stdout.
+"""Reckons anew what the programs `vectors` and `key_vectors` should write, by other means than the code's, and compares it with their files stdout.
 
-The vectors are the lines of crates/vectors/stdin. Each subject has its judge: tools/name_vectors.py (texts, names, ranges), tools/wire_vectors.py,
-tools/assignment_vectors.py (packed assignments, deltas, the calls with an output, the intake) and tools/watch_vectors.py. `--write` writes stdout anew.
-The ends of every row of Unicode's Table 3-7 (tools/text_vectors.py) have to be among them, answered as their row says.
+The vectors are the lines of their files stdin. Each subject has its judge: tools/name_vectors.py (texts, names, ranges), tools/wire_vectors.py,
+tools/assignment_vectors.py (packed assignments, deltas, the calls with an output, the intake), tools/watch_vectors.py and tools/key_vectors.py (hashes, the
+segment of a key). `--write` writes stdout anew. The ends of every row of Unicode's Table 3-7 (tools/text_vectors.py) have to be among those of `vectors`,
+answered as their row says.
 """
 import pathlib
 import re
 import sys
 
 import assignment_vectors
+import key_vectors
 import name_vectors
 import text_vectors
 import watch_vectors
@@ -17,11 +19,11 @@ import wire_vectors
 from name_vectors import Refused
 
 CRATES = pathlib.Path(__file__).resolve().parent.parent / "crates"
-STDIN, STDOUT = CRATES / "vectors" / "stdin", CRATES / "vectors" / "stdout"
-# the most bytes that the program reads
-INPUT = 1048576
+STDIN = CRATES / "vectors" / "stdin"
+# the programs, and the most bytes that each reads
+PROGRAMS = {"vectors": 1048576, "key_vectors": 262144}
 
-COMMANDS = name_vectors.COMMANDS | wire_vectors.COMMANDS | assignment_vectors.COMMANDS | watch_vectors.COMMANDS
+COMMANDS = name_vectors.COMMANDS | wire_vectors.COMMANDS | assignment_vectors.COMMANDS | watch_vectors.COMMANDS | key_vectors.COMMANDS
 
 
 def argument(kind, word):
@@ -51,21 +53,27 @@ def replace(heading, lines):
     print(f"{heading}: {parts[place].count(chr(10))} lines, {len(parts[place])} bytes")
 
 
-def main():
-    text = STDIN.read_text(encoding="utf-8")
-    assert len(text.encode()) <= INPUT
+def check(program):
+    stdin, stdout = CRATES / program / "stdin", CRATES / program / "stdout"
+    text = stdin.read_text(encoding="utf-8")
+    assert len(text.encode()) <= PROGRAMS[program]
     lines = [(number, line, answer(line)) for number, line in enumerate(text.splitlines(), 1) if not line.startswith("#")]
     if "--write" in sys.argv:
-        STDOUT.write_text("".join(told + "\n" for _, _, told in lines), encoding="utf-8")
-    held = STDOUT.read_text(encoding="utf-8").splitlines()
+        stdout.write_text("".join(told + "\n" for _, _, told in lines), encoding="utf-8")
+    held = stdout.read_text(encoding="utf-8").splitlines()
     for (number, line, told), have in zip(lines, held):
         if told != have:
-            sys.exit(f"vectors: stdin:{number}: '{line}' should give '{told}', stdout has '{have}'")
+            sys.exit(f"{program}: stdin:{number}: '{line}' should give '{told}', stdout has '{have}'")
     if len(lines) != len(held):
-        sys.exit(f"vectors: stdout has {len(held)} lines, should have {len(lines)}")
-    if missing := text_vectors.missing({line: told for _, line, told in lines}):
+        sys.exit(f"{program}: stdout has {len(held)} lines, should have {len(lines)}")
+    print(f"{program}: {len(lines)} lines as reckoned")
+    return {line: told for _, line, told in lines}
+
+
+def main():
+    told = {program: check(program) for program in PROGRAMS}
+    if missing := text_vectors.missing(told["vectors"]):
         sys.exit(f"vectors: of the rows of Table 3-7 stdin does not have, or Python's decoder answers otherwise: {', '.join(missing)}")
-    print(f"vectors: {len(lines)} lines as reckoned")
 
 
 if __name__ == "__main__":

@@ -19,6 +19,8 @@ extern "C" {
 #define CUDDREWYN_MIN_STORE 6144
 #define CUDDREWYN_FULL_STORE 2103296
 #define CUDDREWYN_MIN_OUTPUT 3210
+/* The most bytes of a key. */
+#define CUDDREWYN_LONGEST_KEY 65535
 /* Where the baseline and the list held stand in the store. */
 #define CUDDREWYN_BASELINE 2048
 #define CUDDREWYN_LIST 4096
@@ -114,6 +116,12 @@ cuddrewyn_reply cuddrewyn_join(const uint8_t *d, size_t d_len, const uint8_t *e,
 
 /* A list as the message ScalableConsumerAssignment. WRITTEN: first is its length in out. Refuses 20; with a segment 7 and 12 (parent); 21. */
 cuddrewyn_reply cuddrewyn_to_pb(const uint8_t *assignment, size_t assignment_len, const uint8_t *parent, size_t parent_len, uint8_t *out, size_t out_len);
+
+/* The segment of a list that takes a key, by the low 16 bits of the key's MurmurHash3_x86_32 with seed 0: the lowest id
+ * whose range has the hash and which has no buckets or a bucket that has it. FOUND: first is its id. NO: no segment takes it.
+ * Refuses 32 (key above 65,535 bytes), 20 (list malformed). */
+cuddrewyn_reply cuddrewyn_segment_for_key(const uint8_t *key, size_t key_len, const uint8_t *assignment,
+                                          size_t assignment_len);
 
 /* The name of a segment. WRITTEN: first is its length in out. Refuses 7, 9, 12, 21. */
 cuddrewyn_reply cuddrewyn_segment_topic(const uint8_t *parent, size_t parent_len, uint32_t start, uint32_t end, uint64_t segment_id, uint8_t *out,

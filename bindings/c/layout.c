@@ -154,6 +154,24 @@ static void lists(void) {
     check_reply(cuddrewyn_to_pb(list, 24, TOPIC, 3, out, OUT), refused(12, 0, 0, 0, 0, 0));
 }
 
+/* The hash of "test" is d213: it lies in the range of segment 3, and in its bucket or just before it; segment 5 has all. */
+static void keys(void) {
+    static const uint8_t test[] = "test";
+    uint8_t list[42] = {[7] = 1,     [9] = 2,     [17] = 3,    [18] = 0xd0, [20] = 0xdf, [21] = 0xff, [23] = 1,
+                        [24] = 0xd2, [25] = 0x13, [26] = 0xd2, [27] = 0x13, [35] = 5,    [38] = 0xff, [39] = 0xff};
+    check_reply(cuddrewyn_segment_for_key(test, 4, list, 42), one(CUDDREWYN_FOUND, 3));
+    check_reply(cuddrewyn_segment_for_key(test, 3, list, 42), one(CUDDREWYN_FOUND, 5));
+    list[25] = list[27] = 0x14;
+    check_reply(cuddrewyn_segment_for_key(test, 4, list, 42), one(CUDDREWYN_FOUND, 5));
+    list[38] = 0xd2;
+    list[39] = 0x12;
+    check_reply(cuddrewyn_segment_for_key(test, 4, list, 42), plain(CUDDREWYN_NO));
+    uint8_t *key = lend(CUDDREWYN_LONGEST_KEY + 1);
+    check_reply(cuddrewyn_segment_for_key(key, CUDDREWYN_LONGEST_KEY, list, 41), refused(20, 0, 0, 0, 0, 0));
+    check_reply(cuddrewyn_segment_for_key(key, CUDDREWYN_LONGEST_KEY + 1, list, 41), refused(32, 0, 0, 0, 0, 0));
+    free(key);
+}
+
 static void names(void) {
     static const uint8_t name[] = "segment://a/b/c/0010-00ff-12";
     size_t length = sizeof name - 1;
@@ -188,6 +206,7 @@ int main(void) {
     replies();
     registrations();
     lists();
+    keys();
     names();
     ranges();
     free(store);

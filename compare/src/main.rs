@@ -13,6 +13,7 @@ mod raw;
 
 mod either_order;
 mod generate;
+mod keys;
 mod lists;
 #[cfg_attr(not(feature = "watch"), allow(dead_code))]
 mod model;

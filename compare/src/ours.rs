@@ -87,6 +87,11 @@ pub fn to_pb(sheet: &mut [u8], parent: &mut [u8], out: &mut [u8]) -> Reply {
     merge(Call::ToPb, raw::cuddrewyn_to_pb, sheet, parent, out)
 }
 
+pub fn segment_for_key(key: &mut [u8], sheet: &mut [u8]) -> Reply {
+    let reply = unsafe { raw::cuddrewyn_segment_for_key(key.as_ptr(), key.len(), sheet.as_ptr(), sheet.len()) };
+    spoiled_reply(Call::SegmentForKey, reply, &mut [key, sheet])
+}
+
 pub fn segment_topic(parent: &mut [u8], range: (u32, u32), id: u64, out: &mut [u8]) -> Reply {
     let reply = unsafe { raw::cuddrewyn_segment_topic(parent.as_ptr(), parent.len(), range.0, range.1, id, out.as_mut_ptr(), out.len()) };
     spoiled_reply(Call::SegmentTopic, reply, &mut [parent, out])

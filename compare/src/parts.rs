@@ -1,5 +1,6 @@
 //! The parts of a run: first what is written down, then what is random or long, sharing the time.
 use crate::either_order::{self, EitherOrder};
+use crate::keys::{self, Keys};
 use crate::lists::{self, Lists};
 use crate::names::Names;
 use crate::session::damaged::Damaged;
@@ -23,6 +24,8 @@ pub fn directed(tally: &mut Tally, seed: u64) {
     lists::directed(tally, seed);
     tally.place = EITHER_ORDER.into();
     either_order::directed(tally, seed);
+    tally.place = "published hashes".into();
+    keys::directed(tally);
     #[cfg(feature = "watch")]
     {
         tally.place = "long topics".into();
@@ -36,6 +39,7 @@ enum Work {
     Names(Names),
     Lists(Lists),
     EitherOrder(EitherOrder),
+    Keys(Keys),
     Short(Short),
     #[cfg(feature = "watch")]
     Watch(crate::watch::Watch),
@@ -50,6 +54,7 @@ impl Work {
             Self::Names(names) => names.step(tally),
             Self::Lists(lists) => lists.step(tally),
             Self::EitherOrder(either_order) => either_order.step(tally),
+            Self::Keys(keys) => keys.step(tally),
             Self::Short(short) => return short.step(tally),
             #[cfg(feature = "watch")]
             Self::Watch(watch) => watch.step(tally),
@@ -88,6 +93,7 @@ pub const ORDERS: &str = "segments in two orders";
 pub const NAMES: &str = "names, ranges, kinds";
 pub const LISTS: &str = "lists lent alone";
 pub const EITHER_ORDER: &str = "deltas in either order";
+pub const KEYS: &str = "segments of keys";
 pub const WATCH: &str = "topics watch";
 
 impl Parts {
@@ -103,6 +109,7 @@ impl Parts {
             (NAMES, 1, Work::Names(Names::new(seed))),
             (LISTS, 2, Work::Lists(Lists::new(seed))),
             (EITHER_ORDER, 1, Work::EitherOrder(EitherOrder::new(seed))),
+            (KEYS, 1, Work::Keys(Keys::new(seed))),
             #[cfg(feature = "watch")]
             (WATCH, 5, Work::Watch(crate::watch::Watch::new(seed))),
         ];

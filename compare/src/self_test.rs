@@ -1,6 +1,6 @@
 //! Whether the comparison notices a wrong bit, for each call and each place of what it gives.
 use crate::model::session::{LIST, SLOT};
-use crate::parts::{EITHER_ORDER, LISTS, NAMES, ORDERS, Parts, SMALL_STORES, WATCH};
+use crate::parts::{EITHER_ORDER, KEYS, LISTS, NAMES, ORDERS, Parts, SMALL_STORES, WATCH};
 use crate::spoil::{Judge, Place, arm, armed, disarm, leave_to};
 use crate::tally::{Call, Tally};
 
@@ -18,6 +18,7 @@ const CALLS: &[(Call, bool, usize)] = &[
     (Call::Apply, false, 3),
     (Call::Join, false, 3),
     (Call::ToPb, false, 3),
+    (Call::SegmentForKey, false, 2),
     (Call::SegmentTopic, false, 2),
     (Call::SegmentSource, false, 1),
     (Call::ParentTopic, false, 2),
@@ -83,6 +84,7 @@ fn places_of_the_order() -> Vec<(Call, Place)> {
 fn part_of(call: Call) -> &'static str {
     match call {
         Call::Apply | Call::Join | Call::ToPb => LISTS,
+        Call::SegmentForKey => KEYS,
         Call::Watch | Call::WatchText => WATCH,
         Call::SegmentTopic | Call::SegmentSource | Call::ParentTopic | Call::ConsumerType => NAMES,
         Call::RangeLen | Call::RangeContains | Call::RangeContainsRange | Call::RangeAdjacent => NAMES,

@@ -16,6 +16,7 @@ pub enum Call {
     JoinEitherOrder,
     ApplyEitherOrder,
     ToPb,
+    SegmentForKey,
     SegmentTopic,
     SegmentSource,
     ParentTopic,
@@ -45,6 +46,7 @@ const REACH: &[(Call, &[u8], &[u8])] = &[
     (JoinEitherOrder, &[20, 21], &[raw::WRITTEN]),
     (ApplyEitherOrder, &[15, 20, 21], &[raw::WRITTEN]),
     (ToPb, &[7, 12, 20, 21], &[raw::WRITTEN]),
+    (SegmentForKey, &[20, 32], &[raw::FOUND, raw::NO]),
     (SegmentTopic, &[7, 9, 12, 21], &[raw::WRITTEN]),
     (SegmentSource, &[7, 9, 12, 18, 19], &[raw::FOUND]),
     (ParentTopic, &[7, 9, 12, 18, 21], &[raw::WRITTEN]),
@@ -62,7 +64,8 @@ fn reach() -> impl Iterator<Item = &'static (Call, &'static [u8], &'static [u8])
     REACH.iter().filter(|row| cfg!(feature = "watch") || !matches!(row.0, Watch | WatchText))
 }
 
-const NUMBERS: usize = 32;
+/// Above the number of every refusal.
+const NUMBERS: usize = 64;
 const COLUMNS: usize = NUMBERS + 16;
 
 fn column(answer: u8, number: u8) -> usize {

@@ -129,6 +129,11 @@ pub(crate) fn to_pb(assignment: &[u8], parent: &str, out: &mut [u8]) -> Reply {
     }
 }
 
+pub(crate) fn segment_for_key(key: &[u8], assignment: &[u8]) -> Reply {
+    // SAFETY: two slices as pointer and length of live references; none is written.
+    unsafe { raw::cuddrewyn_segment_for_key(key.as_ptr(), key.len(), assignment.as_ptr(), assignment.len()) }
+}
+
 pub(crate) fn segment_topic(parent: &str, start: u32, end: u32, segment_id: u64, out: &mut [u8]) -> Reply {
     // SAFETY: two slices as pointer and length of live references; `out`, the only one written, is exclusive.
     unsafe {

@@ -14,7 +14,7 @@ pub(crate) fn signed(value: u64) -> i32 {
     value as i32
 }
 
-/// The text of a number from 1 to 8, 15, 20 to 22, 30 or 31: the refusals that the original does not have.
+/// The text of a number from 1 to 8, 15, 20 to 22, 30 to 32: the refusals that the original does not have.
 pub(crate) fn own_text(number: u8) -> &'static str {
     match number {
         1 => "the store is shorter than 6144 bytes",
@@ -31,6 +31,7 @@ pub(crate) fn own_text(number: u8) -> &'static str {
         22 => "the record or a slot of the store is malformed",
         30 => "the topic set is malformed",
         31 => "the topic set does not fit its buffer, or a topic is longer than 65535 bytes",
+        32 => "the key is longer than 65535 bytes",
         _ => "the call is refused",
     }
 }
@@ -240,6 +241,8 @@ pub enum AssignmentError<'m> {
     ResultTooLong,
     /// 22: a slot in use is malformed, or a count of the record is beyond what it counts.
     MalformedStore,
+    /// 32: the key is longer than [`LONGEST_KEY`](crate::LONGEST_KEY).
+    KeyTooLong,
     /// A reply that this crate does not know: the archive is of another version.
     Unknown(Reply),
 }
@@ -275,6 +278,7 @@ impl<'m> AssignmentError<'m> {
             Self::CrossIncarnationEpochRegression { .. } => 26,
             Self::StaleEpoch { .. } => 27,
             Self::PreBaselineBufferFull { .. } => 28,
+            Self::KeyTooLong => 32,
             Self::Unknown(reply) => reply.number,
         }
     }
@@ -298,6 +302,7 @@ impl<'m> AssignmentError<'m> {
             20 => Self::MalformedInput,
             21 => Self::ResultTooLong,
             22 => Self::MalformedStore,
+            32 => Self::KeyTooLong,
             _ => Self::of_state(reply),
         }
     }

@@ -78,6 +78,7 @@
 //! | `topics()` and the lists of a `TopicsChange`, each a `Vec<String>` | iterators of `&str` |
 //! | `AssignmentError`, `SegmentTopicError`, `TopicsWatchError` | the same variants without texts, the broker's excepted, and the port's own; [`number`](AssignmentError::number)`()` is the specification's |
 //! | | [`apply`] and [`join`] of deltas |
+//! | | [`segment_for_key`]: the segment that takes a key |
 //!
 //! # Memory to lend
 //!
@@ -96,7 +97,7 @@
 //! # Refusals
 //!
 //! **A refusal changes nothing**: session, store, set and output are as they were, byte by byte. Its number is that of "01", the specification
-//! of the session. Later requests add numbers, so the enums are `#[non_exhaustive]`.
+//! of the session, or of "02", the requests after it. Later requests add numbers, so the enums are `#[non_exhaustive]`.
 //!
 //! # Building
 //!
@@ -130,7 +131,7 @@ mod views;
 mod watch;
 
 pub use error::{AssignmentError, SegmentTopicError};
-pub use lists::{apply, join, to_pb};
+pub use lists::{apply, join, segment_for_key, to_pb};
 pub use names::{SegmentSource, canonical_segment_topic, parent_topic};
 pub use raw::Record;
 pub use session::{AssignmentReplay, ScalableConsumerSession};
@@ -153,6 +154,9 @@ pub const MIN_OUTPUT: usize = 3_210;
 
 /// The most pushes that are kept while the response is pending, however long the store is.
 pub const MAX_BUFFERED_ASSIGNMENT_UPDATES: usize = 1_024;
+
+/// The most bytes of a key.
+pub const LONGEST_KEY: usize = 65_535;
 
 /// How many bytes a segment's name has more than its parent's, at most.
 pub const SEGMENT_TOPIC_EXTRA: usize = 33;

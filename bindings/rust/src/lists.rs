@@ -3,6 +3,7 @@
 use crate::call;
 use crate::error::AssignmentError;
 use crate::raw::{self, Reply};
+use crate::types::SegmentId;
 use crate::views::{AssignmentDelta, ConsumerAssignment, front, known};
 
 /// The list that `delta` makes of `assignment`: strikes what is lost, writes what is gained over it, takes the delta's epoch.
@@ -48,6 +49,24 @@ pub fn to_pb<'o>(
 ) -> Result<&'o [u8], AssignmentError<'static>> {
     let reply = call::to_pb(assignment.as_bytes(), parent, out);
     written(reply, out)
+}
+
+/// The segment that takes a key, by the low 16 bits of the key's MurmurHash3_x86_32 with seed 0: the lowest id whose range
+/// has the hash and which has no buckets or a bucket that has it; `None` where no segment does. A key may be any bytes.
+///
+/// # Errors
+///
+/// [`AssignmentError::KeyTooLong`] (32) above [`LONGEST_KEY`](crate::LONGEST_KEY).
+pub fn segment_for_key(
+    assignment: ConsumerAssignment<'_>,
+    key: &[u8],
+) -> Result<Option<SegmentId>, AssignmentError<'static>> {
+    let reply = call::segment_for_key(key, assignment.as_bytes());
+    match reply.answer {
+        raw::FOUND => Ok(Some(SegmentId(reply.first))),
+        raw::NO => Ok(None),
+        _ => Err(AssignmentError::from_reply(reply, "")),
+    }
 }
 
 /// What a call wrote to the front of its output.

@@ -118,6 +118,8 @@ unsafe extern "C" {
         out: *mut u8,
         out_len: usize,
     ) -> Reply;
+    pub fn cuddrewyn_segment_for_key(key: *const u8, key_len: usize, assignment: *const u8, assignment_len: usize)
+    -> Reply;
     pub fn cuddrewyn_segment_topic(
         parent: *const u8,
         parent_len: usize,

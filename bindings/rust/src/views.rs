@@ -277,6 +277,15 @@ impl<'a> ConsumerAssignment<'a> {
         crate::to_pb(*self, parent, out)
     }
 
+    /// The segment that takes a key; see [`segment_for_key`](crate::segment_for_key).
+    ///
+    /// # Errors
+    ///
+    /// As [`segment_for_key`](crate::segment_for_key).
+    pub fn segment_for_key(&self, key: &[u8]) -> Result<Option<SegmentId>, AssignmentError<'static>> {
+        crate::segment_for_key(*self, key)
+    }
+
     /// The `segment://` topics of the list, by rising segment id, where `parent` is the topic that the session registered.
     ///
     /// # Errors

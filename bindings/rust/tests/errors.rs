@@ -67,6 +67,7 @@ fn texts_and_numbers_of_our_own() {
         (E::MalformedInput, 20, "the assignment or delta is malformed"),
         (E::ResultTooLong, 21, "the result does not fit the output"),
         (E::MalformedStore, 22, "the record or a slot of the store is malformed"),
+        (E::KeyTooLong, 32, "the key is longer than 65535 bytes"),
         (E::Unknown(reply), 77, "answer 9 with number 77 is not known to these bindings"),
     ];
     for (error, number, text) in rows {

@@ -131,6 +131,36 @@ fn join_has_the_effect_of_both() {
     assert!(short.iter().all(|byte| *byte == 0xaa));
 }
 
+/// The low 16 bits of published hashes: "" 0000, "Hello, world!" 3e43, "test" d213, the fox f723.
+#[test]
+fn a_key_is_taken_by_the_lowest_id() {
+    let fox = b"The quick brown fox jumps over the lazy dog";
+    let keys: [(&[u8], u16); 4] = [(b"", 0), (b"Hello, world!", 0x3e43), (b"test", 0xd213), (fox, 0xf723)];
+    for (key, hash) in keys {
+        let taken_by = |records: &[Vec<u8>]| list_of(&packed(1, records)).segment_for_key(key).unwrap();
+        // The range alone, and both its ends.
+        assert_eq!(taken_by(&[record(7, hash, hash, &[])]), Some(SegmentId(7)));
+        assert_eq!(taken_by(&[record(7, 0, 0xffff, &[])]), Some(SegmentId(7)));
+        assert_eq!(taken_by(&[record(7, hash + 1, 0xffff, &[])]), None);
+        // With buckets, one of them has to have the hash too; a bucket outside the range takes nothing.
+        let beside = (hash + 1, hash + 2);
+        assert_eq!(taken_by(&[record(7, 0, 0xffff, &[beside])]), None);
+        assert_eq!(taken_by(&[record(7, 0, 0xffff, &[beside, (hash, hash)])]), Some(SegmentId(7)));
+        assert_eq!(taken_by(&[record(7, hash + 1, 0xffff, &[(hash, hash)])]), None);
+        // Of several the lowest id.
+        let whole = |id| record(id, 0, 0xffff, &[]);
+        assert_eq!(taken_by(&[record(7, 0, 0xffff, &[beside]), whole(8), whole(u64::MAX)]), Some(SegmentId(8)));
+        assert_eq!(taken_by(&[]), None);
+    }
+}
+
+#[test]
+fn a_key_that_is_too_long() {
+    let bytes = packed(1, &[record(7, 0, 0xffff, &[])]);
+    assert_eq!(segment_for_key(list_of(&bytes), &[0xff; LONGEST_KEY]), Ok(Some(SegmentId(7))));
+    assert_eq!(segment_for_key(list_of(&bytes), &[0xff; LONGEST_KEY + 1]), Err(AssignmentError::KeyTooLong));
+}
+
 #[test]
 fn the_writer_writes_what_the_messages_have() {
     let bytes = packed(300, &[record(1, 0, 9, &[(7, 9), (0, 5)]), record(70_000, 0, 0xffff, &[])]);

@@ -3,6 +3,7 @@
 //! Refusals 9 to 14 of a message's segments are the Rust's (`oracle::intake`); the rest of a call's answer is reckoned here.
 pub mod delta;
 pub mod identity;
+pub mod lookup;
 pub mod messages;
 pub mod session;
 pub mod sheet;

@@ -1,17 +1,15 @@
 -- The cases of `applyOutcome`, as `apply` meets them.
 --
--- In order: what the answer of `read_whole` says (`Whole`, `whole-read`, `not-assignment`); bytes that are refused (`no-assignment`,
--- `no-delta`); how many records fit a slot (`few-fit`); the records of the result where they come from (`overlaid`, `result`); a result
--- that is beyond a slot (`too-long`), has no room (`no-room`), or is written (`all-written`).
+-- In order: bytes that are refused (`no-assignment`, `no-delta`); how many records fit a slot (`few-fit`); the records of the result where
+-- they come from (`overlaid`, `result`); a result that is beyond a slot (`too-long`), has no room (`no-room`), or is written (`all-written`).
 -- Assumes nothing.
 use Prim.Native.Nat.{ℕ, _+_, _*_, _≤_, _<_}
 use native.Mathlib.Omega.{arith}
-use mathlib.Core.Path.{_≡_, refl, sym, ap, _∙_}
-use mathlib.Core.Bool.{Bool, true, false, and-false}
+use mathlib.Core.Path.{_≡_, sym, ap, _∙_}
+use mathlib.Core.Bool.{false, and-false}
 use mathlib.Core.List.{List, _++_}
 use lib.ListN.{length, drop, length-append}
 use borrow.Author.Tests.{le-leb, lt-leb}
-use Rattle.ranges.specs.Meaning.{both-true}
 use Rattle.refusal.specs.declared.Refusal.the-variants.{MalformedInput, AssignmentTooLong, ResultTooLong}
 use Rattle.output.specs.Output.{outcome, refuse, written}
 use Rattle.output.specs.declared.WriteAnswer.the-variants.{Written}
@@ -20,11 +18,9 @@ use Rattle.packed_int.specs.Put.{put}
 use Rattle.packed_int.proofs.BeLaws.{length-bytesOf}
 use Rattle.packed_int.proofs.PutLaws.{put-before}
 use Rattle.packed.specs.Assignment.{AssignedSegment, ConsumerAssignment, slotSize, encodeSegments, encodeAssignment, sizeSegments}
-use Rattle.packed.specs.Assignment.{sizeAssignment, num, segmentsOf, assignmentOf, startsAssignment, isAssignment}
-use Rattle.packed.specs.Answers.{wholeRead}
-use Rattle.packed.specs.declared.Packed.the-variants.{Assignment, Malformed}
-use Rattle.packed.proofs.AssignmentLaws.{length-segmentsOf, first-segments, Rest, rest-start}
+use Rattle.packed.specs.Assignment.{sizeAssignment, num, segmentsOf, assignmentOf, isAssignment}
 use Rattle.packed.proofs.RoundLaws.{length-encodeSegments, length-encodeAssignment}
+use Rattle.packed.proofs.WholeLaws.{Whole}
 use Rattle.delta.specs.Delta.{idsOf, deltaOf, isDelta}
 use Rattle.delta.specs.Join.{apply}
 use Rattle.delta.proofs.RoundLaws.{Walkable}
@@ -33,44 +29,6 @@ use Rattle.overlay.specs.Overlay.{overlay, fitOf}
 use Rattle.overlay.specs.declared.Fit.the-variants.{Beyond}
 use Rattle.apply.specs.ApplyOutcome.{applied, applyOutcome}
 use Rattle.overlay.proofs.FitLaws.{Fits, fit-beyond}
-
--- ---- the answer of `read_whole`
-
--- a packed assignment with n segments
-pub record Whole (s : List ℕ) (n : ℕ) : Type 0 where
-  pub is-assignment : isAssignment s ≡ true
-  pub segments-are : assignmentOf s .segments ≡ segmentsOf n (drop 10 s)
-  pub records : Rest s 10 n
-
-pub whole-read : (s : List ℕ) (z n : ℕ) → Assignment z n ≡ wholeRead s → Whole s n
-unfolding wholeRead isAssignment assignmentOf num beAt
-whole-read s z n e = go (isAssignment s) refl
-  where
-    go : (t : Bool) → isAssignment s ≡ t → Whole s n
-    go true h =
-        let f : Assignment z n ≡ Assignment (sizeAssignment (assignmentOf s)) (length (assignmentOf s .segments)) = e ∙ rw h in
-        let a : n ≡ length (assignmentOf s .segments) = cc in
-        let b : n ≡ beAt 2 s 8 = a ∙ length-segmentsOf _ _ in
-        record {
-          is-assignment = h;
-          segments-are = first-segments s n b;
-          records = rest-start s n (both-true (startsAssignment s) _ h .0) b;
-        }
-    go false h =
-        let f : Assignment z n ≡ Malformed = e ∙ rw h in
-        let q : _≡_ {A = ℕ} 0 1 = cc in
-        absurd (omega arith)
-
-pub not-assignment : (s : List ℕ) → Malformed ≡ wholeRead s → isAssignment s ≡ false
-unfolding wholeRead
-not-assignment s e = go (isAssignment s) refl
-  where
-    go : (t : Bool) → isAssignment s ≡ t → isAssignment s ≡ false
-    go true h =
-        let f : Malformed ≡ Assignment (sizeAssignment (assignmentOf s)) (length (assignmentOf s .segments)) = e ∙ rw h in
-        let q : _≡_ {A = ℕ} 0 1 = cc in
-        absurd (omega arith)
-    go false h = h
 
 -- ---- bytes that are refused
 

@@ -23,6 +23,8 @@ pub enum CallName {
 
 pub enum Line {
     Call(CallName),
+    // Which segment of the list that is held takes a key.
+    Segment,
     // It is no call, and why was written.
     Damaged,
 }
@@ -110,8 +112,8 @@ fn test_words(at: u64, line: &[u8], form: &[u8]) -> bool {
     true
 }
 
-// The calls by their places among the names.
-fn call(place: usize) -> Line {
+// The lines by the places of their first words among the names.
+fn line_at(place: usize) -> Line {
     match place {
         0 => Line::Call(CallName::Open),
         1 => Line::Call(CallName::Update),
@@ -119,6 +121,7 @@ fn call(place: usize) -> Line {
         3 => Line::Call(CallName::Drain),
         4 => Line::Call(CallName::Begin),
         5 => Line::Call(CallName::Invalidate),
+        6 => Line::Segment,
         _ => Line::Damaged,
     }
 }
@@ -126,14 +129,14 @@ fn call(place: usize) -> Line {
 // Tests line number `at`. The form of a call has a letter for each word: `c` the call's name, `n` a number, `b` bytes, `k` a kind of consumer.
 pub fn tested(at: u64, line: &[u8]) -> Line {
     let name = lines::word(line, 0);
-    let place = lines::place_of(b"open update response drain begin invalidate", name);
-    let form = lines::word(b"cnnbbbk cnb cnb c cn c", place);
+    let place = lines::place_of(b"open update response drain begin invalidate segment", name);
+    let form = lines::word(b"cnnbbbk cnb cnb c cn c cb", place);
     if form.len() == 0 {
         damaged_word(at, b"unknown call ", name);
         return Line::Damaged;
     }
     if test_count(at, lines::word_count(line), form.len()) && test_words(at, line, form) {
-        call(place)
+        line_at(place)
     } else {
         Line::Damaged
     }

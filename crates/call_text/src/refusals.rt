@@ -14,7 +14,7 @@ fn named(number: usize) {
               InvalidParent AttachmentMismatch DuplicateSegment AssignmentTooLong Broker Empty InvalidSegment \
               SegmentIdMismatch MalformedInput ResultTooLong MalformedStore IncarnationMismatch \
               ConsumerMismatch NonAdvancingIncarnation CrossIncarnationEpochRegression StaleEpoch \
-              PreBaselineBufferFull WatchMismatch MalformedSet SetTooLong",
+              PreBaselineBufferFull WatchMismatch MalformedSet SetTooLong KeyTooLong",
         number,
     ));
 }

@@ -16,6 +16,8 @@ use Rattle.segment_source.specs.declared.SourceAnswer.the-variants as source
 use Rattle.output.specs.declared.WriteAnswer.{WriteAnswer}
 use Rattle.output.specs.declared.WriteAnswer.the-variants as write
 use Rattle.output.specs.Output as output
+use Rattle.lookup.specs.declared.SegmentAnswer.{SegmentAnswer}
+use Rattle.lookup.specs.declared.SegmentAnswer.the-variants as segment
 use Rattle.session.specs.declared.Match.{Match}
 use Rattle.session.specs.declared.Match.the-variants as match′
 use Rattle.session.specs.Calls.{Outcome, OpenOutcome}
@@ -48,6 +50,11 @@ toldReply (test.Refused x) = refusedReply x
 unfoldable pub sourceReply : SourceAnswer → Reply
 sourceReply (source.Source s) = takenReply found (pos (s .«key_range» .start) ∷ pos (s .«key_range» .end) ∷ [])
 sourceReply (source.Refused x) = refusedReply x
+
+unfoldable pub segmentReply : SegmentAnswer → Reply
+segmentReply (segment.Segment id) = takenReply found (pos (id .0) ∷ [])
+segmentReply segment.NoSegment = takenReply no []
+segmentReply (segment.Refused x) = refusedReply x
 
 unfoldable pub matchReply : Match → Reply
 matchReply match′.Same = takenReply yes []

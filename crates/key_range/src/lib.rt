@@ -37,7 +37,8 @@ pub fn len(start: u32, end: u32) -> LengthAnswer
     }
 }
 
-fn holds_hash(range: KeyRange, hash: u32) -> bool
+// The hash lies in the range.
+pub fn holds_hash(range: KeyRange, hash: u32) -> bool
     ensures { λ r. ⌜ r ≡ holds hash range ⌝ }
 {
     if range.start <= hash {

@@ -3,3 +3,4 @@ pub mod EqualLaws
 mod FrontLaws
 pub mod RoundLaws
 pub mod RowLaws
+pub mod WholeLaws

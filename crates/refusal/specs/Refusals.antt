@@ -17,7 +17,7 @@ use Rattle.refusal.specs.declared.Refusal.the-variants.{InvalidBucketRan
 use Rattle.refusal.specs.declared.Refusal.the-variants.{DuplicateSegment, AssignmentTooLong, Broker, Empty, EmptyUpdate, InvalidSegment}
 use Rattle.refusal.specs.declared.Refusal.the-variants.{SegmentIdMismatch, MalformedInput, ResultTooLong, MalformedStore, IncarnationMismatch}
 use Rattle.refusal.specs.declared.Refusal.the-variants.{ConsumerMismatch, NonAdvancingIncarnation, CrossIncarnationEpochRegression, StaleEpoch}
-use Rattle.refusal.specs.declared.Refusal.the-variants.{PreBaselineBufferFull, WatchMismatch, MalformedSet, SetTooLong}
+use Rattle.refusal.specs.declared.Refusal.the-variants.{PreBaselineBufferFull, WatchMismatch, MalformedSet, SetTooLong, KeyTooLong}
 
 abbrev pub numberOf : Refusal → ℕ
 numberOf StoreTooShort = 1
@@ -53,6 +53,7 @@ numberOf (PreBaselineBufferFull max) = 28
 numberOf (WatchMismatch got expected) = 29
 numberOf MalformedSet = 30
 numberOf SetTooLong = 31
+numberOf KeyTooLong = 32
 
 -- the kind of an invalid range, then that kind's numbers
 abbrev pub sourceValues : KeyRangeError → List ℤ
@@ -98,3 +99,4 @@ valuesOf (PreBaselineBufferFull max) = pos max ∷ []
 valuesOf (WatchMismatch got expected) = pos got ∷ pos expected ∷ []
 valuesOf MalformedSet = []
 valuesOf SetTooLong = []
+valuesOf KeyTooLong = []

@@ -121,6 +121,8 @@ pub enum Refusal {
     MalformedSet,
     // 31: the new topic set is longer than its buffer, or one of the event's topics longer than a topic can be.
     SetTooLong,
+    // 32: a key is longer than 65,535 bytes.
+    KeyTooLong,
 }
 
 // The specification's number of a refusal.
@@ -181,5 +183,6 @@ pub fn number(refusal: Refusal) -> u8
         } => 29,
         Refusal::MalformedSet => 30,
         Refusal::SetTooLong => 31,
+        Refusal::KeyTooLong => 32,
     }
 }

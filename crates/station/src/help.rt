@@ -22,16 +22,18 @@ with # are passed over, but counted.
   drain                                                     the next push of the queue
   begin INCARNATION                                         a new link to the controller
   invalidate                                                the controller is not trusted now
+  segment KEY                                               the segment held that takes a key
 
-CONSUMER and INCARNATION are decimal numbers below 2^64. TOPIC, SUBSCRIPTION, NAME and MESSAGE
-are bytes, at most 65536: in hexadecimal behind 0x, or as they stand. A MESSAGE is what the
+CONSUMER and INCARNATION are decimal numbers below 2^64. TOPIC, SUBSCRIPTION, NAME, MESSAGE and
+KEY are bytes, at most 65536: in hexadecimal behind 0x, or as they stand. A MESSAGE is what the
 controller sends, in Protocol Buffers. A log may have any number of lines, each of at most
 524287 bytes. The session has a store of full size, with a queue of 1024 pushes.
 
 For each call a line LINE CALL ANSWER, where LINE is its number in the log and ANSWER one of
 
   accepted
-  none                                       nothing changed
+  none                                       nothing changed; no segment takes the key
+  ID                                         the segment that takes the key
   delta epoch E lost L gained G              what the push changed, in numbers
   replay at PLACE epoch E lost L gained G    the same of a push of the queue, and its place
   refused N NAME V1 V2 ..                    the specification's number, the name, its numbers

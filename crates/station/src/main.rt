@@ -10,6 +10,7 @@
 //     drain
 //     begin INCARNATION
 //     invalidate
+//     segment KEY
 //
 // Each call is answered by a line `LINE CALL ANSWER`; a line that is none by `LINE damaged: REASON`, and the run goes on. The whole page is `help`.
 //
@@ -19,6 +20,7 @@ mod calls;
 mod help;
 mod input;
 mod report;
+mod segments;
 mod step;
 
 // The bytes of a full-size store: three slots and a queue of 1,024.

@@ -5,6 +5,7 @@ use call_text::labelled;
 use call_text::newline;
 use call_text::space;
 use call_text::text;
+use lookup::SegmentAnswer;
 use packed::SLOT;
 use refusal::Refusal;
 use session::Answer;
@@ -40,6 +41,15 @@ pub fn show_answer(answer: Answer, line: &[u8], store: &[u8], out: &[u8]) {
         Answer::Unchanged => text(b"none"),
         Answer::Delta(_) => show_delta(out),
         Answer::Replay(place, _) => show_replay(place, out),
+    }
+}
+
+// The segment that takes a key.
+pub fn show_segment(answer: SegmentAnswer) {
+    match answer {
+        SegmentAnswer::Segment(id) => decimal(id.0),
+        SegmentAnswer::NoSegment => text(b"none"),
+        SegmentAnswer::Refused(x) => call_text::refused(x),
     }
 }
 

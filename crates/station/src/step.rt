@@ -4,6 +4,7 @@
 use crate::arguments::Options;
 use crate::calls;
 use crate::report;
+use crate::segments;
 use call_line::CallName;
 use call_line::Line;
 use call_text::decimal;
@@ -12,6 +13,7 @@ use call_text::newline;
 use call_text::space;
 use call_text::text;
 use libc::STDOUT_FILENO;
+use lookup::SegmentAnswer;
 use session::Answer;
 use session::Changed;
 use session::Floor;
@@ -115,6 +117,23 @@ fn run_call(options: Options, run: Run, name: CallName, line: &[u8], store: &mut
     next
 }
 
+// Shows which segment of the list that is held takes the key of a line. Nothing is changed but the counts.
+fn run_segment(run: Run, line: &[u8], store: &[u8]) -> Run {
+    let mut next = run;
+    let record = run.record;
+    let answer = segments::segment(record.registered, line, store);
+    decimal(run.line);
+    text(b" segment ");
+    report::show_segment(answer);
+    newline();
+    if let SegmentAnswer::Refused(_) = answer {
+        next.refused = one_more(run.refused);
+    } else {
+        next.accepted = one_more(run.accepted);
+    }
+    next
+}
+
 // The run behind a damaged line.
 fn with_damaged(options: Options, run: Run) -> Run {
     let mut next = run;
@@ -123,6 +142,12 @@ fn with_damaged(options: Options, run: Run) -> Run {
         next.is_over = true;
     }
     next
+}
+
+// The run behind a line that needs a session where none is open.
+fn without_session(options: Options, run: Run) -> Run {
+    call_line::damaged(run.line, b"no session is open");
+    with_damaged(options, run)
 }
 
 // The line holds no call.
@@ -159,12 +184,18 @@ pub fn run_line(options: Options, run: Run, line: &[u8], store: &mut [u8]) -> Ru
     }
     match call_line::tested(next.line, line) {
         Line::Damaged => with_damaged(options, next),
+        Line::Segment => {
+            if next.is_open {
+                run_segment(next, line, store)
+            } else {
+                without_session(options, next)
+            }
+        }
         Line::Call(name) => {
             if may_run(next.is_open, name) {
                 run_call(options, next, name, line, store)
             } else {
-                call_line::damaged(next.line, b"no session is open");
-                with_damaged(options, next)
+                without_session(options, next)
             }
         }
     }

@@ -1,7 +1,7 @@
 -- What the writers answer.
 --
 -- In order: a name that fits (`name-written`, `name-refused`); a message that does not fit (`message-no-head`, `message-beyond`), and one
--- that does (`Fits`: `message-room`, `message-written`); what `packed::read_whole` answers (`whole-not`, `Whole`: `whole-is`, `whole-rest`);
+-- that does (`Fits`: `message-room`, `message-written`); the message of a packed assignment (`whole-message`);
 -- the cases of `writeOutcome` (`write-malformed`, `write-empty`, `write-not-utf8`, `write-no-parent`, `write-below`).
 -- Assumes nothing.
 use Prim.Native.Nat.{ℕ, _+_, _-_, _≤_, _<_}
@@ -16,8 +16,6 @@ use borrow.Author.Tests.{le-leb, lt-leb, leb-true, leb-false}
 use Rattle.refusal.specs.declared.Refusal.{Refusal}
 use Rattle.refusal.specs.declared.Refusal.the-variants.{MalformedInput, InvalidUtf8, InvalidParent, ResultTooLong}
 use Rattle.utf8.specs.Table.{isUtf8}
-use Rattle.ranges.specs.Meaning.{both-true}
-use Rattle.packed_int.specs.Be.{beAt}
 use Rattle.packed_int.specs.Put.{put}
 use Rattle.topic.specs.Build as build
 use Rattle.parents.specs.Parents.{isParent, pathOf}
@@ -28,8 +26,8 @@ use Rattle.output.specs.Output.{Outcome, outcome, refuse, written}
 use Rattle.wire_writer.specs.Encode.{numberField}
 use Rattle.packed.specs.declared.Packed.the-variants as packed
 use Rattle.packed.specs.Answers.{wholeRead}
-use Rattle.packed.specs.Assignment.{AssignedSegment, num, segmentsOf, assignmentOf, sizeAssignment, startsAssignment, isAssignment}
-use Rattle.packed.proofs.AssignmentLaws.{length-segmentsOf, first-segments, Rest, rest-start}
+use Rattle.packed.specs.Assignment.{AssignedSegment, num, segmentsOf, assignmentOf}
+use Rattle.packed.proofs.WholeLaws.{Whole, not-assignment}
 use Rattle.assignment_message.specs.Message.{segmentFields, assignmentMessage}
 use Rattle.writer.specs.Write.{withParent, writeOutcome, roomOf}
 use Rattle.writer.specs.declared.Room.the-variants.{Size, Beyond}
@@ -109,50 +107,12 @@ module _ (path : List ℕ) (gs : List AssignedSegment) (epoch o : List ℕ) wher
       let m : length (epoch ++ segmentFields path gs) ≤ length o = omega (arith, w .room) in
       rw (le-leb (length (epoch ++ segmentFields path gs)) (length o) m, w .whole, f)
 
--- ---- what `packed::read_whole` answers
+-- ---- the message of a packed assignment
 
-pub whole-not : (s : List ℕ) → packed.Malformed ≡ wholeRead s → isAssignment s ≡ false
-unfolding wholeRead
-whole-not s e = go (isAssignment s) refl
-  where
-    go : (t : Bool) → isAssignment s ≡ t → isAssignment s ≡ false
-    go true k =
-        let f : packed.Malformed ≡ packed.Assignment (sizeAssignment (assignmentOf s)) (length (assignmentOf s .segments)) = e ∙ rw k in
-        let z : _≡_ {A = ℕ} 0 1 = cc in
-        absurd (omega arith)
-    go false k = k
-
--- s is a packed assignment of n segments
-pub record Whole (s : List ℕ) (n : ℕ) : Type 0 where
-  pub good : isAssignment s ≡ true
-  pub count : n ≡ length (assignmentOf s .segments)
-
-pub whole-is : (s : List ℕ) (z n : ℕ) → packed.Assignment z n ≡ wholeRead s → Whole s n
-unfolding wholeRead
-whole-is s z n e = go (isAssignment s) refl
-  where
-    go : (t : Bool) → isAssignment s ≡ t → Whole s n
-    go true k =
-        let f : packed.Assignment z n ≡ packed.Assignment (sizeAssignment (assignmentOf s)) (length (assignmentOf s .segments)) = e ∙ rw k in
-        record { good = k; count = cc }
-    go false k =
-        let f : packed.Assignment z n ≡ packed.Malformed = e ∙ rw k in
-        let z : _≡_ {A = ℕ} 0 1 = cc in
-        absurd (omega arith)
-
-module _ (s : List ℕ) (n : ℕ) (w : Whole s n) where
-  whole-count : n ≡ beAt 2 s 8
-  unfolding assignmentOf num beAt
-  whole-count = w .count ∙ length-segmentsOf (num 2 (drop 8 s)) (drop 10 s)
-
-  pub whole-rest : Rest s 10 n
-  unfolding isAssignment
-  whole-rest = rest-start s n (both-true (startsAssignment s) _ (w .good) .0) whole-count
-
-  whole-message : (path : List ℕ)
-      → assignmentMessage path (assignmentOf s) ≡ numberField 1 (num 8 s) ++ segmentFields path (segmentsOf n (drop 10 s))
-  unfolding assignmentMessage assignmentOf
-  whole-message path = ap (λ (gs : List AssignedSegment). numberField 1 (num 8 s) ++ segmentFields path gs) (first-segments s n whole-count)
+whole-message : (s : List ℕ) (n : ℕ) → Whole s n → (path : List ℕ)
+    → assignmentMessage path (assignmentOf s) ≡ numberField 1 (num 8 s) ++ segmentFields path (segmentsOf n (drop 10 s))
+unfolding assignmentMessage assignmentOf
+whole-message s n w path = ap (λ (gs : List AssignedSegment). numberField 1 (num 8 s) ++ segmentFields path gs) (w .segments-are)
 
 -- ---- the cases of `writeOutcome`
 
@@ -164,15 +124,15 @@ with-parent parent (g ∷ gs) x o h = refl
 module _ (s parent o : List ℕ) where
   pub write-malformed : packed.Malformed ≡ wholeRead s → refuse MalformedInput o ≡ writeOutcome s parent o
   unfolding writeOutcome
-  write-malformed e = rw (whole-not s e)
+  write-malformed e = rw (not-assignment s e)
 
   module _ (n : ℕ) (w : Whole s n) where
     -- without a segment the parent is not looked at
     pub write-empty : n ≡ 0 → written (numberField 1 (num 8 s) ++ segmentFields parent (segmentsOf 0 (drop 10 s))) o ≡ writeOutcome s parent o
     unfolding writeOutcome assignmentMessage segmentFields segmentsOf assignmentOf
     write-empty e =
-        let none : assignmentOf s .segments ≡ [] = first-segments s n (whole-count s n w) ∙ ap (λ (k : ℕ). segmentsOf k (drop 10 s)) e in
-        simp (w .good, none)
+        let none : assignmentOf s .segments ≡ [] = w .segments-are ∙ ap (λ (k : ℕ). segmentsOf k (drop 10 s)) e in
+        simp (w .is-assignment, none)
 
     module _ (h : 0 < n) where
       behind : writeOutcome s parent o
@@ -180,7 +140,7 @@ module _ (s parent o : List ℕ) where
           (cond (isParent parent) (written (assignmentMessage (pathOf parent) (assignmentOf s)) o) (refuse InvalidParent o))
           (refuse InvalidUtf8 o)
       unfolding writeOutcome
-      behind = rw (w .good) (with-parent parent (assignmentOf s .segments) _ o (omega (arith, w .count)))
+      behind = rw (w .is-assignment) (with-parent parent (assignmentOf s .segments) _ o (omega (arith, w .count)))
 
       pub write-not-utf8 : isUtf8 parent ≡ false → refuse InvalidUtf8 o ≡ writeOutcome s parent o
       write-not-utf8 u = sym (behind ∙ rw u)

@@ -5,8 +5,8 @@ use mathlib.Core.Path.{sym, _∙_}
 use borrow.Author.Needs.{needs}
 use Rattle.delta.proofs.RoundLaws.{Walkable, walk-read, not-delta}
 use Rattle.overlay.proofs.FitLaws.{Fits, fit-size}
-use Rattle.apply.proofs.ApplyLaws.{Whole, whole-read, not-assignment, no-assignment, no-delta}
-use Rattle.apply.proofs.ApplyLaws.{few-fit, overlaid, too-long, no-room, all-written}
+use Rattle.packed.proofs.WholeLaws.{Whole, whole-read, not-assignment}
+use Rattle.apply.proofs.ApplyLaws.{no-assignment, no-delta, few-fit, overlaid, too-long, no-room, all-written}
 use Rattle.apply.proofs.apply.Statement.{statement}
 use Rattle.apply.proofs.apply.Tie as tie
 

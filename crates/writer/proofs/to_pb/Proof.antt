@@ -10,7 +10,7 @@ use Rattle.utf8.specs.Table.{isUtf8}
 use Rattle.parents.specs.Parents.{isParent}
 use Rattle.parents.proofs.PathLaws.{parent-long}
 use Rattle.packed.proofs.AssignmentLaws.{Rest}
-use Rattle.writer.proofs.OutcomeLaws.{Whole, whole-is, whole-rest}
+use Rattle.packed.proofs.WholeLaws.{Whole, whole-read}
 use Rattle.writer.proofs.OutcomeLaws.{write-malformed, write-empty, write-not-utf8, write-no-parent, write-below}
 use Rattle.writer.proofs.to_pb.Statement.{statement}
 use Rattle.writer.proofs.to_pb.Tie as tie
@@ -26,7 +26,7 @@ abbrev entry : tie.After-known-told → tie.Start
 entry c = c .before .before .before .before .before .before .before
 
 whole : (c : tie.After-known-told) → Whole (entry c .args .assignment .now) (c .before .count .given .0 .1 .0)
-whole c = whole-is _ _ _ (sym (c .before .count .given .1) ∙ c .before .before .before .read-whole .ensures)
+whole c = whole-read _ _ _ (sym (c .before .count .given .1) ∙ c .before .before .before .read-whole .ensures)
 
 some : (c : tie.Else1) → 0 < c .before .before .count .given .0 .1 .0
 some c = let ne : c .before .before .count .given .0 .1 .0 ≡ 0 → ⊥ = c .if1 .left in omega arith
@@ -56,7 +56,7 @@ write-message-requires : tie.Need-write-message-requires
 write-message-requires c κs =
     let k = c .before .before in
     let s = entry k .args .assignment .now in
-    subst (Rest s 10) (c .before .if1 .taken) (whole-rest s _ (whole k))
+    subst (Rest s 10) (c .before .if1 .taken) (whole k .records)
 
 same-length : tie.Need-same-length
 same-length c = search needs
@@ -101,7 +101,7 @@ part-write-message-end : tie.Need-part-write-message-end
 part-write-message-end c = search needs
 
 write-message-requires-2 : tie.Need-write-message-requires-2
-write-message-requires-2 c κs = let k = from-parent (c .before .before) in whole-rest (entry k .args .assignment .now) _ (whole k)
+write-message-requires-2 c κs = whole (from-parent (c .before .before)) .records
 
 same-length-2 : tie.Need-same-length-2
 same-length-2 c = search needs

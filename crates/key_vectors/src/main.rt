@@ -1,0 +1,73 @@
+// Runs vectors of the hash and of the lookup: reads one to a line from standard input and writes a line for each.
+//
+// A line is a command and its arguments, with a space between two; a line that starts with '#' is passed over. An argument
+// is bytes: as they stand, or in hexadecimal behind 0x; of a key at most 65,536, of an assignment at most 4,096. What each
+// line should give is reckoned anew by tools/vectors.py, by other means.
+ghost use mathlib.Core.Path.{_≡_};
+ghost use lib.ListN.{length};
+use call_text::decimal;
+use call_text::labelled;
+use call_text::text;
+use libc::STDIN_FILENO;
+use libc::STDOUT_FILENO;
+use lookup::SegmentAnswer;
+
+// The most bytes that are read.
+const INPUT: usize = 262144;
+
+// hash KEY: eight hexadecimal digits
+fn hash(line: &[u8]) {
+    let mut key = io::large_buffer();
+    let n = lines::bytes_at(line, 1, &mut key);
+    io::print_hex(STDOUT_FILENO, murmur3::hash(&key[..n]) as u64, 8);
+}
+
+// segment KEY ASSIGNMENT: the id, none, or the number of the refusal
+fn segment(line: &[u8]) {
+    let mut key = io::large_buffer();
+    let k = lines::bytes_at(line, 1, &mut key);
+    let mut assignment = io::buffer();
+    let n = lines::bytes_at(line, 2, &mut assignment);
+    match lookup::segment_for_key(&key[..k], &assignment[..n]) {
+        SegmentAnswer::Segment(id) => decimal(id.0),
+        SegmentAnswer::NoSegment => text(b"none"),
+        SegmentAnswer::Refused(x) => labelled(b"refused ", refusal::number(x) as u64),
+    }
+}
+
+fn run(line: &[u8]) {
+    if parts::starts_with(line, b"#") {
+        return;
+    }
+    if parts::starts_with(line, b"hash ") {
+        hash(line);
+    } else {
+        segment(line);
+    }
+    text(b"\n");
+}
+
+fn run_all(text: &[u8]) {
+    let mut at: usize = 0;
+    while at < text.len() {
+        let end = lines::line_end(text, at);
+        run(&text[at..end]);
+        at = end;
+        if at < text.len() {
+            at = at + 1;
+        }
+    }
+}
+
+// The length is promised: a proof that meets the array itself would count it out.
+fn input() -> [u8; INPUT]
+    ensures { λ r. ⌜ 262144 ≡ length r ⌝ }
+{
+    [0; INPUT]
+}
+
+fn main() {
+    let mut buffer = input();
+    let n = io::read_full(STDIN_FILENO, &mut buffer);
+    run_all(&buffer[..n]);
+}

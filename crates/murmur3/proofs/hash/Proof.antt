@@ -1,0 +1,92 @@
+-- `murmur3::hash` meets its contract. The invariant: the blocks and the tail that are left, from the place `at` on, over
+-- the hash so far decide the whole (proofs/HashLaws). The measure is how many bytes are left. Assumes nothing.
+use Prim.Native.Nat.{ℕ, _+_, _-_, _%_, _^_, _≤_}
+use native.Mathlib.Omega.{arith}
+use mathlib.Core.Path.{_≡_, refl, sym, ap, _∙_}
+use mathlib.Core.Logic.{⊎-elim}
+use lib.ListN.{length, drop}
+use borrow.Author.Needs.{needs}
+use Rattle.murmur3.specs.Words.{xor}
+use Rattle.murmur3.specs.Murmur3.{blocks, fmix, murmur3}
+use Rattle.murmur3.proofs.HashLaws.{blocks-turn, blocks-tail, blocks-end}
+use Rattle.murmur3.proofs.hash.Statement.{statement}
+use Rattle.murmur3.proofs.hash.Tie as tie
+
+abbrev Inv-loop : tie.InvT-loop
+Inv-loop key h₀ at₀ h at = (at ≤ length key) × (blocks 0 key ≡ blocks h (drop at key))
+
+abbrev μ-loop : tie.MeasureT-loop
+μ-loop key h₀ at₀ h at = length key - at
+
+loop-holds : tie.Need-loop-holds Inv-loop μ-loop
+loop-holds c = (omega arith, refl)
+
+sub-loop : tie.Need-sub-loop Inv-loop μ-loop
+sub-loop c = c .loop .inv .0
+
+block-at-requires : tie.Need-block-at-requires Inv-loop μ-loop
+block-at-requires c κs = omega arith
+
+mix-requires : tie.Need-mix-requires Inv-loop μ-loop
+mix-requires c κs = search needs
+
+add-at : tie.Need-add-at Inv-loop μ-loop
+add-at c = omega arith
+
+loop-less : tie.Need-loop-less Inv-loop μ-loop
+loop-less c = omega arith
+
+loop-again : tie.Need-loop-again Inv-loop μ-loop
+loop-again c =
+    let l = c .before .before .before in
+    let key = l .before .before .args .key .now in (
+      omega arith,
+      l .loop .inv .1
+          ∙ blocks-turn key (l .loop .h) (l .loop .at) (omega arith)
+          ∙ ap (λ (h : ℕ). blocks h (drop (l .loop .at + 4) key)) (cc),
+    )
+
+tail-at-requires : tie.Need-tail-at-requires Inv-loop μ-loop
+tail-at-requires c κs = omega arith
+
+scramble-requires : tie.Need-scramble-requires Inv-loop μ-loop
+scramble-requires c κs = search needs
+
+cast-fmix : tie.Need-cast-fmix Inv-loop μ-loop
+cast-fmix c = search needs
+
+fmix-requires : tie.Need-fmix-requires Inv-loop μ-loop
+fmix-requires c κs = search needs
+
+returns : tie.Need-returns Inv-loop μ-loop
+unfolding murmur3 xor
+returns c =
+    let j = c .before .before in
+    let l = j .before .before in
+    let key = l .before .before .args .key .now in
+    let e : blocks 0 key ≡ j .if1 .h =
+    l .loop .inv .1
+    ∙ ⊎-elim
+    (λ w. blocks-tail key (l .loop .h) (l .loop .at) (w .0 .taken) (omega arith) ∙ cc)
+    (λ w. blocks-end key (l .loop .h) (l .loop .at) (w .0 .left) ∙ cc)
+    (j .if1 .came) in
+    c .fmix .ensures ∙ ap (λ (h : ℕ). fmix (xor h (length key % 2 ^ 32))) (sym e)
+
+pub hash-spec : {M : Type 1} → statement M
+hash-spec =
+    tie.close
+    (tie.spec
+    Inv-loop
+    μ-loop
+    loop-holds
+    sub-loop
+    block-at-requires
+    mix-requires
+    add-at
+    loop-less
+    loop-again
+    tail-at-requires
+    scramble-requires
+    cast-fmix
+    fmix-requires
+    returns)

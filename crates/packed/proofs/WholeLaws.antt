@@ -1,0 +1,52 @@
+-- What the answer of `read_whole` says: a packed assignment with its records (`Whole`, `whole-read`), or none (`not-assignment`).
+-- Assumes nothing.
+use Prim.Native.Nat.{ℕ}
+use native.Mathlib.Omega.{arith}
+use mathlib.Core.Path.{_≡_, refl, _∙_}
+use mathlib.Core.Bool.{Bool, true, false}
+use mathlib.Core.List.{List}
+use lib.ListN.{length, drop}
+use Rattle.ranges.specs.Meaning.{both-true}
+use Rattle.packed_int.specs.Be.{beAt}
+use Rattle.packed.specs.Assignment.{sizeAssignment, num, segmentsOf, assignmentOf, startsAssignment, isAssignment}
+use Rattle.packed.specs.Answers.{wholeRead}
+use Rattle.packed.specs.declared.Packed.the-variants.{Assignment, Malformed}
+use Rattle.packed.proofs.AssignmentLaws.{length-segmentsOf, first-segments, Rest, rest-start}
+
+-- a packed assignment with n segments
+pub record Whole (s : List ℕ) (n : ℕ) : Type 0 where
+  pub is-assignment : isAssignment s ≡ true
+  pub count : n ≡ length (assignmentOf s .segments)
+  pub segments-are : assignmentOf s .segments ≡ segmentsOf n (drop 10 s)
+  pub records : Rest s 10 n
+
+pub whole-read : (s : List ℕ) (z n : ℕ) → Assignment z n ≡ wholeRead s → Whole s n
+unfolding wholeRead isAssignment assignmentOf num beAt
+whole-read s z n e = go (isAssignment s) refl
+  where
+    go : (t : Bool) → isAssignment s ≡ t → Whole s n
+    go true h =
+        let f : Assignment z n ≡ Assignment (sizeAssignment (assignmentOf s)) (length (assignmentOf s .segments)) = e ∙ rw h in
+        let a : n ≡ length (assignmentOf s .segments) = cc in
+        let b : n ≡ beAt 2 s 8 = a ∙ length-segmentsOf _ _ in
+        record {
+          is-assignment = h;
+          count = a;
+          segments-are = first-segments s n b;
+          records = rest-start s n (both-true (startsAssignment s) _ h .0) b;
+        }
+    go false h =
+        let f : Assignment z n ≡ Malformed = e ∙ rw h in
+        let q : _≡_ {A = ℕ} 0 1 = cc in
+        absurd (omega arith)
+
+pub not-assignment : (s : List ℕ) → Malformed ≡ wholeRead s → isAssignment s ≡ false
+unfolding wholeRead
+not-assignment s e = go (isAssignment s) refl
+  where
+    go : (t : Bool) → isAssignment s ≡ t → isAssignment s ≡ false
+    go true h =
+        let f : Malformed ≡ Assignment (sizeAssignment (assignmentOf s)) (length (assignmentOf s .segments)) = e ∙ rw h in
+        let q : _≡_ {A = ℕ} 0 1 = cc in
+        absurd (omega arith)
+    go false h = h
