@@ -13,7 +13,9 @@ from pathlib import Path
 
 CHECKED = re.compile(r"rt: (\w+) proved \((\d+) s\)")
 EDITED = re.compile(r"rt: must-fail (\w+)/(\S+?): .*?(\d+) s\)")
-BUDGET = {"whole": 2000, "check": 20, "crate": 60}
+ROOT = Path(__file__).resolve().parent.parent
+# 2,000 for document 01, 2,800 when all fourteen requests of 02 have landed
+BUDGET = {"whole": 2000 + 800 * len(list(ROOT.glob("docs/requests/?.md"))) // 14, "check": 20, "crate": 60}
 TICK = os.sysconf("SC_CLK_TCK")
 
 
@@ -105,7 +107,7 @@ def report(log, times, write):
     for line in over_budget(checks, edits, spent):
         print("over budget: " + line)
     if write:
-        path = Path(__file__).resolve().parent.parent / "docs/BENCHMARKS.md"
+        path = ROOT / "docs/BENCHMARKS.md"
         text = path.read_text(encoding="utf-8")
         path.write_text(re.sub(r"(<!-- gate -->\n).*?(<!-- end -->)", lambda m: m[1] + document(table, spent) + "\n" + m[2], text, flags=re.S), encoding="utf-8")
 
