@@ -133,9 +133,17 @@ def questions():
         yield "segment", name
     yield "# No name."
     yield "segment",
+    yield "# The integration desk wants a key that falls in each segment. Segment 3 is not held."
+    for number in range(4):
+        yield "key", number
+    yield "# The key of segment 1 is found there."
+    yield "segment", bytes.fromhex("00634fcb")
+    yield "# No number."
+    yield "key", b"one"
     yield "# A station that is not registered holds no segment."
     yield "invalidate",
     yield "segment", b"hubble"
+    yield "key", 0
 
 
 def shown(word):

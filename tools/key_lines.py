@@ -1,5 +1,5 @@
 #!/usr/bin/env python3
-"""Writes the vectors of the program `key_vectors`: hashes of keys, and the segments that take them."""
+"""Writes the vectors of the program `key_vectors`: hashes of keys, the segments that take them, and test keys."""
 import random
 
 from assignment_vectors import Assignment, Segment, pack_assignment
@@ -97,6 +97,41 @@ def lists(rng):
         yield asked(b"k%d" % number, *random_segments(rng), epoch=number)
 
 
+def wanted(number, *segments):
+    return f"key_in 0x{pack_assignment(Assignment(1, segments)).hex()} {number}"
+
+
+def test_keys(rng):
+    yield "# ==== the key that has a hash: of the published hashes of four bytes, at the ends, of one bit, at random"
+    yield from (f"key {value}" for key, value in (WIKIPEDIA | SHARED).items() if len(key) == 4)
+    yield from (f"key {value}" for value in (0, 0xFFFF, 0x10000, 0xFFFFFFFF))
+    yield from (f"key {1 << bit}" for bit in range(32))
+    yield from (f"key {rng.getrandbits(32)}" for _ in range(20))
+    yield "# ==== a key that falls in a segment: no buckets; none; another id; both ends of the key space"
+    yield wanted(7, Segment(7, 0x4000, 0x7FFF, ()))
+    yield wanted(7)
+    yield wanted(8, Segment(7, 0, 0xFFFF, ()), Segment(9, 0, 0xFFFF, ()))
+    yield wanted(2**64 - 1, Segment(0, 0, 0, ()), Segment(2**64 - 1, 0xFFFF, 0xFFFF, ()))
+    yield wanted(0, Segment(0, 0, 0, ()), Segment(2**64 - 1, 0xFFFF, 0xFFFF, ()))
+    yield "# the bucket lies inside, before, over the start, over the end, behind, around; it ends at the start, it is the end"
+    spans = [(0x4100, 0x41FF), (0, 0x3FFF), (0x3F00, 0x4100), (0x7F00, 0x8100), (0x8000, 0xFFFF), (0, 0xFFFF)]
+    spans += [(0, 0x4000), (0x7FFF, 0x7FFF)]
+    yield from (wanted(7, Segment(7, 0x4000, 0x7FFF, (span,))) for span in spans)
+    yield "# of several buckets the lowest that meets the range, in any order; of several segments the one asked for"
+    yield wanted(7, Segment(7, 0x4000, 0x7FFF, ((0x6000, 0x60FF), (0, 0x3FFF), (0x5000, 0x50FF), (0x9000, 0x90FF))))
+    yield wanted(7, Segment(7, 0x4000, 0x7FFF, ((0, 0x3FFF), (0x9000, 0x90FF))))
+    yield wanted(7, Segment(3, 0, 0xFFFF, ()), Segment(7, 0x4000, 0x7FFF, ()), Segment(8, 0x5000, 0x5FFF, ()))
+    yield "# 20: cut short, a byte too many, ids that fall, a reversed range, buckets that share a value, no bytes"
+    whole = pack_assignment(Assignment(1, WHOLE))
+    yield from (f"key_in 0x{data.hex()} 4" for data in (whole[:-1], whole + b"\0", b""))
+    yield wanted(4, *reversed(WHOLE))
+    yield wanted(7, Segment(7, 2, 1, ()))
+    yield wanted(7, Segment(7, 0, 9, ((0, 5), (5, 6))))
+    yield "# ==== keys that fall in segments of lists at random"
+    for _ in range(40):
+        yield wanted(rng.randrange(1, 8), *random_segments(rng))
+
+
 def random_segments(rng):
     segments, number = [], 0
     for _ in range(rng.randrange(6)):
@@ -115,7 +150,7 @@ def main():
     for key, value in PULSAR.items():
         assert murmur3(key) % 2**31 == value, key
     rng = random.Random("key vectors")
-    lines = [*published(), *reckoned(rng), *refusals(), *limits(), *lists(rng)]
+    lines = [*published(), *reckoned(rng), *refusals(), *limits(), *lists(rng), *test_keys(rng)]
     (CRATES / "key_vectors" / "stdin").write_text("\n".join(lines) + "\n", encoding="ascii")
 
 

@@ -3,7 +3,7 @@
 
 The vectors are the lines of their files stdin. Each subject has its judge: tools/name_vectors.py (texts, names, ranges), tools/wire_vectors.py,
 tools/assignment_vectors.py (packed assignments, deltas, the calls with an output, the intake), tools/watch_vectors.py and tools/key_vectors.py (hashes, the
-segment of a key). `--write` writes stdout anew. The ends of every row of Unicode's Table 3-7 (tools/text_vectors.py) have to be among those of `vectors`,
+segment of a key, test keys). `--write` writes stdout anew. The ends of every row of Unicode's Table 3-7 (tools/text_vectors.py) have to be among those of `vectors`,
 answered as their row says.
 """
 import pathlib

@@ -123,6 +123,15 @@ cuddrewyn_reply cuddrewyn_to_pb(const uint8_t *assignment, size_t assignment_len
 cuddrewyn_reply cuddrewyn_segment_for_key(const uint8_t *key, size_t key_len, const uint8_t *assignment,
                                           size_t assignment_len);
 
+/* The four-byte key that has a hash, all 32 bits of its MurmurHash3_x86_32 with seed 0: there is always one, and no
+ * other. FOUND: first to fourth are its bytes, in their order. Refuses nothing. */
+cuddrewyn_reply cuddrewyn_key_for_hash(uint32_t hash);
+
+/* A four-byte key that falls in the segment of a list: of the hashes that the segment takes it has the smallest, with
+ * upper 16 bits 0. FOUND: first to fourth are its bytes, in their order. NO: the id is not in the list, or the segment
+ * has buckets and none meets its range. Refuses 20 (list malformed). */
+cuddrewyn_reply cuddrewyn_key_in_segment(const uint8_t *assignment, size_t assignment_len, uint64_t segment_id);
+
 /* The name of a segment. WRITTEN: first is its length in out. Refuses 7, 9, 12, 21. */
 cuddrewyn_reply cuddrewyn_segment_topic(const uint8_t *parent, size_t parent_len, uint32_t start, uint32_t end, uint64_t segment_id, uint8_t *out,
                                         size_t out_len);

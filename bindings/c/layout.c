@@ -65,6 +65,15 @@ static cuddrewyn_reply one(uint8_t answer, uint64_t first) {
     return (cuddrewyn_reply){.answer = answer, .count = 1, .first = first};
 }
 
+static cuddrewyn_reply four(uint8_t answer, const uint8_t *bytes) {
+    return (cuddrewyn_reply){.answer = answer,
+                             .count = 4,
+                             .first = bytes[0],
+                             .second = bytes[1],
+                             .third = bytes[2],
+                             .fourth = bytes[3]};
+}
+
 /* A refused begin gives back the record: each number of its own, each flag by itself. */
 static void records(void) {
     for (int flags = 0; flags < 8; flags++) {
@@ -172,6 +181,25 @@ static void keys(void) {
     free(key);
 }
 
+/* The key of the hash of "test", which is ba6bd213; the keys of two segments, looked up again. */
+static void test_keys(void) {
+    static const uint8_t test[] = "test", d213[] = {0x2a, 0x64, 0x1b, 0x46}, d000[] = {0x24, 0xf7, 0xc9, 0x70};
+    check_reply(cuddrewyn_key_for_hash(0xba6bd213), four(CUDDREWYN_FOUND, test));
+    uint8_t list[42] = {[7] = 1,     [9] = 2,     [17] = 3,    [18] = 0xd0, [20] = 0xdf, [21] = 0xff, [23] = 1,
+                        [24] = 0xd2, [25] = 0x13, [26] = 0xe0, [27] = 0x13, [35] = 5,    [36] = 0xd0, [38] = 0xff,
+                        [39] = 0xff};
+    check_reply(cuddrewyn_key_in_segment(list, 42, 3), four(CUDDREWYN_FOUND, d213));
+    check_reply(cuddrewyn_segment_for_key(d213, 4, list, 42), one(CUDDREWYN_FOUND, 3));
+    check_reply(cuddrewyn_key_in_segment(list, 42, 5), four(CUDDREWYN_FOUND, d000));
+    check_reply(cuddrewyn_segment_for_key(d000, 4, list, 42), one(CUDDREWYN_FOUND, 5));
+    list[23] = 0, list[9] = 1;
+    check_reply(cuddrewyn_key_in_segment(list, 24, 3), four(CUDDREWYN_FOUND, d000));
+    check_reply(cuddrewyn_key_in_segment(list, 24, 4), plain(CUDDREWYN_NO));
+    check_reply(cuddrewyn_key_in_segment(list, 23, 3), refused(20, 0, 0, 0, 0, 0));
+    list[23] = 1, list[24] = list[26] = 0xe0;
+    check_reply(cuddrewyn_key_in_segment(list, 28, 3), plain(CUDDREWYN_NO));
+}
+
 static void names(void) {
     static const uint8_t name[] = "segment://a/b/c/0010-00ff-12";
     size_t length = sizeof name - 1;
@@ -207,6 +235,7 @@ int main(void) {
     registrations();
     lists();
     keys();
+    test_keys();
     names();
     ranges();
     free(store);

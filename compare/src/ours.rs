@@ -92,6 +92,15 @@ pub fn segment_for_key(key: &mut [u8], sheet: &mut [u8]) -> Reply {
     spoiled_reply(Call::SegmentForKey, reply, &mut [key, sheet])
 }
 
+pub fn key_for_hash(hash: u32) -> Reply {
+    spoiled_reply(Call::KeyForHash, unsafe { raw::cuddrewyn_key_for_hash(hash) }, &mut [])
+}
+
+pub fn key_in_segment(sheet: &mut [u8], id: u64) -> Reply {
+    let reply = unsafe { raw::cuddrewyn_key_in_segment(sheet.as_ptr(), sheet.len(), id) };
+    spoiled_reply(Call::KeyInSegment, reply, &mut [sheet])
+}
+
 pub fn segment_topic(parent: &mut [u8], range: (u32, u32), id: u64, out: &mut [u8]) -> Reply {
     let reply = unsafe { raw::cuddrewyn_segment_topic(parent.as_ptr(), parent.len(), range.0, range.1, id, out.as_mut_ptr(), out.len()) };
     spoiled_reply(Call::SegmentTopic, reply, &mut [parent, out])

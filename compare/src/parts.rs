@@ -93,7 +93,7 @@ pub const ORDERS: &str = "segments in two orders";
 pub const NAMES: &str = "names, ranges, kinds";
 pub const LISTS: &str = "lists lent alone";
 pub const EITHER_ORDER: &str = "deltas in either order";
-pub const KEYS: &str = "segments of keys";
+pub const KEYS: &str = "keys and their segments";
 pub const WATCH: &str = "topics watch";
 
 impl Parts {

@@ -19,6 +19,8 @@ const CALLS: &[(Call, bool, usize)] = &[
     (Call::Join, false, 3),
     (Call::ToPb, false, 3),
     (Call::SegmentForKey, false, 2),
+    (Call::KeyForHash, false, 0),
+    (Call::KeyInSegment, false, 1),
     (Call::SegmentTopic, false, 2),
     (Call::SegmentSource, false, 1),
     (Call::ParentTopic, false, 2),
@@ -84,7 +86,7 @@ fn places_of_the_order() -> Vec<(Call, Place)> {
 fn part_of(call: Call) -> &'static str {
     match call {
         Call::Apply | Call::Join | Call::ToPb => LISTS,
-        Call::SegmentForKey => KEYS,
+        Call::SegmentForKey | Call::KeyForHash | Call::KeyInSegment => KEYS,
         Call::Watch | Call::WatchText => WATCH,
         Call::SegmentTopic | Call::SegmentSource | Call::ParentTopic | Call::ConsumerType => NAMES,
         Call::RangeLen | Call::RangeContains | Call::RangeContainsRange | Call::RangeAdjacent => NAMES,

@@ -134,6 +134,16 @@ pub(crate) fn segment_for_key(key: &[u8], assignment: &[u8]) -> Reply {
     unsafe { raw::cuddrewyn_segment_for_key(key.as_ptr(), key.len(), assignment.as_ptr(), assignment.len()) }
 }
 
+pub(crate) fn key_for_hash(hash: u32) -> Reply {
+    // SAFETY: a number alone.
+    unsafe { raw::cuddrewyn_key_for_hash(hash) }
+}
+
+pub(crate) fn key_in_segment(assignment: &[u8], segment_id: u64) -> Reply {
+    // SAFETY: a slice as pointer and length of a live reference; it is not written.
+    unsafe { raw::cuddrewyn_key_in_segment(assignment.as_ptr(), assignment.len(), segment_id) }
+}
+
 pub(crate) fn segment_topic(parent: &str, start: u32, end: u32, segment_id: u64, out: &mut [u8]) -> Reply {
     // SAFETY: two slices as pointer and length of live references; `out`, the only one written, is exclusive.
     unsafe {

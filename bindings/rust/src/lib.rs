@@ -79,6 +79,7 @@
 //! | `AssignmentError`, `SegmentTopicError`, `TopicsWatchError` | the same variants without texts, the broker's excepted, and the port's own; [`number`](AssignmentError::number)`()` is the specification's |
 //! | | [`apply`] and [`join`] of deltas |
 //! | | [`segment_for_key`]: the segment that takes a key |
+//! | | [`key_for_hash`], [`key_in_segment`]: the key that has a hash, a key that falls in a segment |
 //!
 //! # Memory to lend
 //!
@@ -131,7 +132,7 @@ mod views;
 mod watch;
 
 pub use error::{AssignmentError, SegmentTopicError};
-pub use lists::{apply, join, segment_for_key, to_pb};
+pub use lists::{apply, join, key_for_hash, key_in_segment, segment_for_key, to_pb};
 pub use names::{SegmentSource, canonical_segment_topic, parent_topic};
 pub use raw::Record;
 pub use session::{AssignmentReplay, ScalableConsumerSession};

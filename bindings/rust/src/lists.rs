@@ -69,6 +69,37 @@ pub fn segment_for_key(
     }
 }
 
+/// The four-byte key that has a hash, all 32 bits of its MurmurHash3_x86_32 with seed 0. There is always one, and no
+/// other.
+#[must_use]
+pub fn key_for_hash(hash: u32) -> [u8; 4] {
+    key(&call::key_for_hash(hash))
+}
+
+/// A four-byte key that falls in a segment: of the hashes that the segment takes it has the smallest, with upper 16
+/// bits 0. `None` where the id is not in the list, or where the segment has buckets and none meets its range.
+/// [`segment_for_key`] finds the segment by it, or one with a lower id that takes the same hash.
+///
+/// # Errors
+///
+/// None that this version of the archive gives: what a [`ConsumerAssignment`] holds is well formed.
+pub fn key_in_segment(
+    assignment: ConsumerAssignment<'_>,
+    segment_id: SegmentId,
+) -> Result<Option<[u8; 4]>, AssignmentError<'static>> {
+    let reply = call::key_in_segment(assignment.as_bytes(), segment_id.0);
+    match reply.answer {
+        raw::FOUND => Ok(Some(key(&reply))),
+        raw::NO => Ok(None),
+        _ => Err(AssignmentError::from_reply(reply, "")),
+    }
+}
+
+/// The bytes of a key, a value each.
+fn key(reply: &Reply) -> [u8; 4] {
+    [reply.first, reply.second, reply.third, reply.fourth].map(|value| value.to_le_bytes()[0])
+}
+
 /// What a call wrote to the front of its output.
 fn written(reply: Reply, out: &[u8]) -> Result<&[u8], AssignmentError<'static>> {
     if reply.answer != raw::WRITTEN {

@@ -120,6 +120,8 @@ unsafe extern "C" {
     ) -> Reply;
     pub fn cuddrewyn_segment_for_key(key: *const u8, key_len: usize, assignment: *const u8, assignment_len: usize)
     -> Reply;
+    pub fn cuddrewyn_key_for_hash(hash: u32) -> Reply;
+    pub fn cuddrewyn_key_in_segment(assignment: *const u8, assignment_len: usize, segment_id: u64) -> Reply;
     pub fn cuddrewyn_segment_topic(
         parent: *const u8,
         parent_len: usize,

@@ -286,6 +286,15 @@ impl<'a> ConsumerAssignment<'a> {
         crate::segment_for_key(*self, key)
     }
 
+    /// A four-byte key that falls in a segment; see [`key_in_segment`](crate::key_in_segment).
+    ///
+    /// # Errors
+    ///
+    /// As [`key_in_segment`](crate::key_in_segment).
+    pub fn key_in_segment(&self, segment_id: SegmentId) -> Result<Option<[u8; 4]>, AssignmentError<'static>> {
+        crate::key_in_segment(*self, segment_id)
+    }
+
     /// The `segment://` topics of the list, by rising segment id, where `parent` is the topic that the session registered.
     ///
     /// # Errors

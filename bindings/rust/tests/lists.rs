@@ -161,6 +161,44 @@ fn a_key_that_is_too_long() {
     assert_eq!(segment_for_key(list_of(&bytes), &[0xff; LONGEST_KEY + 1]), Err(AssignmentError::KeyTooLong));
 }
 
+/// Of published hashes those of four bytes.
+#[test]
+fn the_key_of_a_hash() {
+    for (hash, key) in
+        [(0xba6b_d213, *b"test"), (0xf55b_516b, [0x21, 0x43, 0x65, 0x87]), (0x2362_f9de, [0; 4]), (0x7629_3b50, [0xff; 4])]
+    {
+        assert_eq!(key_for_hash(hash), key);
+    }
+}
+
+/// The keys of the smallest hashes, and the segments that they are found in: the one that was asked for, or a lower id
+/// with the same hash.
+#[test]
+fn the_key_of_a_segment() {
+    let bytes = packed(
+        1,
+        &[
+            record(3, 0xd000, 0xdfff, &[(0xe000, 0xe00f), (0xd213, 0xd213)]),
+            record(5, 0, 0xffff, &[]),
+            record(7, 0x10, 0x20, &[]),
+            record(8, 0, 0x20, &[(0x21, 0xffff)]),
+            record(u64::MAX, 0xd000, 0xffff, &[(0xd214, 0xffff), (0, 0xd213)]),
+        ],
+    );
+    let list = list_of(&bytes);
+    let rows = [(3, 0xd213, 3), (5, 0, 5), (7, 0x10, 5), (u64::MAX, 0xd000, 5)];
+    for (id, hash, found) in rows {
+        let key = list.key_in_segment(SegmentId(id)).unwrap().unwrap();
+        assert_eq!(key, key_for_hash(hash));
+        assert_eq!(list.segment_for_key(&key), Ok(Some(SegmentId(found))));
+    }
+    // A segment whose buckets lie outside its range; ids that are not there.
+    for id in [8, 0, 4, u64::MAX - 1] {
+        assert_eq!(list.key_in_segment(SegmentId(id)), Ok(None));
+    }
+    assert_eq!(key_in_segment(list_of(&packed(1, &[])), SegmentId(0)), Ok(None));
+}
+
 #[test]
 fn the_writer_writes_what_the_messages_have() {
     let bytes = packed(300, &[record(1, 0, 9, &[(7, 9), (0, 5)]), record(70_000, 0, 0xffff, &[])]);

@@ -29,7 +29,7 @@ pub fn murmur3(key: &[u8]) -> u32 {
     hash as u32
 }
 
-fn takes(segment: &Segment, hash: u16) -> bool {
+pub fn takes(segment: &Segment, hash: u16) -> bool {
     let inside = |(start, end): &(u16, u16)| *start <= hash && hash <= *end;
     inside(&(segment.start, segment.end)) && (segment.buckets.is_empty() || segment.buckets.iter().any(inside))
 }

@@ -7,5 +7,6 @@ pub mod lookup;
 pub mod messages;
 pub mod session;
 pub mod sheet;
+pub mod test_key;
 pub mod watch;
 pub mod wire;

@@ -25,6 +25,8 @@ pub enum Line {
     Call(CallName),
     // Which segment of the list that is held takes a key.
     Segment,
+    // A key that falls in a segment of that list.
+    Key,
     // It is no call, and why was written.
     Damaged,
 }
@@ -122,6 +124,7 @@ fn line_at(place: usize) -> Line {
         4 => Line::Call(CallName::Begin),
         5 => Line::Call(CallName::Invalidate),
         6 => Line::Segment,
+        7 => Line::Key,
         _ => Line::Damaged,
     }
 }
@@ -129,8 +132,11 @@ fn line_at(place: usize) -> Line {
 // Tests line number `at`. The form of a call has a letter for each word: `c` the call's name, `n` a number, `b` bytes, `k` a kind of consumer.
 pub fn tested(at: u64, line: &[u8]) -> Line {
     let name = lines::word(line, 0);
-    let place = lines::place_of(b"open update response drain begin invalidate segment", name);
-    let form = lines::word(b"cnnbbbk cnb cnb c cn c cb", place);
+    let place = lines::place_of(
+        b"open update response drain begin invalidate segment key",
+        name,
+    );
+    let form = lines::word(b"cnnbbbk cnb cnb c cn c cb cn", place);
     if form.len() == 0 {
         damaged_word(at, b"unknown call ", name);
         return Line::Damaged;

@@ -6,6 +6,7 @@ mod refusals;
 
 pub use print::attached;
 pub use print::decimal;
+pub use print::four_bytes;
 pub use print::hex4;
 pub use print::labelled;
 pub use print::newline;

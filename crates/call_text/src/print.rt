@@ -35,6 +35,15 @@ pub fn hex4(n: u16) {
     io::print_hex(STDOUT_FILENO, n as u64, 4);
 }
 
+// Four bytes in hexadecimal behind 0x, in their order.
+pub fn four_bytes(first: u8, second: u8, third: u8, fourth: u8) {
+    text(b"0x");
+    io::print_hex(STDOUT_FILENO, first as u64, 2);
+    io::print_hex(STDOUT_FILENO, second as u64, 2);
+    io::print_hex(STDOUT_FILENO, third as u64, 2);
+    io::print_hex(STDOUT_FILENO, fourth as u64, 2);
+}
+
 // A byte as \xHH.
 fn escaped(fd: i32, b: u8) {
     io::write_all(fd, b"\\x");

@@ -18,6 +18,9 @@ use Rattle.output.specs.declared.WriteAnswer.the-variants as write
 use Rattle.output.specs.Output as output
 use Rattle.lookup.specs.declared.SegmentAnswer.{SegmentAnswer}
 use Rattle.lookup.specs.declared.SegmentAnswer.the-variants as segment
+use Rattle.test_key.specs.declared.TestKey.{TestKey}
+use Rattle.segment_key.specs.declared.KeyAnswer.{KeyAnswer}
+use Rattle.segment_key.specs.declared.KeyAnswer.the-variants as key
 use Rattle.session.specs.declared.Match.{Match}
 use Rattle.session.specs.declared.Match.the-variants as match′
 use Rattle.session.specs.Calls.{Outcome, OpenOutcome}
@@ -55,6 +58,15 @@ unfoldable pub segmentReply : SegmentAnswer → Reply
 segmentReply (segment.Segment id) = takenReply found (pos (id .0) ∷ [])
 segmentReply segment.NoSegment = takenReply no []
 segmentReply (segment.Refused x) = refusedReply x
+
+-- the key's bytes in their order, a value each
+unfoldable pub keyReply : TestKey → Reply
+keyReply k = takenReply found (pos (k .first) ∷ pos (k .second) ∷ pos (k .third) ∷ pos (k .fourth) ∷ [])
+
+unfoldable pub keyInReply : KeyAnswer → Reply
+keyInReply (key.Key k) = keyReply k
+keyInReply key.NoKey = takenReply no []
+keyInReply (key.Refused x) = refusedReply x
 
 unfoldable pub matchReply : Match → Reply
 matchReply match′.Same = takenReply yes []

@@ -1,9 +1,14 @@
-// The segment that takes a key.
+// Keys: the segment that takes one, the one that has a hash, and one that falls in a segment.
 ghost use mathlib.Core.Path.{_≡_};
 ghost use Rattle.lookup.specs.Lookup.{segmentForKey};
-ghost use Rattle.export.specs.Exports.{segmentReply};
+ghost use Rattle.test_key.specs.Inverse.{keyForHash};
+ghost use Rattle.segment_key.specs.SegmentKey.{keyInSegment};
+ghost use Rattle.export.specs.Exports.{segmentReply, keyReply, keyInReply};
 use lookup::SegmentAnswer;
 use reply::Reply;
+use segment_key::KeyAnswer;
+use test_key::TestKey;
+use types::SegmentId;
 
 // The id of the segment of a list that takes a key.
 #[no_mangle]
@@ -14,5 +19,40 @@ pub extern "C" fn cuddrewyn_segment_for_key(key: &[u8], assignment: &[u8]) -> Re
         SegmentAnswer::Segment(id) => reply::one(reply::FOUND, id.0),
         SegmentAnswer::NoSegment => reply::plain(reply::NO),
         SegmentAnswer::Refused(x) => reply::refused(x),
+    }
+}
+
+// The four bytes of a key, a value each.
+fn key_reply(k: TestKey) -> Reply
+    ensures { λ x. ⌜ x ≡ keyReply k ⌝ }
+{
+    Reply {
+        answer: reply::FOUND,
+        number: 0,
+        count: 4,
+        first: k.first as u64,
+        second: k.second as u64,
+        third: k.third as u64,
+        fourth: k.fourth as u64,
+    }
+}
+
+// The four-byte key that has a hash.
+#[no_mangle]
+pub extern "C" fn cuddrewyn_key_for_hash(hash: u32) -> Reply
+    ensures { λ x. ⌜ x ≡ keyReply (keyForHash hash) ⌝ }
+{
+    key_reply(test_key::key_for_hash(hash))
+}
+
+// The four-byte key with the smallest hash that a segment of a list takes.
+#[no_mangle]
+pub extern "C" fn cuddrewyn_key_in_segment(assignment: &[u8], segment_id: u64) -> Reply
+    ensures { λ x. ⌜ x ≡ keyInReply (keyInSegment (now (assignment .entry)) «segment_id») ⌝ }
+{
+    match segment_key::key_in_segment(assignment, SegmentId(segment_id)) {
+        KeyAnswer::Key(k) => key_reply(k),
+        KeyAnswer::NoKey => reply::plain(reply::NO),
+        KeyAnswer::Refused(x) => reply::refused(x),
     }
 }

@@ -1,16 +1,21 @@
-// Runs vectors of the hash and of the lookup: reads one to a line from standard input and writes a line for each.
+// Runs vectors of the hash, of the lookup and of the test keys: reads one to a line from standard input and writes a line
+// for each.
 //
 // A line is a command and its arguments, with a space between two; a line that starts with '#' is passed over. An argument
-// is bytes: as they stand, or in hexadecimal behind 0x; of a key at most 65,536, of an assignment at most 4,096. What each
-// line should give is reckoned anew by tools/vectors.py, by other means.
+// is a decimal number, or bytes: as they stand, or in hexadecimal behind 0x; of a key at most 65,536, of an assignment at
+// most 4,096. What each line should give is reckoned anew by tools/vectors.py, by other means.
 ghost use mathlib.Core.Path.{_≡_};
 ghost use lib.ListN.{length};
 use call_text::decimal;
+use call_text::four_bytes;
 use call_text::labelled;
 use call_text::text;
 use libc::STDIN_FILENO;
 use libc::STDOUT_FILENO;
 use lookup::SegmentAnswer;
+use segment_key::KeyAnswer;
+use test_key::TestKey;
+use types::SegmentId;
 
 // The most bytes that are read.
 const INPUT: usize = 262144;
@@ -35,14 +40,36 @@ fn segment(line: &[u8]) {
     }
 }
 
+fn show_key(key: TestKey) {
+    four_bytes(key.first, key.second, key.third, key.fourth);
+}
+
+// key HASH: the four bytes that have the hash
+fn key(line: &[u8]) {
+    show_key(test_key::key_for_hash(lines::number32_at(line, 1)));
+}
+
+// key_in ASSIGNMENT ID: the key that falls in the segment, none, or the number of the refusal
+fn key_in(line: &[u8]) {
+    let mut assignment = io::buffer();
+    let n = lines::bytes_at(line, 1, &mut assignment);
+    let id = SegmentId(lines::number_at(line, 2));
+    match segment_key::key_in_segment(&assignment[..n], id) {
+        KeyAnswer::Key(k) => show_key(k),
+        KeyAnswer::NoKey => text(b"none"),
+        KeyAnswer::Refused(x) => labelled(b"refused ", refusal::number(x) as u64),
+    }
+}
+
 fn run(line: &[u8]) {
     if parts::starts_with(line, b"#") {
         return;
     }
-    if parts::starts_with(line, b"hash ") {
-        hash(line);
-    } else {
-        segment(line);
+    match lines::place_of(b"hash segment key", lines::word(line, 0)) {
+        0 => hash(line),
+        1 => segment(line),
+        2 => key(line),
+        _ => key_in(line),
     }
     text(b"\n");
 }

@@ -15,7 +15,7 @@ pub fn wrapping_mul(a: u32, b: u32) -> u32
 }
 
 // x rotated left by r bits.
-fn rotate_left(x: u32, r: u32) -> u32
+pub fn rotate_left(x: u32, r: u32) -> u32
     requires { ⌜ (0 < r) × (r < 32) ⌝ }
     ensures { λ h. ⌜ h ≡ rotateLeft x r ⌝ }
 {
@@ -23,7 +23,7 @@ fn rotate_left(x: u32, r: u32) -> u32
 }
 
 // x ^ (x >> k).
-fn xor_shift(x: u32, k: u32) -> u32
+pub fn xor_shift(x: u32, k: u32) -> u32
     requires { ⌜ k < 32 ⌝ }
     ensures { λ r. ⌜ r ≡ xorShift x k ⌝ }
 {

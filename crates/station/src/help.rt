@@ -23,17 +23,19 @@ with # are passed over, but counted.
   begin INCARNATION                                         a new link to the controller
   invalidate                                                the controller is not trusted now
   segment KEY                                               the segment held that takes a key
+  key ID                                                    a key that falls in a segment held
 
-CONSUMER and INCARNATION are decimal numbers below 2^64. TOPIC, SUBSCRIPTION, NAME, MESSAGE and
-KEY are bytes, at most 65536: in hexadecimal behind 0x, or as they stand. A MESSAGE is what the
+CONSUMER, INCARNATION and ID are decimal numbers below 2^64. TOPIC, SUBSCRIPTION, NAME, MESSAGE
+and KEY are bytes, at most 65536: in hexadecimal behind 0x, or as they stand. A MESSAGE is what the
 controller sends, in Protocol Buffers. A log may have any number of lines, each of at most
 524287 bytes. The session has a store of full size, with a queue of 1024 pushes.
 
 For each call a line LINE CALL ANSWER, where LINE is its number in the log and ANSWER one of
 
   accepted
-  none                                       nothing changed; no segment takes the key
+  none                                       nothing changed; no segment takes the key; no key
   ID                                         the segment that takes the key
+  0xBYTES                                    the four-byte key with the smallest hash of the segment
   delta epoch E lost L gained G              what the push changed, in numbers
   replay at PLACE epoch E lost L gained G    the same of a push of the queue, and its place
   refused N NAME V1 V2 ..                    the specification's number, the name, its numbers

@@ -11,6 +11,7 @@
 //     begin INCARNATION
 //     invalidate
 //     segment KEY
+//     key ID
 //
 // Each call is answered by a line `LINE CALL ANSWER`; a line that is none by `LINE damaged: REASON`, and the run goes on. The whole page is `help`.
 //

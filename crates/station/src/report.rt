@@ -1,6 +1,7 @@
 // What stands behind a call's name: its answer, the session's record, what changed, and the list that is held.
 use crate::calls::show_broker_text;
 use call_text::decimal;
+use call_text::four_bytes;
 use call_text::labelled;
 use call_text::newline;
 use call_text::space;
@@ -8,6 +9,7 @@ use call_text::text;
 use lookup::SegmentAnswer;
 use packed::SLOT;
 use refusal::Refusal;
+use segment_key::KeyAnswer;
 use session::Answer;
 use session::Floor;
 use session::SessionRecord;
@@ -50,6 +52,15 @@ pub fn show_segment(answer: SegmentAnswer) {
         SegmentAnswer::Segment(id) => decimal(id.0),
         SegmentAnswer::NoSegment => text(b"none"),
         SegmentAnswer::Refused(x) => call_text::refused(x),
+    }
+}
+
+// The key that falls in a segment.
+pub fn show_key(answer: KeyAnswer) {
+    match answer {
+        KeyAnswer::Key(k) => four_bytes(k.first, k.second, k.third, k.fourth),
+        KeyAnswer::NoKey => text(b"none"),
+        KeyAnswer::Refused(x) => call_text::refused(x),
     }
 }
 

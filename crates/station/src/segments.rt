@@ -1,7 +1,10 @@
-// Which segment of the list that is held takes a key.
+// Questions about the list that is held: which segment takes a key, and a key that falls in a segment. A station that
+// is not registered holds no segment.
 use lookup::SegmentAnswer;
 use packed::Packed;
 use packed::SLOT;
+use segment_key::KeyAnswer;
+use types::SegmentId;
 
 // The segment of the list at the front of a slot.
 fn in_slot(slot: &[u8], key: &[u8]) -> SegmentAnswer {
@@ -13,7 +16,17 @@ fn in_slot(slot: &[u8], key: &[u8]) -> SegmentAnswer {
     SegmentAnswer::NoSegment
 }
 
-// segment KEY. A station that is not registered holds no segment.
+// A key that falls in a segment of the list at the front of a slot.
+fn key_in_slot(slot: &[u8], id: SegmentId) -> KeyAnswer {
+    if let Packed::Assignment(size, _) = packed::read_front(slot) {
+        if size <= slot.len() {
+            return segment_key::key_in_segment(&slot[..size], id);
+        }
+    }
+    KeyAnswer::NoKey
+}
+
+// segment KEY
 pub fn segment(is_registered: bool, line: &[u8], store: &[u8]) -> SegmentAnswer {
     if !is_registered {
         return SegmentAnswer::NoSegment;
@@ -24,4 +37,18 @@ pub fn segment(is_registered: bool, line: &[u8], store: &[u8]) -> SegmentAnswer 
     let mut key = io::large_buffer();
     let n = lines::bytes_at(line, 1, &mut key);
     in_slot(&store[2 * SLOT..3 * SLOT], &key[..n])
+}
+
+// key ID
+pub fn key(is_registered: bool, line: &[u8], store: &[u8]) -> KeyAnswer {
+    if !is_registered {
+        return KeyAnswer::NoKey;
+    }
+    if store.len() < session_store::MIN_STORE {
+        return KeyAnswer::NoKey;
+    }
+    key_in_slot(
+        &store[2 * SLOT..3 * SLOT],
+        SegmentId(lines::number_at(line, 1)),
+    )
 }

@@ -14,6 +14,7 @@ use call_text::space;
 use call_text::text;
 use libc::STDOUT_FILENO;
 use lookup::SegmentAnswer;
+use segment_key::KeyAnswer;
 use session::Answer;
 use session::Changed;
 use session::Floor;
@@ -134,6 +135,23 @@ fn run_segment(run: Run, line: &[u8], store: &[u8]) -> Run {
     next
 }
 
+// Shows a key that falls in the segment of a line. Nothing is changed but the counts.
+fn run_key(run: Run, line: &[u8], store: &[u8]) -> Run {
+    let mut next = run;
+    let record = run.record;
+    let answer = segments::key(record.registered, line, store);
+    decimal(run.line);
+    text(b" key ");
+    report::show_key(answer);
+    newline();
+    if let KeyAnswer::Refused(_) = answer {
+        next.refused = one_more(run.refused);
+    } else {
+        next.accepted = one_more(run.accepted);
+    }
+    next
+}
+
 // The run behind a damaged line.
 fn with_damaged(options: Options, run: Run) -> Run {
     let mut next = run;
@@ -187,6 +205,13 @@ pub fn run_line(options: Options, run: Run, line: &[u8], store: &mut [u8]) -> Ru
         Line::Segment => {
             if next.is_open {
                 run_segment(next, line, store)
+            } else {
+                without_session(options, next)
+            }
+        }
+        Line::Key => {
+            if next.is_open {
+                run_key(next, line, store)
             } else {
                 without_session(options, next)
             }

@@ -1,0 +1,25 @@
+-- How src/ finds the least value, by the ends of ranges. Internal: cited by the contracts of helpers alone.
+-- Assumes nothing.
+use Prim.Native.Nat.{ℕ, min, max}
+use mathlib.Core.Bool.{cond}
+use mathlib.Core.List.{List, [], _∷_}
+use lib.Dec.{leb}
+use Rattle.types.specs.declared.KeyRange.{KeyRange}
+use Rattle.segment_key.specs.declared.Least.{Least}
+use Rattle.segment_key.specs.declared.Least.the-variants.{Value, NoValue}
+
+-- the lesser of two values, if there are any
+abbrev pub lesserOf : Least → Least → Least
+lesserOf NoValue y = y
+lesserOf (Value a) NoValue = Value a
+lesserOf (Value a) (Value b) = Value (min a b)
+
+-- the least value of two ranges
+unfoldable pub leastCommon : KeyRange → KeyRange → Least
+leastCommon a b =
+    cond (leb (max (a .start) (b .start)) (min (a .end) (b .end))) (Value (max (a .start) (b .start))) NoValue
+
+-- the least value of a range that lies in one of a row
+unfoldable pub leastIn : KeyRange → List KeyRange → Least
+leastIn r [] = NoValue
+leastIn r (b ∷ bs) = lesserOf (leastCommon r b) (leastIn r bs)

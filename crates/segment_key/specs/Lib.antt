@@ -1,0 +1,4 @@
+pub mod Least
+pub mod Ends
+pub mod SegmentKey
+pub mod Answered
