@@ -3,7 +3,7 @@
 
 The messages are put into bytes by tools/assignment_vectors.py, the hostile ones here, field by field.
 """
-from assignment_vectors import Assignment, Segment, name_of, number_field, part_field, segment_message, to_pb
+from assignment_vectors import Assignment, Segment, name_of, number_field, pack_segment, part_field, segment_message, to_pb
 from vectors import CRATES
 
 PARENT = b"topic://polar/uplink/contacts"
@@ -15,6 +15,7 @@ NORTH = Segment(0, 0x0000, 0x3FFF, ())
 NORTH_LOW = Segment(3, 0x0000, 0x1FFF, ())
 NORTH_HIGH = Segment(4, 0x2000, 0x3FFF, ())
 EAST = Segment(1, 0x4000, 0x7FFF, ((0x4000, 0x5FFF), (0x6000, 0x7FFF)))
+EAST_LOW = Segment(1, 0x4000, 0x7FFF, ((0x4000, 0x5FFF),))
 EAST_WHOLE = Segment(1, 0x4000, 0x7FFF, ((0x4000, 0x7FFF),))
 SOUTH = Segment(2, 0x8000, 0xBFFF, ())
 WEST = Segment(9, 0xC000, 0xFFFF, ())
@@ -146,6 +147,21 @@ def questions():
     yield "key", 0
 
 
+def charges():
+    yield "# A renting operator is billed for segment 0, a quarter of the key space, at 2.50 euro an hour for all of it: an hour, then 11 seconds."
+    yield "charge", pack_segment(NORTH), 3600, 2500000, 0
+    yield "charge", pack_segment(NORTH), 11, 2500000, 0
+    yield "# The remainder goes into the next holding, of the same length."
+    yield "charge", pack_segment(NORTH), 11, 2500000, 170393600
+    yield "# Of segment 1 one bucket is held."
+    yield "charge", pack_segment(EAST_LOW), 3600, 2500000, 0
+    yield "# More than 64 bits hold; a remainder that no holding leaves; a record that is cut short; no number."
+    yield "charge", pack_segment(NORTH), 2**50, 2500000, 0
+    yield "charge", pack_segment(NORTH), 0, 2500000, 235929600
+    yield "charge", pack_segment(NORTH)[:-1], 3600, 2500000, 0
+    yield "charge", pack_segment(NORTH), 3600, b"2.50", 0
+
+
 def shown(word):
     """A word of a line: plain texts as they stand, all other bytes in hexadecimal."""
     if not isinstance(word, bytes):
@@ -159,7 +175,7 @@ def line(step):
 
 def main():
     head = "# A pass of the station svalbard-2 as a log of calls, written by tools/example_log.py. The answers stand in stdout."
-    parts = [[head], first_link(), pushes(), second_link(), damage(), questions()]
+    parts = [[head], first_link(), pushes(), second_link(), damage(), questions(), charges()]
     text = "\n\n".join("\n".join(map(line, part)) for part in parts)
     (CRATES / "station" / "stdin").write_text(text + "\n", encoding="ascii")
 

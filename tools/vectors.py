@@ -1,21 +1,25 @@
 #!/usr/bin/env python3
-"""Reckons anew what the programs `vectors` and `key_vectors` should write, by other means than the code's, and compares it with their files stdout.
+"""Reckons anew what the programs `vectors` and `key_vectors` should write, by other means than the code's, and compares it with their files stdout;
+the same of the logs of `station` in vectors/ (tools/logs.py).
 
 The vectors are the lines of their files stdin. Each subject has its judge: tools/name_vectors.py (texts, names, ranges), tools/wire_vectors.py,
 tools/assignment_vectors.py (packed assignments, deltas, the calls with an output, the intake), tools/watch_vectors.py and tools/key_vectors.py (hashes, the
-segment of a key, test keys). `--write` writes stdout anew. The ends of every row of Unicode's Table 3-7 (tools/text_vectors.py) have to be among those of `vectors`,
-answered as their row says.
+segment of a key, test keys); each log has one too: tools/charge_vectors.py (what holdings cost). `--write` writes anew what is compared. The ends of every row
+of Unicode's Table 3-7 (tools/text_vectors.py) have to be among those of `vectors`, answered as their row says.
 """
 import pathlib
 import re
 import sys
 
 import assignment_vectors
+import charge_vectors
 import key_vectors
+import logs
 import name_vectors
 import text_vectors
 import watch_vectors
 import wire_vectors
+from logs import argument
 from name_vectors import Refused
 
 CRATES = pathlib.Path(__file__).resolve().parent.parent / "crates"
@@ -24,12 +28,8 @@ STDIN = CRATES / "vectors" / "stdin"
 PROGRAMS = {"vectors": 1048576, "key_vectors": 262144}
 
 COMMANDS = name_vectors.COMMANDS | wire_vectors.COMMANDS | assignment_vectors.COMMANDS | watch_vectors.COMMANDS | key_vectors.COMMANDS
-
-
-def argument(kind, word):
-    if kind == "n":
-        return int(word)
-    return bytes.fromhex(word[2:]) if word.startswith("0x") else word.encode()
+# the logs of station in vectors/
+LOGS = {"charge": charge_vectors.COMMANDS}
 
 
 def answer(line):
@@ -74,6 +74,7 @@ def main():
     told = {program: check(program) for program in PROGRAMS}
     if missing := text_vectors.missing(told["vectors"]):
         sys.exit(f"vectors: of the rows of Table 3-7 stdin does not have, or Python's decoder answers otherwise: {', '.join(missing)}")
+    logs.check_all(LOGS)
 
 
 if __name__ == "__main__":

@@ -21,6 +21,8 @@ extern "C" {
 #define CUDDREWYN_MIN_OUTPUT 3210
 /* The most bytes of a key. */
 #define CUDDREWYN_LONGEST_KEY 65535
+/* The divisor of charges: 65,536 values times 3,600 seconds. */
+#define CUDDREWYN_DIVISOR 235929600
 /* Where the baseline and the list held stand in the store. */
 #define CUDDREWYN_BASELINE 2048
 #define CUDDREWYN_LIST 4096
@@ -131,6 +133,14 @@ cuddrewyn_reply cuddrewyn_key_for_hash(uint32_t hash);
  * upper 16 bits 0. FOUND: first to fourth are its bytes, in their order. NO: the id is not in the list, or the segment
  * has buckets and none meets its range. Refuses 20 (list malformed). */
 cuddrewyn_reply cuddrewyn_key_in_segment(const uint8_t *assignment, size_t assignment_len, uint64_t segment_id);
+
+/* What a holding of a segment costs: the values that it holds, times whole seconds, times the rate in millionths of a
+ * euro per full key space and hour, plus the remainder of the segment's last charge (0 before the first), divided by
+ * CUDDREWYN_DIVISOR. segment is one record, packed as in a list, of any bucket count; with buckets it holds the values
+ * of these. FOUND: first is the charge, rounded down, second the remainder for the segment's next holding. Refused, the
+ * old remainder stays. Refuses 20 (record malformed), 36 (remainder not below the divisor, or 2^64 reached). */
+cuddrewyn_reply cuddrewyn_charge(const uint8_t *segment, size_t segment_len, uint64_t seconds, uint64_t rate,
+                                 uint64_t remainder);
 
 /* The name of a segment. WRITTEN: first is its length in out. Refuses 7, 9, 12, 21. */
 cuddrewyn_reply cuddrewyn_segment_topic(const uint8_t *parent, size_t parent_len, uint32_t start, uint32_t end, uint64_t segment_id, uint8_t *out,

@@ -65,6 +65,10 @@ static cuddrewyn_reply one(uint8_t answer, uint64_t first) {
     return (cuddrewyn_reply){.answer = answer, .count = 1, .first = first};
 }
 
+static cuddrewyn_reply two(uint8_t answer, uint64_t first, uint64_t second) {
+    return (cuddrewyn_reply){.answer = answer, .count = 2, .first = first, .second = second};
+}
+
 static cuddrewyn_reply four(uint8_t answer, const uint8_t *bytes) {
     return (cuddrewyn_reply){.answer = answer,
                              .count = 4,
@@ -200,6 +204,29 @@ static void test_keys(void) {
     check_reply(cuddrewyn_key_in_segment(list, 28, 3), plain(CUDDREWYN_NO));
 }
 
+/* Segment 5 with the whole key space costs the rate for each hour; with buckets of 1 and of 16 values, these alone. */
+static void charges(void) {
+    enum { BARE = 14, BUCKETS = 22 };
+    const uint64_t divisor = CUDDREWYN_DIVISOR, most = UINT64_MAX;
+    uint8_t *segment = lend(BUCKETS);
+    segment[7] = 5;
+    segment[10] = segment[11] = 0xff;
+    check_reply(cuddrewyn_charge(segment, BARE, 3600, 1000000, 0), two(CUDDREWYN_FOUND, 1000000, 0));
+    check_reply(cuddrewyn_charge(segment, BARE, 1, 1, divisor - 65536), two(CUDDREWYN_FOUND, 1, 0));
+    check_reply(cuddrewyn_charge(segment, BARE, 1, 1, divisor - 65537), two(CUDDREWYN_FOUND, 0, divisor - 1));
+    check_reply(cuddrewyn_charge(segment, BARE, most, 0, 7), two(CUDDREWYN_FOUND, 0, 7));
+    check_reply(cuddrewyn_charge(segment, BARE, 0, most, divisor), refused(36, 0, 0, 0, 0, 0));
+    check_reply(cuddrewyn_charge(segment, BARE, most, most, 0), refused(36, 0, 0, 0, 0, 0));
+    check_reply(cuddrewyn_charge(segment, BARE - 1, most, most, divisor), refused(20, 0, 0, 0, 0, 0));
+    check_reply(cuddrewyn_charge(segment, BARE + 1, 1, 1, 0), refused(20, 0, 0, 0, 0, 0));
+    segment[13] = 2;
+    segment[15] = segment[17] = 20;
+    segment[21] = 15;
+    check_reply(cuddrewyn_charge(segment, BUCKETS, most / 17, 1, 0), two(CUDDREWYN_FOUND, most / divisor, most % divisor));
+    check_reply(cuddrewyn_charge(segment, BUCKETS, most / 17, 1, 1), refused(36, 0, 0, 0, 0, 0));
+    free(segment);
+}
+
 static void names(void) {
     static const uint8_t name[] = "segment://a/b/c/0010-00ff-12";
     size_t length = sizeof name - 1;
@@ -207,7 +234,7 @@ static void names(void) {
     check_bytes(out, name, length, "the segment's name");
     check_reply(cuddrewyn_segment_topic(TOPIC, TOPIC_LEN, 70000, 0xff, 12, out, OUT), refused(9, 2, 1, 70000, 0, 0));
     check_reply(cuddrewyn_segment_source(12, name, length),
-                (cuddrewyn_reply){.answer = CUDDREWYN_FOUND, .count = 2, .first = 0x10, .second = 0xff});
+                two(CUDDREWYN_FOUND, 0x10, 0xff));
     check_reply(cuddrewyn_segment_source(13, name, length), refused(19, 2, 13, 12, 0, 0));
     check_reply(cuddrewyn_parent_topic(name, length, out, OUT), one(CUDDREWYN_WRITTEN, TOPIC_LEN));
     check_bytes(out, TOPIC, TOPIC_LEN, "the parent");
@@ -236,6 +263,7 @@ int main(void) {
     lists();
     keys();
     test_keys();
+    charges();
     names();
     ranges();
     free(store);

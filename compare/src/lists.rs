@@ -17,7 +17,7 @@ const VALUES: &[u16] = &[0, 1, 5, 9, 255, 256, 0x7fff, 0x8000, 0xfffe, 0xffff];
 const PARENTS: &[&[u8]] =
     &[b"topic://a/b/c", b"topic://t/n//m", b"topic://t//m", b"topic://a/b/c#", b"", b"topic://a/b/\xff", "topic://ä/ö/ü".as_bytes()];
 
-fn random_segment(id: u64, rng: &mut Rng) -> Segment {
+pub fn random_segment(id: u64, rng: &mut Rng) -> Segment {
     let (a, b) = (rng.pick(VALUES), rng.pick(VALUES));
     let count = if rng.one_in(2) { 0 } else { rng.below(5) };
     let mut cuts: Vec<u16> = (0..2 * count).map(|_| if rng.one_in(2) { rng.pick(VALUES) } else { rng.word() as u16 }).collect();

@@ -11,6 +11,7 @@ include!(concat!(env!("OUT_DIR"), "/sources.rs"));
 #[allow(dead_code)]
 mod raw;
 
+mod charges;
 mod either_order;
 mod generate;
 mod keys;

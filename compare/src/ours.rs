@@ -101,6 +101,11 @@ pub fn key_in_segment(sheet: &mut [u8], id: u64) -> Reply {
     spoiled_reply(Call::KeyInSegment, reply, &mut [sheet])
 }
 
+pub fn charge(segment: &mut [u8], seconds: u64, rate: u64, remainder: u64) -> Reply {
+    let reply = unsafe { raw::cuddrewyn_charge(segment.as_ptr(), segment.len(), seconds, rate, remainder) };
+    spoiled_reply(Call::Charge, reply, &mut [segment])
+}
+
 pub fn segment_topic(parent: &mut [u8], range: (u32, u32), id: u64, out: &mut [u8]) -> Reply {
     let reply = unsafe { raw::cuddrewyn_segment_topic(parent.as_ptr(), parent.len(), range.0, range.1, id, out.as_mut_ptr(), out.len()) };
     spoiled_reply(Call::SegmentTopic, reply, &mut [parent, out])

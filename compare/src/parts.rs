@@ -1,4 +1,5 @@
 //! The parts of a run: first what is written down, then what is random or long, sharing the time.
+use crate::charges::{self, Charges};
 use crate::either_order::{self, EitherOrder};
 use crate::keys::{self, Keys};
 use crate::lists::{self, Lists};
@@ -26,6 +27,8 @@ pub fn directed(tally: &mut Tally, seed: u64) {
     either_order::directed(tally, seed);
     tally.place = "published hashes".into();
     keys::directed(tally);
+    tally.place = CHARGES.into();
+    charges::directed(tally);
     #[cfg(feature = "watch")]
     {
         tally.place = "long topics".into();
@@ -40,6 +43,7 @@ enum Work {
     Lists(Lists),
     EitherOrder(EitherOrder),
     Keys(Keys),
+    Charges(Charges),
     Short(Short),
     #[cfg(feature = "watch")]
     Watch(crate::watch::Watch),
@@ -55,6 +59,7 @@ impl Work {
             Self::Lists(lists) => lists.step(tally),
             Self::EitherOrder(either_order) => either_order.step(tally),
             Self::Keys(keys) => keys.step(tally),
+            Self::Charges(charges) => charges.step(tally),
             Self::Short(short) => return short.step(tally),
             #[cfg(feature = "watch")]
             Self::Watch(watch) => watch.step(tally),
@@ -94,6 +99,7 @@ pub const NAMES: &str = "names, ranges, kinds";
 pub const LISTS: &str = "lists lent alone";
 pub const EITHER_ORDER: &str = "deltas in either order";
 pub const KEYS: &str = "keys and their segments";
+pub const CHARGES: &str = "charges of holdings";
 pub const WATCH: &str = "topics watch";
 
 impl Parts {
@@ -110,6 +116,7 @@ impl Parts {
             (LISTS, 2, Work::Lists(Lists::new(seed))),
             (EITHER_ORDER, 1, Work::EitherOrder(EitherOrder::new(seed))),
             (KEYS, 1, Work::Keys(Keys::new(seed))),
+            (CHARGES, 1, Work::Charges(Charges::new(seed))),
             #[cfg(feature = "watch")]
             (WATCH, 5, Work::Watch(crate::watch::Watch::new(seed))),
         ];

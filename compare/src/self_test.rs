@@ -1,6 +1,6 @@
 //! Whether the comparison notices a wrong bit, for each call and each place of what it gives.
 use crate::model::session::{LIST, SLOT};
-use crate::parts::{EITHER_ORDER, KEYS, LISTS, NAMES, ORDERS, Parts, SMALL_STORES, WATCH};
+use crate::parts::{CHARGES, EITHER_ORDER, KEYS, LISTS, NAMES, ORDERS, Parts, SMALL_STORES, WATCH};
 use crate::spoil::{Judge, Place, arm, armed, disarm, leave_to};
 use crate::tally::{Call, Tally};
 
@@ -21,6 +21,7 @@ const CALLS: &[(Call, bool, usize)] = &[
     (Call::SegmentForKey, false, 2),
     (Call::KeyForHash, false, 0),
     (Call::KeyInSegment, false, 1),
+    (Call::Charge, false, 1),
     (Call::SegmentTopic, false, 2),
     (Call::SegmentSource, false, 1),
     (Call::ParentTopic, false, 2),
@@ -87,6 +88,7 @@ fn part_of(call: Call) -> &'static str {
     match call {
         Call::Apply | Call::Join | Call::ToPb => LISTS,
         Call::SegmentForKey | Call::KeyForHash | Call::KeyInSegment => KEYS,
+        Call::Charge => CHARGES,
         Call::Watch | Call::WatchText => WATCH,
         Call::SegmentTopic | Call::SegmentSource | Call::ParentTopic | Call::ConsumerType => NAMES,
         Call::RangeLen | Call::RangeContains | Call::RangeContainsRange | Call::RangeAdjacent => NAMES,

@@ -14,7 +14,7 @@ pub(crate) fn signed(value: u64) -> i32 {
     value as i32
 }
 
-/// The text of a number from 1 to 8, 15, 20 to 22, 30 to 32: the refusals that the original does not have.
+/// The texts of the refusals that the original does not have, by their numbers.
 pub(crate) fn own_text(number: u8) -> &'static str {
     match number {
         1 => "the store is shorter than 6144 bytes",
@@ -26,12 +26,13 @@ pub(crate) fn own_text(number: u8) -> &'static str {
         7 => "a text is not UTF-8",
         8 => "the texts of the registration are longer than 2041 bytes together",
         15 => "the packed assignment is longer than 2048 bytes",
-        20 => "the assignment or delta is malformed",
+        20 => "the assignment, delta or segment is malformed",
         21 => "the result does not fit the output",
         22 => "the record or a slot of the store is malformed",
         30 => "the topic set is malformed",
         31 => "the topic set does not fit its buffer, or a topic is longer than 65535 bytes",
         32 => "the key is longer than 65535 bytes",
+        36 => "the charge is beyond 64 bits, or the remainder is not below 235929600",
         _ => "the call is refused",
     }
 }
@@ -235,7 +236,7 @@ pub enum AssignmentError<'m> {
     IdentityTooLong,
     /// 15: the packed list is longer than 2,048 bytes.
     AssignmentTooLong,
-    /// 20: the list or delta that was lent is malformed.
+    /// 20: the list, delta or segment that was lent is malformed.
     MalformedInput,
     /// 21: the result is longer than the output, or has no packed form.
     ResultTooLong,
@@ -243,6 +244,8 @@ pub enum AssignmentError<'m> {
     MalformedStore,
     /// 32: the key is longer than [`LONGEST_KEY`](crate::LONGEST_KEY).
     KeyTooLong,
+    /// 36: the product and the remainder reach 2^64 together, or the remainder lent in is not below [`DIVISOR`](crate::DIVISOR).
+    ChargeTooLarge,
     /// A reply that this crate does not know: the archive is of another version.
     Unknown(Reply),
 }
@@ -279,6 +282,7 @@ impl<'m> AssignmentError<'m> {
             Self::StaleEpoch { .. } => 27,
             Self::PreBaselineBufferFull { .. } => 28,
             Self::KeyTooLong => 32,
+            Self::ChargeTooLarge => 36,
             Self::Unknown(reply) => reply.number,
         }
     }
@@ -303,6 +307,7 @@ impl<'m> AssignmentError<'m> {
             21 => Self::ResultTooLong,
             22 => Self::MalformedStore,
             32 => Self::KeyTooLong,
+            36 => Self::ChargeTooLarge,
             _ => Self::of_state(reply),
         }
     }

@@ -80,6 +80,7 @@
 //! | | [`apply`] and [`join`] of deltas |
 //! | | [`segment_for_key`]: the segment that takes a key |
 //! | | [`key_for_hash`], [`key_in_segment`]: the key that has a hash, a key that falls in a segment |
+//! | | [`charge()`]: what a holding of a segment costs |
 //!
 //! # Memory to lend
 //!
@@ -120,6 +121,7 @@ extern crate std;
 
 #[allow(unsafe_code)]
 mod call;
+mod charge;
 mod error;
 mod lists;
 mod names;
@@ -131,6 +133,7 @@ mod views;
 #[cfg(feature = "watch")]
 mod watch;
 
+pub use charge::{Charge, DIVISOR, charge};
 pub use error::{AssignmentError, SegmentTopicError};
 pub use lists::{apply, join, key_for_hash, key_in_segment, segment_for_key, to_pb};
 pub use names::{SegmentSource, canonical_segment_topic, parent_topic};

@@ -64,10 +64,11 @@ fn texts_and_numbers_of_our_own() {
         (E::InvalidUtf8, 7, "a text is not UTF-8"),
         (E::IdentityTooLong, 8, "the texts of the registration are longer than 2041 bytes together"),
         (E::AssignmentTooLong, 15, "the packed assignment is longer than 2048 bytes"),
-        (E::MalformedInput, 20, "the assignment or delta is malformed"),
+        (E::MalformedInput, 20, "the assignment, delta or segment is malformed"),
         (E::ResultTooLong, 21, "the result does not fit the output"),
         (E::MalformedStore, 22, "the record or a slot of the store is malformed"),
         (E::KeyTooLong, 32, "the key is longer than 65535 bytes"),
+        (E::ChargeTooLarge, 36, "the charge is beyond 64 bits, or the remainder is not below 235929600"),
         (E::Unknown(reply), 77, "answer 9 with number 77 is not known to these bindings"),
     ];
     for (error, number, text) in rows {

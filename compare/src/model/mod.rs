@@ -1,6 +1,7 @@
 //! What 01 says, read independently of the port: its reader of messages, its packed forms, its store and its calls. Slow and plain.
 //!
 //! Refusals 9 to 14 of a message's segments are the Rust's (`oracle::intake`); the rest of a call's answer is reckoned here.
+pub mod charge;
 pub mod delta;
 pub mod identity;
 pub mod lookup;

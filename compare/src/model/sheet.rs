@@ -47,7 +47,7 @@ impl<'a> Taker<'a> {
     }
 
     /// A record: nothing where it ends early, its range or a bucket is reversed, or buckets share a value.
-    fn record(&mut self) -> Option<Segment> {
+    pub fn record(&mut self) -> Option<Segment> {
         let (id, start, end, count) = (self.word()?, self.short()?, self.short()?, self.short()?);
         let mut buckets = Vec::new();
         for _ in 0..count {

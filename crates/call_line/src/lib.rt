@@ -27,6 +27,8 @@ pub enum Line {
     Segment,
     // A key that falls in a segment of that list.
     Key,
+    // What a holding of a segment costs.
+    Charge,
     // It is no call, and why was written.
     Damaged,
 }
@@ -125,6 +127,7 @@ fn line_at(place: usize) -> Line {
         5 => Line::Call(CallName::Invalidate),
         6 => Line::Segment,
         7 => Line::Key,
+        8 => Line::Charge,
         _ => Line::Damaged,
     }
 }
@@ -133,10 +136,10 @@ fn line_at(place: usize) -> Line {
 pub fn tested(at: u64, line: &[u8]) -> Line {
     let name = lines::word(line, 0);
     let place = lines::place_of(
-        b"open update response drain begin invalidate segment key",
+        b"open update response drain begin invalidate segment key charge",
         name,
     );
-    let form = lines::word(b"cnnbbbk cnb cnb c cn c cb cn", place);
+    let form = lines::word(b"cnnbbbk cnb cnb c cn c cb cn cbnnn", place);
     if form.len() == 0 {
         damaged_word(at, b"unknown call ", name);
         return Line::Damaged;

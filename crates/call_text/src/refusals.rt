@@ -6,7 +6,7 @@ use crate::print::text;
 use refusal::Refusal;
 use reply::Reply;
 
-// The names by the specification's numbers, word 0 for none.
+// The names by the specification's numbers, word 0 for none; a dash where no call gives the number.
 fn named(number: usize) {
     text(lines::word(
         b" StoreTooShort OutputTooShort InvalidWireFormat WrongWireType RepeatedField MissingField \
@@ -14,7 +14,8 @@ fn named(number: usize) {
               InvalidParent AttachmentMismatch DuplicateSegment AssignmentTooLong Broker Empty InvalidSegment \
               SegmentIdMismatch MalformedInput ResultTooLong MalformedStore IncarnationMismatch \
               ConsumerMismatch NonAdvancingIncarnation CrossIncarnationEpochRegression StaleEpoch \
-              PreBaselineBufferFull WatchMismatch MalformedSet SetTooLong KeyTooLong",
+              PreBaselineBufferFull WatchMismatch MalformedSet SetTooLong \
+              KeyTooLong - - - ChargeTooLarge",
         number,
     ));
 }

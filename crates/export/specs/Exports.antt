@@ -21,6 +21,8 @@ use Rattle.lookup.specs.declared.SegmentAnswer.the-variants as segment
 use Rattle.test_key.specs.declared.TestKey.{TestKey}
 use Rattle.segment_key.specs.declared.KeyAnswer.{KeyAnswer}
 use Rattle.segment_key.specs.declared.KeyAnswer.the-variants as key
+use Rattle.charge.specs.declared.ChargeAnswer.{ChargeAnswer}
+use Rattle.charge.specs.declared.ChargeAnswer.the-variants as charge
 use Rattle.session.specs.declared.Match.{Match}
 use Rattle.session.specs.declared.Match.the-variants as match′
 use Rattle.session.specs.Calls.{Outcome, OpenOutcome}
@@ -67,6 +69,11 @@ unfoldable pub keyInReply : KeyAnswer → Reply
 keyInReply (key.Key k) = keyReply k
 keyInReply key.NoKey = takenReply no []
 keyInReply (key.Refused x) = refusedReply x
+
+-- the charge and the next remainder
+unfoldable pub chargeReply : ChargeAnswer → Reply
+chargeReply (charge.Charged amount next) = takenReply found (pos amount ∷ pos next ∷ [])
+chargeReply (charge.Refused x) = refusedReply x
 
 unfoldable pub matchReply : Match → Reply
 matchReply match′.Same = takenReply yes []

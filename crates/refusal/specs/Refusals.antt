@@ -18,6 +18,7 @@ use Rattle.refusal.specs.declared.Refusal.the-variants.{DuplicateSegment
 use Rattle.refusal.specs.declared.Refusal.the-variants.{SegmentIdMismatch, MalformedInput, ResultTooLong, MalformedStore, IncarnationMismatch}
 use Rattle.refusal.specs.declared.Refusal.the-variants.{ConsumerMismatch, NonAdvancingIncarnation, CrossIncarnationEpochRegression, StaleEpoch}
 use Rattle.refusal.specs.declared.Refusal.the-variants.{PreBaselineBufferFull, WatchMismatch, MalformedSet, SetTooLong, KeyTooLong}
+use Rattle.refusal.specs.declared.Refusal.the-variants.{ChargeTooLarge}
 
 abbrev pub numberOf : Refusal → ℕ
 numberOf StoreTooShort = 1
@@ -54,6 +55,7 @@ numberOf (WatchMismatch got expected) = 29
 numberOf MalformedSet = 30
 numberOf SetTooLong = 31
 numberOf KeyTooLong = 32
+numberOf ChargeTooLarge = 36
 
 -- the kind of an invalid range, then that kind's numbers
 abbrev pub sourceValues : KeyRangeError → List ℤ
@@ -100,3 +102,4 @@ valuesOf (WatchMismatch got expected) = pos got ∷ pos expected ∷ []
 valuesOf MalformedSet = []
 valuesOf SetTooLong = []
 valuesOf KeyTooLong = []
+valuesOf ChargeTooLarge = []

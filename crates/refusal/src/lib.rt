@@ -123,6 +123,8 @@ pub enum Refusal {
     SetTooLong,
     // 32: a key is longer than 65,535 bytes.
     KeyTooLong,
+    // 36: the holding's product and remainder reach 2^64 together, or the remainder lent in is not below the divisor.
+    ChargeTooLarge,
 }
 
 // The specification's number of a refusal.
@@ -184,5 +186,6 @@ pub fn number(refusal: Refusal) -> u8
         Refusal::MalformedSet => 30,
         Refusal::SetTooLong => 31,
         Refusal::KeyTooLong => 32,
+        Refusal::ChargeTooLarge => 36,
     }
 }

@@ -24,11 +24,14 @@ with # are passed over, but counted.
   invalidate                                                the controller is not trusted now
   segment KEY                                               the segment held that takes a key
   key ID                                                    a key that falls in a segment held
+  charge SEGMENT SECONDS RATE REMAINDER                     what a holding costs; needs no session
 
-CONSUMER, INCARNATION and ID are decimal numbers below 2^64. TOPIC, SUBSCRIPTION, NAME, MESSAGE
-and KEY are bytes, at most 65536: in hexadecimal behind 0x, or as they stand. A MESSAGE is what the
-controller sends, in Protocol Buffers. A log may have any number of lines, each of at most
-524287 bytes. The session has a store of full size, with a queue of 1024 pushes.
+CONSUMER, INCARNATION, ID, SECONDS, RATE and REMAINDER are decimal numbers below 2^64. TOPIC,
+SUBSCRIPTION, NAME, MESSAGE, KEY and SEGMENT are bytes, at most 65536: in hexadecimal behind 0x, or
+as they stand. A MESSAGE is what the controller sends, in Protocol Buffers; a SEGMENT is one record,
+packed as in a list. RATE is in millionths of a euro per full key space and hour; REMAINDER is that
+of the segment's last charge, 0 before the first. A log may have any number of lines, each of at
+most 524287 bytes. The session has a store of full size, with a queue of 1024 pushes.
 
 For each call a line LINE CALL ANSWER, where LINE is its number in the log and ANSWER one of
 
@@ -36,6 +39,7 @@ For each call a line LINE CALL ANSWER, where LINE is its number in the log and A
   none                                       nothing changed; no segment takes the key; no key
   ID                                         the segment that takes the key
   0xBYTES                                    the four-byte key with the smallest hash of the segment
+  charged N remainder M                      N millionths of a euro; M goes into the next charge
   delta epoch E lost L gained G              what the push changed, in numbers
   replay at PLACE epoch E lost L gained G    the same of a push of the queue, and its place
   refused N NAME V1 V2 ..                    the specification's number, the name, its numbers

@@ -12,6 +12,7 @@
 //     invalidate
 //     segment KEY
 //     key ID
+//     charge SEGMENT SECONDS RATE REMAINDER
 //
 // Each call is answered by a line `LINE CALL ANSWER`; a line that is none by `LINE damaged: REASON`, and the run goes on. The whole page is `help`.
 //
@@ -20,6 +21,7 @@ mod arguments;
 mod calls;
 mod help;
 mod input;
+mod questions;
 mod report;
 mod segments;
 mod step;

@@ -6,6 +6,7 @@ use call_text::labelled;
 use call_text::newline;
 use call_text::space;
 use call_text::text;
+use charge::ChargeAnswer;
 use lookup::SegmentAnswer;
 use packed::SLOT;
 use refusal::Refusal;
@@ -61,6 +62,17 @@ pub fn show_key(answer: KeyAnswer) {
         KeyAnswer::Key(k) => four_bytes(k.first, k.second, k.third, k.fourth),
         KeyAnswer::NoKey => text(b"none"),
         KeyAnswer::Refused(x) => call_text::refused(x),
+    }
+}
+
+// The charge of a holding, and the remainder for the segment's next one.
+pub fn show_charge(answer: ChargeAnswer) {
+    match answer {
+        ChargeAnswer::Charged(cost, remainder) => {
+            labelled(b"charged ", cost);
+            labelled(b" remainder ", remainder);
+        }
+        ChargeAnswer::Refused(x) => call_text::refused(x),
     }
 }
 

@@ -3,6 +3,7 @@
 // The functions promise only what keeps them in bounds: what is read and what is written is not proved.
 use crate::arguments::Options;
 use crate::calls;
+use crate::questions;
 use crate::report;
 use crate::segments;
 use call_line::CallName;
@@ -12,6 +13,7 @@ use call_text::labelled;
 use call_text::newline;
 use call_text::space;
 use call_text::text;
+use charge::ChargeAnswer;
 use libc::STDOUT_FILENO;
 use lookup::SegmentAnswer;
 use segment_key::KeyAnswer;
@@ -65,6 +67,17 @@ fn one_more(n: u64) -> u64 {
     if n < u64::MAX { n + 1 } else { n }
 }
 
+// The run with one line more that was accepted or refused.
+fn counted(run: Run, is_refused: bool) -> Run {
+    let mut next = run;
+    if is_refused {
+        next.refused = one_more(run.refused);
+    } else {
+        next.accepted = one_more(run.accepted);
+    }
+    next
+}
+
 // The run behind a call. An open that is refused before any was accepted leaves no session.
 fn settled(run: Run, changed: Changed) -> Run {
     let mut next = run;
@@ -72,12 +85,10 @@ fn settled(run: Run, changed: Changed) -> Run {
     let answer = changed.answer;
     next.record = record;
     if let Answer::Refused(_) = answer {
-        next.refused = one_more(run.refused);
-        return next;
+        return counted(next, true);
     }
-    next.accepted = one_more(run.accepted);
     next.is_open = true;
-    next
+    counted(next, false)
 }
 
 // The rows below a call that the options ask for.
@@ -96,12 +107,17 @@ fn show_details(options: Options, run: Run, answer: Answer, store: &[u8], out: &
     }
 }
 
-// Shows a call's name, the first word of its line, and its answer.
-fn show_call(at: u64, answer: Answer, line: &[u8], store: &[u8], out: &[u8]) {
+// Shows the line's number and its first word, the call's name.
+fn show_name(at: u64, line: &[u8]) {
     decimal(at);
     space();
     text(lines::word(line, 0));
     space();
+}
+
+// Shows a call's name and its answer.
+fn show_call(at: u64, answer: Answer, line: &[u8], store: &[u8], out: &[u8]) {
+    show_name(at, line);
     report::show_answer(answer, line, store, out);
     newline();
 }
@@ -120,36 +136,43 @@ fn run_call(options: Options, run: Run, name: CallName, line: &[u8], store: &mut
 
 // Shows which segment of the list that is held takes the key of a line. Nothing is changed but the counts.
 fn run_segment(run: Run, line: &[u8], store: &[u8]) -> Run {
-    let mut next = run;
     let record = run.record;
     let answer = segments::segment(record.registered, line, store);
-    decimal(run.line);
-    text(b" segment ");
+    show_name(run.line, line);
     report::show_segment(answer);
     newline();
     if let SegmentAnswer::Refused(_) = answer {
-        next.refused = one_more(run.refused);
+        counted(run, true)
     } else {
-        next.accepted = one_more(run.accepted);
+        counted(run, false)
     }
-    next
 }
 
 // Shows a key that falls in the segment of a line. Nothing is changed but the counts.
 fn run_key(run: Run, line: &[u8], store: &[u8]) -> Run {
-    let mut next = run;
     let record = run.record;
     let answer = segments::key(record.registered, line, store);
-    decimal(run.line);
-    text(b" key ");
+    show_name(run.line, line);
     report::show_key(answer);
     newline();
     if let KeyAnswer::Refused(_) = answer {
-        next.refused = one_more(run.refused);
+        counted(run, true)
     } else {
-        next.accepted = one_more(run.accepted);
+        counted(run, false)
     }
-    next
+}
+
+// Shows what the holding of a line costs. Nothing is changed but the counts.
+fn run_charge(run: Run, line: &[u8]) -> Run {
+    let answer = questions::charge(line);
+    show_name(run.line, line);
+    report::show_charge(answer);
+    newline();
+    if let ChargeAnswer::Refused(_) = answer {
+        counted(run, true)
+    } else {
+        counted(run, false)
+    }
 }
 
 // The run behind a damaged line.
@@ -176,15 +199,32 @@ fn is_passed_over(line: &[u8]) -> bool {
     parts::starts_with(line, b"#")
 }
 
-// The call may be run: a session is open, or the call opens one.
-fn may_run(is_open: bool, name: CallName) -> bool {
-    if is_open {
-        return true;
-    }
+fn opens(name: CallName) -> bool {
     if let CallName::Open = name {
         true
     } else {
         false
+    }
+}
+
+// The line asks for a session that is open.
+fn needs_session(tested: Line) -> bool {
+    match tested {
+        Line::Call(name) => !opens(name),
+        Line::Segment => true,
+        Line::Key => true,
+        _ => false,
+    }
+}
+
+// Runs a line that was tested.
+fn run_tested(options: Options, run: Run, tested: Line, line: &[u8], store: &mut [u8]) -> Run {
+    match tested {
+        Line::Damaged => with_damaged(options, run),
+        Line::Segment => run_segment(run, line, store),
+        Line::Key => run_key(run, line, store),
+        Line::Charge => run_charge(run, line),
+        Line::Call(name) => run_call(options, run, name, line, store),
     }
 }
 
@@ -200,30 +240,11 @@ pub fn run_line(options: Options, run: Run, line: &[u8], store: &mut [u8]) -> Ru
     if is_passed_over(line) {
         return next;
     }
-    match call_line::tested(next.line, line) {
-        Line::Damaged => with_damaged(options, next),
-        Line::Segment => {
-            if next.is_open {
-                run_segment(next, line, store)
-            } else {
-                without_session(options, next)
-            }
-        }
-        Line::Key => {
-            if next.is_open {
-                run_key(next, line, store)
-            } else {
-                without_session(options, next)
-            }
-        }
-        Line::Call(name) => {
-            if may_run(next.is_open, name) {
-                run_call(options, next, name, line, store)
-            } else {
-                without_session(options, next)
-            }
-        }
+    let tested = call_line::tested(next.line, line);
+    if needs_session(tested) && !next.is_open {
+        return without_session(options, next);
     }
+    run_tested(options, next, tested, line, store)
 }
 
 // `C calls: A accepted, R refused; D damaged lines`. Whether standard output takes it.
