@@ -96,11 +96,14 @@ def pushes():
     for comment, message in hostile():
         yield f"# {comment}"
         yield "update", 1, message
+    yield "# How restless the layout is: of four deltas, two of them replays, one lost a segment and one three."
+    yield "churn",
 
 
 def second_link():
     yield "# The controller is not to be trusted any more: the station holds nothing."
     yield "invalidate",
+    yield "churn",
     yield "# A new link has to have a higher number."
     yield "begin", 1
     yield "begin", 2

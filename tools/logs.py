@@ -10,7 +10,15 @@ from name_vectors import Refused
 
 VECTORS = pathlib.Path(__file__).resolve().parent.parent / "vectors"
 # the refusals that the logs have, as station names them
-NAMES = {20: "MalformedInput", 36: "ChargeTooLarge"}
+NAMES = {
+    8: "IdentityTooLong",
+    20: "MalformedInput",
+    23: "IncarnationMismatch",
+    24: "ConsumerMismatch",
+    25: "NonAdvancingIncarnation",
+    27: "StaleEpoch",
+    36: "ChargeTooLarge",
+}
 
 
 def argument(kind, word):

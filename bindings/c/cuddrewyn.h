@@ -23,6 +23,8 @@ extern "C" {
 #define CUDDREWYN_LONGEST_KEY 65535
 /* The divisor of charges: 65,536 values times 3,600 seconds. */
 #define CUDDREWYN_DIVISOR 235929600
+/* A window of lost counts. */
+#define CUDDREWYN_CHURN_WINDOW 514
 /* Where the baseline and the list held stand in the store. */
 #define CUDDREWYN_BASELINE 2048
 #define CUDDREWYN_LIST 4096
@@ -141,6 +143,17 @@ cuddrewyn_reply cuddrewyn_key_in_segment(const uint8_t *assignment, size_t assig
  * old remainder stays. Refuses 20 (record malformed), 36 (remainder not below the divisor, or 2^64 reached). */
 cuddrewyn_reply cuddrewyn_charge(const uint8_t *segment, size_t segment_len, uint64_t seconds, uint64_t rate,
                                  uint64_t remainder);
+
+/* The lost count of one delta goes into a window of CUDDREWYN_CHURN_WINDOW bytes, which holds those of the latest 256; bytes of
+ * zero are an empty one. FOUND: first is the sum of the counts, second the largest of them. Refuses 38 (a count above
+ * 65,535; fewer bytes, or bytes whose own numbers point beyond the 256 places). */
+cuddrewyn_reply cuddrewyn_churn_push(uint8_t *window, size_t window_len, uint64_t count);
+
+/* No counts any more, whatever the bytes were. FOUND: first and second are 0. Refuses nothing. */
+cuddrewyn_reply cuddrewyn_churn_clear(uint8_t *window, size_t window_len);
+
+/* Sum and largest as they stand: FOUND as in cuddrewyn_churn_push; both are 0 when there are none. Refuses 38 for the window. */
+cuddrewyn_reply cuddrewyn_churn_current(const uint8_t *window, size_t window_len);
 
 /* The name of a segment. WRITTEN: first is its length in out. Refuses 7, 9, 12, 21. */
 cuddrewyn_reply cuddrewyn_segment_topic(const uint8_t *parent, size_t parent_len, uint32_t start, uint32_t end, uint64_t segment_id, uint8_t *out,

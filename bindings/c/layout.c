@@ -227,6 +227,29 @@ static void charges(void) {
     free(segment);
 }
 
+/* 300 counts rising, of which the latest 256 are 44 to 299; a clearing; what is refused, and leaves the window. */
+static void churn(void) {
+    uint8_t *window = lend(CUDDREWYN_CHURN_WINDOW), *before = lend(CUDDREWYN_CHURN_WINDOW);
+    check_reply(cuddrewyn_churn_current(window, CUDDREWYN_CHURN_WINDOW), two(CUDDREWYN_FOUND, 0, 0));
+    for (uint64_t count = 0; count < 299; count++)
+        cuddrewyn_churn_push(window, CUDDREWYN_CHURN_WINDOW, count);
+    check_reply(cuddrewyn_churn_push(window, CUDDREWYN_CHURN_WINDOW, 299), two(CUDDREWYN_FOUND, 128 * (44 + 299), 299));
+    check_reply(cuddrewyn_churn_current(window, CUDDREWYN_CHURN_WINDOW), two(CUDDREWYN_FOUND, 128 * (44 + 299), 299));
+    memcpy(before, window, CUDDREWYN_CHURN_WINDOW);
+    check_reply(cuddrewyn_churn_push(window, CUDDREWYN_CHURN_WINDOW, 65536), refused(38, 0, 0, 0, 0, 0));
+    check_reply(cuddrewyn_churn_push(window, CUDDREWYN_CHURN_WINDOW - 1, 1), refused(38, 0, 0, 0, 0, 0));
+    check_bytes(window, before, CUDDREWYN_CHURN_WINDOW, "the window refused");
+    check_reply(cuddrewyn_churn_clear(window, CUDDREWYN_CHURN_WINDOW), two(CUDDREWYN_FOUND, 0, 0));
+    check_reply(cuddrewyn_churn_push(window, CUDDREWYN_CHURN_WINDOW, 65535), two(CUDDREWYN_FOUND, 65535, 65535));
+    window[0] = 2;
+    check_reply(cuddrewyn_churn_push(window, CUDDREWYN_CHURN_WINDOW, 1), refused(38, 0, 0, 0, 0, 0));
+    check_reply(cuddrewyn_churn_current(window, CUDDREWYN_CHURN_WINDOW), refused(38, 0, 0, 0, 0, 0));
+    check_reply(cuddrewyn_churn_clear(window, 1), two(CUDDREWYN_FOUND, 0, 0));
+    check_number(window[0], 2, "a byte that is no window");
+    free(window);
+    free(before);
+}
+
 static void names(void) {
     static const uint8_t name[] = "segment://a/b/c/0010-00ff-12";
     size_t length = sizeof name - 1;
@@ -264,6 +287,7 @@ int main(void) {
     keys();
     test_keys();
     charges();
+    churn();
     names();
     ranges();
     free(store);

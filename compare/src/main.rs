@@ -12,6 +12,7 @@ include!(concat!(env!("OUT_DIR"), "/sources.rs"));
 mod raw;
 
 mod charges;
+mod churns;
 mod either_order;
 mod generate;
 mod keys;

@@ -106,6 +106,21 @@ pub fn charge(segment: &mut [u8], seconds: u64, rate: u64, remainder: u64) -> Re
     spoiled_reply(Call::Charge, reply, &mut [segment])
 }
 
+pub fn churn_push(window: &mut [u8], count: u64) -> Reply {
+    let reply = unsafe { raw::cuddrewyn_churn_push(window.as_mut_ptr(), window.len(), count) };
+    spoiled_reply(Call::ChurnPush, reply, &mut [window])
+}
+
+pub fn churn_clear(window: &mut [u8]) -> Reply {
+    let reply = unsafe { raw::cuddrewyn_churn_clear(window.as_mut_ptr(), window.len()) };
+    spoiled_reply(Call::ChurnClear, reply, &mut [window])
+}
+
+pub fn churn_current(window: &mut [u8]) -> Reply {
+    let reply = unsafe { raw::cuddrewyn_churn_current(window.as_ptr(), window.len()) };
+    spoiled_reply(Call::ChurnCurrent, reply, &mut [window])
+}
+
 pub fn segment_topic(parent: &mut [u8], range: (u32, u32), id: u64, out: &mut [u8]) -> Reply {
     let reply = unsafe { raw::cuddrewyn_segment_topic(parent.as_ptr(), parent.len(), range.0, range.1, id, out.as_mut_ptr(), out.len()) };
     spoiled_reply(Call::SegmentTopic, reply, &mut [parent, out])

@@ -1,5 +1,6 @@
 //! The parts of a run: first what is written down, then what is random or long, sharing the time.
 use crate::charges::{self, Charges};
+use crate::churns::{self, Churns};
 use crate::either_order::{self, EitherOrder};
 use crate::keys::{self, Keys};
 use crate::lists::{self, Lists};
@@ -29,6 +30,8 @@ pub fn directed(tally: &mut Tally, seed: u64) {
     keys::directed(tally);
     tally.place = CHARGES.into();
     charges::directed(tally);
+    tally.place = CHURN.into();
+    churns::directed(tally);
     #[cfg(feature = "watch")]
     {
         tally.place = "long topics".into();
@@ -44,6 +47,7 @@ enum Work {
     EitherOrder(EitherOrder),
     Keys(Keys),
     Charges(Charges),
+    Churns(Churns),
     Short(Short),
     #[cfg(feature = "watch")]
     Watch(crate::watch::Watch),
@@ -60,6 +64,7 @@ impl Work {
             Self::EitherOrder(either_order) => either_order.step(tally),
             Self::Keys(keys) => keys.step(tally),
             Self::Charges(charges) => charges.step(tally),
+            Self::Churns(churns) => churns.step(tally),
             Self::Short(short) => return short.step(tally),
             #[cfg(feature = "watch")]
             Self::Watch(watch) => watch.step(tally),
@@ -100,6 +105,7 @@ pub const LISTS: &str = "lists lent alone";
 pub const EITHER_ORDER: &str = "deltas in either order";
 pub const KEYS: &str = "keys and their segments";
 pub const CHARGES: &str = "charges of holdings";
+pub const CHURN: &str = "windows of lost counts";
 pub const WATCH: &str = "topics watch";
 
 impl Parts {
@@ -117,6 +123,7 @@ impl Parts {
             (EITHER_ORDER, 1, Work::EitherOrder(EitherOrder::new(seed))),
             (KEYS, 1, Work::Keys(Keys::new(seed))),
             (CHARGES, 1, Work::Charges(Charges::new(seed))),
+            (CHURN, 1, Work::Churns(Churns::new(seed))),
             #[cfg(feature = "watch")]
             (WATCH, 5, Work::Watch(crate::watch::Watch::new(seed))),
         ];

@@ -1,6 +1,7 @@
 //! A sample of the Rust's answers: sessions as a log of calls, and what the program `station` has to print for them with --lists and --state. The port has no part in it; only
-//! the queue's numbers and a replay's place, which the Rust does not keep, are counted here by 01's words.
+//! the queue's numbers and a replay's place, which the Rust does not keep, are counted here by 01's words, and the lost counts by 02's (request n).
 use crate::generate::{Assignment, Style, refusing_response};
+use crate::model::churn;
 use crate::model::session::SLOT;
 use crate::oracle;
 use crate::rng::Rng;
@@ -33,6 +34,8 @@ struct Twin {
     queue: Vec<ConsumerAssignment>,
     waiting: VecDeque<(usize, AssignmentReplay)>,
     drained: usize,
+    /// The lost counts of all deltas since the last clearing.
+    lost: Vec<u64>,
 }
 
 fn name(error: &AssignmentError) -> &'static str {
@@ -107,16 +110,19 @@ impl Pages {
         writeln!(self.log, "{call}{words}").expect("a string");
         let out = &mut self.answers;
         let session = &twin.session;
+        let churn = churn::reckoned(&twin.lost);
         let floor = session.epoch_floor().map_or("none".into(), |floor| floor.to_string());
         writeln!(out, "{} {call} {answer}", self.line).expect("a string");
         writeln!(
             out,
-            "  state incarnation {} floor {floor} registered {} invalidated {} queue {} drained {}",
+            "  state incarnation {} floor {floor} registered {} invalidated {} queue {} drained {} lost {} largest {}",
             session.incarnation().0,
             yes(session.is_registered()),
             yes(session.is_invalidated()),
             twin.queue.len(),
-            twin.drained
+            twin.drained,
+            churn.first,
+            churn.second
         )
         .expect("a string");
         if let Some(delta) = delta {
@@ -140,6 +146,7 @@ impl Twin {
         self.queue.clear();
         self.waiting.clear();
         self.drained = 0;
+        self.lost.clear();
     }
 
     fn update(&mut self, pages: &mut Pages, incarnation: u64, message: &[u8]) {
@@ -155,7 +162,10 @@ impl Twin {
                 }
                 pages.call("update", &words, "none", None, self);
             }
-            Ok(Some(delta)) => pages.call("update", &words, &format!("delta {}", change(&delta)), Some(&delta), self),
+            Ok(Some(delta)) => {
+                self.lost.push(delta.lost.len() as u64);
+                pages.call("update", &words, &format!("delta {}", change(&delta)), Some(&delta), self);
+            }
         }
     }
 
@@ -185,6 +195,7 @@ impl Twin {
         match self.waiting.pop_front() {
             Some((at, replay)) => {
                 self.drained = at + 1;
+                self.lost.push(replay.delta.lost.len() as u64);
                 let answer = format!("replay at {} {}", 3 * SLOT + SLOT * at, change(&replay.delta));
                 pages.call("drain", "", &answer, Some(&replay.delta), self);
             }
@@ -227,7 +238,7 @@ fn session(pages: &mut Pages, seed: u64, number: usize) {
     let new = |incarnation| {
         ScalableConsumerSession::new(CONSUMER, topic.into(), "s".into(), "n".into(), ScalableConsumerType::Stream, ControllerIncarnation(incarnation))
     };
-    let mut twin = Twin { session: new(1), queue: Vec::new(), waiting: VecDeque::new(), drained: 0 };
+    let mut twin = Twin { session: new(1), queue: Vec::new(), waiting: VecDeque::new(), drained: 0, lost: Vec::new() };
     let mut world = World::new(topic);
     pages.comment(&format!("session {number}"));
     pages.call("open", &format!(" {CONSUMER} 1 {topic} s n stream"), "accepted", None, &twin);

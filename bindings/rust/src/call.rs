@@ -149,6 +149,21 @@ pub(crate) fn charge(segment: &[u8], seconds: u64, rate: u64, remainder: u64) ->
     unsafe { raw::cuddrewyn_charge(segment.as_ptr(), segment.len(), seconds, rate, remainder) }
 }
 
+pub(crate) fn churn_push(window: &mut [u8], count: u64) -> Reply {
+    // SAFETY: a slice as pointer and length of a live reference, which is exclusive.
+    unsafe { raw::cuddrewyn_churn_push(window.as_mut_ptr(), window.len(), count) }
+}
+
+pub(crate) fn churn_clear(window: &mut [u8]) -> Reply {
+    // SAFETY: a slice as pointer and length of a live reference, which is exclusive.
+    unsafe { raw::cuddrewyn_churn_clear(window.as_mut_ptr(), window.len()) }
+}
+
+pub(crate) fn churn_current(window: &[u8]) -> Reply {
+    // SAFETY: a slice as pointer and length of a live reference; it is not written.
+    unsafe { raw::cuddrewyn_churn_current(window.as_ptr(), window.len()) }
+}
+
 pub(crate) fn segment_topic(parent: &str, start: u32, end: u32, segment_id: u64, out: &mut [u8]) -> Reply {
     // SAFETY: two slices as pointer and length of live references; `out`, the only one written, is exclusive.
     unsafe {

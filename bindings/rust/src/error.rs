@@ -33,6 +33,7 @@ pub(crate) fn own_text(number: u8) -> &'static str {
         31 => "the topic set does not fit its buffer, or a topic is longer than 65535 bytes",
         32 => "the key is longer than 65535 bytes",
         36 => "the charge is beyond 64 bits, or the remainder is not below 235929600",
+        38 => "the lost count is above 65535, or the window points beyond its 256 places",
         _ => "the call is refused",
     }
 }
@@ -246,6 +247,8 @@ pub enum AssignmentError<'m> {
     KeyTooLong,
     /// 36: the product and the remainder reach 2^64 together, or the remainder lent in is not below [`DIVISOR`](crate::DIVISOR).
     ChargeTooLarge,
+    /// 38: the lost count is above 65,535, or the window's own numbers point beyond its 256 places.
+    InvalidWindow,
     /// A reply that this crate does not know: the archive is of another version.
     Unknown(Reply),
 }
@@ -283,6 +286,7 @@ impl<'m> AssignmentError<'m> {
             Self::PreBaselineBufferFull { .. } => 28,
             Self::KeyTooLong => 32,
             Self::ChargeTooLarge => 36,
+            Self::InvalidWindow => 38,
             Self::Unknown(reply) => reply.number,
         }
     }
@@ -308,6 +312,7 @@ impl<'m> AssignmentError<'m> {
             22 => Self::MalformedStore,
             32 => Self::KeyTooLong,
             36 => Self::ChargeTooLarge,
+            38 => Self::InvalidWindow,
             _ => Self::of_state(reply),
         }
     }

@@ -81,6 +81,7 @@
 //! | | [`segment_for_key`]: the segment that takes a key |
 //! | | [`key_for_hash`], [`key_in_segment`]: the key that has a hash, a key that falls in a segment |
 //! | | [`charge()`]: what a holding of a segment costs |
+//! | | [`Churn`]: sum and largest of the lost counts of the latest 256 deltas |
 //!
 //! # Memory to lend
 //!
@@ -122,6 +123,7 @@ extern crate std;
 #[allow(unsafe_code)]
 mod call;
 mod charge;
+mod churn;
 mod error;
 mod lists;
 mod names;
@@ -134,6 +136,7 @@ mod views;
 mod watch;
 
 pub use charge::{Charge, DIVISOR, charge};
+pub use churn::{CHURN_WINDOW, Churn, ChurnTotals};
 pub use error::{AssignmentError, SegmentTopicError};
 pub use lists::{apply, join, key_for_hash, key_in_segment, segment_for_key, to_pb};
 pub use names::{SegmentSource, canonical_segment_topic, parent_topic};

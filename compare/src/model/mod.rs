@@ -2,6 +2,7 @@
 //!
 //! Refusals 9 to 14 of a message's segments are the Rust's (`oracle::intake`); the rest of a call's answer is reckoned here.
 pub mod charge;
+pub mod churn;
 pub mod delta;
 pub mod identity;
 pub mod lookup;

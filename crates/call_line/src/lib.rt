@@ -29,6 +29,8 @@ pub enum Line {
     Key,
     // What a holding of a segment costs.
     Charge,
+    // Sum and largest of the lost counts.
+    Churn,
     // It is no call, and why was written.
     Damaged,
 }
@@ -128,6 +130,7 @@ fn line_at(place: usize) -> Line {
         6 => Line::Segment,
         7 => Line::Key,
         8 => Line::Charge,
+        9 => Line::Churn,
         _ => Line::Damaged,
     }
 }
@@ -136,10 +139,10 @@ fn line_at(place: usize) -> Line {
 pub fn tested(at: u64, line: &[u8]) -> Line {
     let name = lines::word(line, 0);
     let place = lines::place_of(
-        b"open update response drain begin invalidate segment key charge",
+        b"open update response drain begin invalidate segment key charge churn",
         name,
     );
-    let form = lines::word(b"cnnbbbk cnb cnb c cn c cb cn cbnnn", place);
+    let form = lines::word(b"cnnbbbk cnb cnb c cn c cb cn cbnnn c", place);
     if form.len() == 0 {
         damaged_word(at, b"unknown call ", name);
         return Line::Damaged;

@@ -1,4 +1,4 @@
--- What an exported call gives, from what the call under it gives and its answer in numbers: with an output, with a record, an opening, a kind.
+-- What an exported call gives, from what the call under it gives and its answer in numbers: with an output, with a window, with a record, an opening, a kind.
 -- Assumes nothing.
 use Prim.Native.Nat.{ℕ}
 use native.Mathlib.Omega.{arith}
@@ -16,6 +16,8 @@ use Rattle.topic.specs.declared.NameAnswer.{NameAnswer}
 use Rattle.topic.specs.Build as build
 use Rattle.output.specs.declared.WriteAnswer.{WriteAnswer}
 use Rattle.output.specs.Output as output
+use Rattle.churn.specs.declared.ChurnAnswer.{ChurnAnswer}
+use Rattle.churn.specs.Churn as window
 use Rattle.session.specs.declared.SessionRecord.{SessionRecord}
 use Rattle.session.specs.declared.Answer.{Answer}
 use Rattle.session.specs.declared.Opened.{Opened}
@@ -27,6 +29,7 @@ use Rattle.session_reply.specs.declared.SessionReply.{SessionReply}
 use Rattle.session_reply.specs.Replies.{sessionReply, openReply}
 use Rattle.export.specs.Exports.{Output, Exported, Opening, writeReply, writeOf, nameReply, nameOf, exportOf, openOf}
 use Rattle.export.specs.Exports.{Watched, watchReply, watchOf}
+use Rattle.export.specs.Exports.{Windowed, churnReply, windowOf}
 
 abbrev pub outputs : Reply → List ℕ → Output
 outputs x out = record { reply = x; out = out }
@@ -44,6 +47,13 @@ write-call {out = out} e f = ap (λ (y : Reply). outputs y out) e ∙ ap writeOf
 pub name-call :
     {x : Reply} {a : NameAnswer} {out : List ℕ} {o : build.Outcome} → x ≡ nameReply a → build.outcome a out ≡ o → outputs x out ≡ nameOf o
 name-call {out = out} e f = ap (λ (y : Reply). outputs y out) e ∙ ap nameOf f
+
+abbrev pub windowed : Reply → List ℕ → Windowed
+windowed x window = record { reply = x; window = window }
+
+pub window-call :
+    {x : Reply} {a : ChurnAnswer} {w : List ℕ} {o : window.Outcome} → x ≡ churnReply a → window.outcome a w ≡ o → windowed x w ≡ windowOf o
+window-call {w = w} e f = ap (λ (y : Reply). windowed y w) e ∙ ap windowOf f
 
 pub session-call :
     {x : SessionReply} {a : Answer} {r : SessionRecord} {store out : List ℕ} {o : Outcome} →

@@ -23,6 +23,9 @@ use Rattle.segment_key.specs.declared.KeyAnswer.{KeyAnswer}
 use Rattle.segment_key.specs.declared.KeyAnswer.the-variants as key
 use Rattle.charge.specs.declared.ChargeAnswer.{ChargeAnswer}
 use Rattle.charge.specs.declared.ChargeAnswer.the-variants as charge
+use Rattle.churn.specs.declared.ChurnAnswer.{ChurnAnswer}
+use Rattle.churn.specs.declared.ChurnAnswer.the-variants as churn
+use Rattle.churn.specs.Churn as window
 use Rattle.session.specs.declared.Match.{Match}
 use Rattle.session.specs.declared.Match.the-variants as match′
 use Rattle.session.specs.Calls.{Outcome, OpenOutcome}
@@ -75,6 +78,11 @@ unfoldable pub chargeReply : ChargeAnswer → Reply
 chargeReply (charge.Charged amount next) = takenReply found (pos amount ∷ pos next ∷ [])
 chargeReply (charge.Refused x) = refusedReply x
 
+-- sum and largest
+unfoldable pub churnReply : ChurnAnswer → Reply
+churnReply (churn.Counted t) = takenReply found (pos (t .sum) ∷ pos (t .largest) ∷ [])
+churnReply (churn.Refused x) = refusedReply x
+
 unfoldable pub matchReply : Match → Reply
 matchReply match′.Same = takenReply yes []
 matchReply match′.Other = takenReply no []
@@ -105,6 +113,14 @@ writeOf o = record { reply = writeReply (o .answer); out = o .out }
 
 abbrev pub nameOf : build.Outcome → Output
 nameOf o = record { reply = nameReply (o .answer); out = o .out }
+
+-- reply and window
+pub record Windowed : Type 0 where
+  pub reply : Reply
+  pub window : List ℕ
+
+abbrev pub windowOf : window.Outcome → Windowed
+windowOf o = record { reply = churnReply (o .answer); window = o .window }
 
 -- reply, the set's buffer, output
 pub record Watched : Type 0 where

@@ -101,6 +101,14 @@ pub fn delta_counts(s: &[u8]) {
     labelled(b" gained ", packed_int::read_u16(s, 10) as u64);
 }
 
+// How many ids the delta at the front of s loses.
+pub fn lost_count(s: &[u8]) -> u64 {
+    if s.len() < 12 {
+        return 0;
+    }
+    packed_int::read_u16(s, 8) as u64
+}
+
 // The lost ids and the gained records of the delta at the front of s, a row each.
 pub fn changes(s: &[u8]) {
     if s.len() < 12 {

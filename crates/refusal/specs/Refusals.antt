@@ -18,7 +18,7 @@ use Rattle.refusal.specs.declared.Refusal.the-variants.{DuplicateSegment
 use Rattle.refusal.specs.declared.Refusal.the-variants.{SegmentIdMismatch, MalformedInput, ResultTooLong, MalformedStore, IncarnationMismatch}
 use Rattle.refusal.specs.declared.Refusal.the-variants.{ConsumerMismatch, NonAdvancingIncarnation, CrossIncarnationEpochRegression, StaleEpoch}
 use Rattle.refusal.specs.declared.Refusal.the-variants.{PreBaselineBufferFull, WatchMismatch, MalformedSet, SetTooLong, KeyTooLong}
-use Rattle.refusal.specs.declared.Refusal.the-variants.{ChargeTooLarge}
+use Rattle.refusal.specs.declared.Refusal.the-variants.{ChargeTooLarge, InvalidWindow}
 
 abbrev pub numberOf : Refusal → ℕ
 numberOf StoreTooShort = 1
@@ -56,6 +56,7 @@ numberOf MalformedSet = 30
 numberOf SetTooLong = 31
 numberOf KeyTooLong = 32
 numberOf ChargeTooLarge = 36
+numberOf InvalidWindow = 38
 
 -- the kind of an invalid range, then that kind's numbers
 abbrev pub sourceValues : KeyRangeError → List ℤ
@@ -103,3 +104,4 @@ valuesOf MalformedSet = []
 valuesOf SetTooLong = []
 valuesOf KeyTooLong = []
 valuesOf ChargeTooLarge = []
+valuesOf InvalidWindow = []

@@ -125,6 +125,8 @@ pub enum Refusal {
     KeyTooLong,
     // 36: the holding's product and remainder reach 2^64 together, or the remainder lent in is not below the divisor.
     ChargeTooLarge,
+    // 38: a lost count is above 65,535, or the window's own numbers point beyond its 256 places.
+    InvalidWindow,
 }
 
 // The specification's number of a refusal.
@@ -187,5 +189,6 @@ pub fn number(refusal: Refusal) -> u8
         Refusal::SetTooLong => 31,
         Refusal::KeyTooLong => 32,
         Refusal::ChargeTooLarge => 36,
+        Refusal::InvalidWindow => 38,
     }
 }

@@ -25,6 +25,7 @@ with # are passed over, but counted.
   segment KEY                                               the segment held that takes a key
   key ID                                                    a key that falls in a segment held
   charge SEGMENT SECONDS RATE REMAINDER                     what a holding costs; needs no session
+  churn                                                     the lost counts; needs no session
 
 CONSUMER, INCARNATION, ID, SECONDS, RATE and REMAINDER are decimal numbers below 2^64. TOPIC,
 SUBSCRIPTION, NAME, MESSAGE, KEY and SEGMENT are bytes, at most 65536: in hexadecimal behind 0x, or
@@ -40,13 +41,16 @@ For each call a line LINE CALL ANSWER, where LINE is its number in the log and A
   ID                                         the segment that takes the key
   0xBYTES                                    the four-byte key with the smallest hash of the segment
   charged N remainder M                      N millionths of a euro; M goes into the next charge
+  lost S largest M                           of the latest 256 deltas since the last open, begin or
+                                             invalidate: the sum of their lost counts, and the largest
   delta epoch E lost L gained G              what the push changed, in numbers
   replay at PLACE epoch E lost L gained G    the same of a push of the queue, and its place
   refused N NAME V1 V2 ..                    the specification's number, the name, its numbers
 
 and behind `refused 16 Broker CODE` the broker's text: text \"..\". In quotes every byte that is
 not printable ASCII, and each quote and backslash, is written \\xHH.
-With --state:   state incarnation I floor F registered R invalidated V queue Q drained D
+With --state:   state incarnation I floor F registered R invalidated V queue Q drained D lost S
+largest M
 With --lists:   lost ID, gained ID START-END BUCKETS, and held epoch E segments N with a row
 ID START-END BUCKETS for each segment; - for no buckets.
 For a line that is no call LINE damaged: REASON; the run goes on.

@@ -20,7 +20,13 @@ fn with_waiting(run: Run, n: usize) -> Run {
 }
 
 // Runs the lines that are whole; the bytes behind them wait.
-fn run_lines(options: Options, run: Run, lines_read: &[u8], store: &mut [u8]) -> Run {
+fn run_lines(
+    options: Options,
+    run: Run,
+    lines_read: &[u8],
+    store: &mut [u8],
+    window: &mut [u8],
+) -> Run {
     let mut next = run;
     let mut at: usize = 0;
     while at < lines_read.len() {
@@ -28,22 +34,23 @@ fn run_lines(options: Options, run: Run, lines_read: &[u8], store: &mut [u8]) ->
         if lines_read.len() <= end {
             return with_waiting(next, lines_read.len() - at);
         }
-        next = step::run_line(options, next, &lines_read[at..end], store);
+        let behind = end + 1;
+        next = step::run_line(options, next, &lines_read[at..end], store, window);
         if next.is_over {
             return next;
         }
-        at = end + 1;
+        at = behind;
     }
     with_waiting(next, 0)
 }
 
 // Runs the last line, which no line break ends.
-fn run_last(options: Options, run: Run, line: &[u8], store: &mut [u8]) -> Run {
+fn run_last(options: Options, run: Run, line: &[u8], store: &mut [u8], window: &mut [u8]) -> Run {
     let mut next = run;
     if 0 < line.len() {
-        next = step::run_line(options, run, line, store);
+        next = step::run_line(options, run, line, store, window);
     } else if run.is_cut {
-        next = step::run_line(options, run, line, store);
+        next = step::run_line(options, run, line, store, window);
     }
     next.is_over = true;
     next
@@ -74,7 +81,13 @@ fn read_behind(buffer: &mut [u8], n: usize) -> usize
 }
 
 // Reads once, behind the bytes that wait, and runs the lines that are whole. Where the bytes that wait fill the buffer they are dropped.
-fn read_and_run(options: Options, run: Run, buffer: &mut [u8], store: &mut [u8]) -> Run {
+fn read_and_run(
+    options: Options,
+    run: Run,
+    buffer: &mut [u8],
+    store: &mut [u8],
+    window: &mut [u8],
+) -> Run {
     let waiting = run.waiting;
     if buffer.len() <= waiting {
         let mut next = with_waiting(run, 0);
@@ -83,9 +96,9 @@ fn read_and_run(options: Options, run: Run, buffer: &mut [u8], store: &mut [u8])
     }
     let end = waiting + read_behind(buffer, waiting);
     if end == waiting {
-        return run_last(options, run, &buffer[..waiting], store);
+        return run_last(options, run, &buffer[..waiting], store, window);
     }
-    let next = run_lines(options, run, &buffer[..end], store);
+    let next = run_lines(options, run, &buffer[..end], store, window);
     let left = next.waiting;
     if left <= end {
         move_down(buffer, end - left, left);
@@ -94,11 +107,11 @@ fn read_and_run(options: Options, run: Run, buffer: &mut [u8], store: &mut [u8])
 }
 
 // A proved loop has to end, and nothing says that the input does: the turns are counted down from a number that no run uses up.
-fn run_input(options: Options, buffer: &mut [u8], store: &mut [u8]) -> Run {
+fn run_input(options: Options, buffer: &mut [u8], store: &mut [u8], window: &mut [u8]) -> Run {
     let mut run = step::at_start();
     let mut turns = u64::MAX;
     while 0 < turns {
-        run = read_and_run(options, run, buffer, store);
+        run = read_and_run(options, run, buffer, store, window);
         if run.is_over {
             return run;
         }
@@ -107,14 +120,14 @@ fn run_input(options: Options, buffer: &mut [u8], store: &mut [u8]) -> Run {
     run
 }
 
-fn run_over(options: Options, buffer: &mut [u8; BUFFER], store: &mut [u8]) {
-    if !step::show_sum(run_input(options, buffer, store)) {
+fn run_over(options: Options, buffer: &mut [u8; BUFFER], store: &mut [u8], window: &mut [u8]) {
+    if !step::show_sum(run_input(options, buffer, store, window)) {
         os::fail(b"standard output");
     }
 }
 
-// Runs the log in standard input on a store.
-pub fn run_log(options: Options, store: &mut [u8]) {
+// Runs the log in standard input on a store, with a window of lost counts beside it.
+pub fn run_log(options: Options, store: &mut [u8], window: &mut [u8]) {
     let mut buffer = [0u8; BUFFER];
-    run_over(options, &mut buffer, store);
+    run_over(options, &mut buffer, store, window);
 }

@@ -13,6 +13,7 @@
 //     segment KEY
 //     key ID
 //     charge SEGMENT SECONDS RATE REMAINDER
+//     churn
 //
 // Each call is answered by a line `LINE CALL ANSWER`; a line that is none by `LINE damaged: REASON`, and the run goes on. The whole page is `help`.
 //
@@ -25,12 +26,13 @@ mod questions;
 mod report;
 mod segments;
 mod step;
+mod window;
 
 // The bytes of a full-size store: three slots and a queue of 1,024.
 const STORE: usize = 2103296;
 
-// Does what the program's arguments ask: runs the log in standard input on a store, or shows the help page.
-fn start(store: &mut [u8; STORE]) {
+// Does what the program's arguments ask: runs the log in standard input on a store, with a window of lost counts beside it, or shows the help page.
+fn start(store: &mut [u8; STORE], window: &mut [u8; churn::WINDOW]) {
     let options = arguments::given();
     if options.is_wrong {
         return;
@@ -39,10 +41,11 @@ fn start(store: &mut [u8; STORE]) {
         help::show();
         return;
     }
-    input::run_log(options, store);
+    input::run_log(options, store, window);
 }
 
 fn main() {
     let mut store = [0u8; STORE];
-    start(&mut store);
+    let mut window = [0u8; churn::WINDOW];
+    start(&mut store, &mut window);
 }

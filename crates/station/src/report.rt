@@ -7,6 +7,7 @@ use call_text::newline;
 use call_text::space;
 use call_text::text;
 use charge::ChargeAnswer;
+use churn::ChurnAnswer;
 use lookup::SegmentAnswer;
 use packed::SLOT;
 use refusal::Refusal;
@@ -76,6 +77,17 @@ pub fn show_charge(answer: ChargeAnswer) {
     }
 }
 
+// Sum and largest of the lost counts.
+pub fn show_churn(answer: ChurnAnswer) {
+    match answer {
+        ChurnAnswer::Counted(t) => {
+            labelled(b"lost ", t.sum);
+            labelled(b" largest ", t.largest);
+        }
+        ChurnAnswer::Refused(x) => call_text::refused(x),
+    }
+}
+
 fn show_flag(label: &[u8], b: bool) {
     text(label);
     if b {
@@ -92,8 +104,8 @@ fn show_floor(floor: Floor) {
     }
 }
 
-// The record of an open session.
-pub fn show_state(r: SessionRecord) {
+// The record of an open session, and the lost counts beside it.
+pub fn show_state(r: SessionRecord, window: &[u8]) {
     let incarnation = r.incarnation;
     let floor = r.epoch_floor;
     labelled(b"  state incarnation ", incarnation.0);
@@ -103,6 +115,8 @@ pub fn show_state(r: SessionRecord) {
     show_flag(b" invalidated ", r.invalidated);
     labelled(b" queue ", r.queue_count as u64);
     labelled(b" drained ", r.drain_position as u64);
+    space();
+    show_churn(churn::current(window));
     newline();
 }
 

@@ -6,6 +6,7 @@ use crate::calls;
 use crate::questions;
 use crate::report;
 use crate::segments;
+use crate::window;
 use call_line::CallName;
 use call_line::Line;
 use call_text::decimal;
@@ -14,6 +15,7 @@ use call_text::newline;
 use call_text::space;
 use call_text::text;
 use charge::ChargeAnswer;
+use churn::ChurnAnswer;
 use libc::STDOUT_FILENO;
 use lookup::SegmentAnswer;
 use segment_key::KeyAnswer;
@@ -92,11 +94,18 @@ fn settled(run: Run, changed: Changed) -> Run {
 }
 
 // The rows below a call that the options ask for.
-fn show_details(options: Options, run: Run, answer: Answer, store: &[u8], out: &[u8]) {
+fn show_details(
+    options: Options,
+    run: Run,
+    answer: Answer,
+    store: &[u8],
+    window: &[u8],
+    out: &[u8],
+) {
     let record = run.record;
     if options.state {
         if run.is_open {
-            report::show_state(record);
+            report::show_state(record, window);
         } else {
             text(b"  state none\n");
         }
@@ -123,14 +132,22 @@ fn show_call(at: u64, answer: Answer, line: &[u8], store: &[u8], out: &[u8]) {
 }
 
 // Runs a call and shows what it gives.
-fn run_call(options: Options, run: Run, name: CallName, line: &[u8], store: &mut [u8]) -> Run {
+fn run_call(
+    options: Options,
+    run: Run,
+    name: CallName,
+    line: &[u8],
+    store: &mut [u8],
+    window: &mut [u8],
+) -> Run {
     let mut out = [0u8; difference::LONGEST];
     let record = run.record;
     let changed = calls::call(record, name, line, store, &mut out);
     let answer = changed.answer;
+    window::after(name, answer, &out, window);
     show_call(run.line, answer, line, store, &out);
     let next = settled(run, changed);
-    show_details(options, next, answer, store, &out);
+    show_details(options, next, answer, store, window, &out);
     next
 }
 
@@ -169,6 +186,19 @@ fn run_charge(run: Run, line: &[u8]) -> Run {
     report::show_charge(answer);
     newline();
     if let ChargeAnswer::Refused(_) = answer {
+        counted(run, true)
+    } else {
+        counted(run, false)
+    }
+}
+
+// Shows sum and largest of the lost counts. Nothing is changed but the counts of calls.
+fn run_churn(run: Run, line: &[u8], window: &[u8]) -> Run {
+    let answer = churn::current(window);
+    show_name(run.line, line);
+    report::show_churn(answer);
+    newline();
+    if let ChurnAnswer::Refused(_) = answer {
         counted(run, true)
     } else {
         counted(run, false)
@@ -218,18 +248,32 @@ fn needs_session(tested: Line) -> bool {
 }
 
 // Runs a line that was tested.
-fn run_tested(options: Options, run: Run, tested: Line, line: &[u8], store: &mut [u8]) -> Run {
+fn run_tested(
+    options: Options,
+    run: Run,
+    tested: Line,
+    line: &[u8],
+    store: &mut [u8],
+    window: &mut [u8],
+) -> Run {
     match tested {
         Line::Damaged => with_damaged(options, run),
         Line::Segment => run_segment(run, line, store),
         Line::Key => run_key(run, line, store),
         Line::Charge => run_charge(run, line),
-        Line::Call(name) => run_call(options, run, name, line, store),
+        Line::Churn => run_churn(run, line, window),
+        Line::Call(name) => run_call(options, run, name, line, store, window),
     }
 }
 
 // Runs a line, and shows what comes of it.
-pub fn run_line(options: Options, run: Run, line: &[u8], store: &mut [u8]) -> Run {
+pub fn run_line(
+    options: Options,
+    run: Run,
+    line: &[u8],
+    store: &mut [u8],
+    window: &mut [u8],
+) -> Run {
     let mut next = run;
     next.line = one_more(run.line);
     if next.is_cut {
@@ -244,7 +288,7 @@ pub fn run_line(options: Options, run: Run, line: &[u8], store: &mut [u8]) -> Ru
     if needs_session(tested) && !next.is_open {
         return without_session(options, next);
     }
-    run_tested(options, next, tested, line, store)
+    run_tested(options, next, tested, line, store, window)
 }
 
 // `C calls: A accepted, R refused; D damaged lines`. Whether standard output takes it.

@@ -1,0 +1,4 @@
+pub mod Window
+pub mod Churn
+pub mod Fresh
+pub mod Rows
