@@ -4,6 +4,7 @@
 The messages are put into bytes by tools/assignment_vectors.py, the hostile ones here, field by field.
 """
 from assignment_vectors import Assignment, Segment, name_of, number_field, pack_segment, part_field, segment_message, to_pb
+from hours_vectors import at, of_week, packed
 from vectors import CRATES
 
 PARENT = b"topic://polar/uplink/contacts"
@@ -19,6 +20,11 @@ EAST_LOW = Segment(1, 0x4000, 0x7FFF, ((0x4000, 0x5FFF),))
 EAST_WHOLE = Segment(1, 0x4000, 0x7FFF, ((0x4000, 0x7FFF),))
 SOUTH = Segment(2, 0x8000, 0xBFFF, ())
 WEST = Segment(9, 0xC000, 0xFFFF, ())
+
+# its contract, around the leap day of 2024
+PASS, LAST_PASS = (2024, 2, 29), (2024, 3, 7)
+WINDOWS = [(of_week("Thursday", 6), of_week("Thursday", 9)), (of_week("Saturday"), of_week("Saturday", 1))]
+CONTRACT = packed([(at(*PASS), at(*LAST_PASS, 8))], WINDOWS)
 
 
 def assignment(epoch, *segments):
@@ -165,6 +171,19 @@ def charges():
     yield "charge", pack_segment(NORTH), 3600, b"2.50", 0
 
 
+def hours():
+    yield "# The station may attach from Thursday 2024-02-29 to Thursday 2024-03-07 08:00: Thursdays 06:00 to 09:00, Saturdays until 01:00."
+    yield "is_open", CONTRACT, at(*PASS, 6)
+    yield "is_open", CONTRACT, at(*PASS, 9)
+    yield "# The first second of all; the next behind Thursday's end, on Saturday; none behind the term's end."
+    yield "earliest_open", CONTRACT, 0
+    yield "earliest_open", CONTRACT, at(*PASS, 9)
+    yield "earliest_open", CONTRACT, at(*LAST_PASS, 8)
+    yield "# A contract that is cut short; no number."
+    yield "is_open", CONTRACT[:-1], 0
+    yield "is_open", CONTRACT, b"noon"
+
+
 def shown(word):
     """A word of a line: plain texts as they stand, all other bytes in hexadecimal."""
     if not isinstance(word, bytes):
@@ -178,7 +197,7 @@ def line(step):
 
 def main():
     head = "# A pass of the station svalbard-2 as a log of calls, written by tools/example_log.py. The answers stand in stdout."
-    parts = [[head], first_link(), pushes(), second_link(), damage(), questions(), charges()]
+    parts = [[head], first_link(), pushes(), second_link(), damage(), questions(), charges(), hours()]
     text = "\n\n".join("\n".join(map(line, part)) for part in parts)
     (CRATES / "station" / "stdin").write_text(text + "\n", encoding="ascii")
 

@@ -25,6 +25,10 @@ extern "C" {
 #define CUDDREWYN_DIVISOR 235929600
 /* A window of lost counts. */
 #define CUDDREWYN_CHURN_WINDOW 514
+/* The most terms and weekly windows of a contract, and the seconds of a week. */
+#define CUDDREWYN_MAX_TERMS 64
+#define CUDDREWYN_MAX_WINDOWS 28
+#define CUDDREWYN_WEEK 604800
 /* Where the baseline and the list held stand in the store. */
 #define CUDDREWYN_BASELINE 2048
 #define CUDDREWYN_LIST 4096
@@ -154,6 +158,19 @@ cuddrewyn_reply cuddrewyn_churn_clear(uint8_t *window, size_t window_len);
 
 /* Sum and largest as they stand: FOUND as in cuddrewyn_churn_push; both are 0 when there are none. Refuses 38 for the window. */
 cuddrewyn_reply cuddrewyn_churn_current(const uint8_t *window, size_t window_len);
+
+/* A contract: the number of terms and that of weekly windows, 16 bits each, then start and end of each term and of each
+ * window, 64 bits each, most significant bit first. A term is in seconds since 2000-01-01 00:00 UTC, a Saturday, a
+ * window in seconds of a week that starts on Saturday. A start is inside, an end is outside; they may overlap. A second
+ * is open if some term and some window hold it.
+ * Both calls refuse 35: more than CUDDREWYN_MAX_TERMS or CUDDREWYN_MAX_WINDOWS, an end not after its start, a window's
+ * end above CUDDREWYN_WEEK, or another length than the counts give. */
+
+/* Whether a second is open. YES or NO. */
+cuddrewyn_reply cuddrewyn_is_open(const uint8_t *contract, size_t contract_len, uint64_t second);
+
+/* The earliest open second not before the one given. FOUND: first is that second. NO: none from there on is open. */
+cuddrewyn_reply cuddrewyn_earliest_open(const uint8_t *contract, size_t contract_len, uint64_t second);
 
 /* The name of a segment. WRITTEN: first is its length in out. Refuses 7, 9, 12, 21. */
 cuddrewyn_reply cuddrewyn_segment_topic(const uint8_t *parent, size_t parent_len, uint32_t start, uint32_t end, uint64_t segment_id, uint8_t *out,

@@ -250,6 +250,39 @@ static void churn(void) {
     free(before);
 }
 
+static void put_span(uint8_t *at, uint64_t start, uint64_t end) {
+    for (int byte = 0; byte < 8; byte++) {
+        at[byte] = (uint8_t)(start >> (56 - 8 * byte));
+        at[8 + byte] = (uint8_t)(end >> (56 - 8 * byte));
+    }
+}
+
+/* A term from Thursday 2024-02-29 00:00 on, Fridays from 22:00 to the week's end, Saturdays until 01:00. */
+static void hours(void) {
+    enum { CONTRACT = 4 + 3 * 16 };
+    const uint64_t leap = 762480000, turn = leap + 172800, last = UINT64_MAX;
+    uint8_t *contract = lend(CONTRACT);
+    contract[1] = 1, contract[3] = 2;
+    put_span(contract + 4, leap, last);
+    put_span(contract + 20, 597600, CUDDREWYN_WEEK);
+    put_span(contract + 36, 0, 3600);
+    check_reply(cuddrewyn_is_open(contract, CONTRACT, turn - 7201), plain(CUDDREWYN_NO));
+    check_reply(cuddrewyn_is_open(contract, CONTRACT, turn - 7200), plain(CUDDREWYN_YES));
+    check_reply(cuddrewyn_is_open(contract, CONTRACT, turn), plain(CUDDREWYN_YES));
+    check_reply(cuddrewyn_is_open(contract, CONTRACT, turn + 3600), plain(CUDDREWYN_NO));
+    check_reply(cuddrewyn_is_open(contract, CONTRACT, turn - CUDDREWYN_WEEK), plain(CUDDREWYN_NO));
+    check_reply(cuddrewyn_earliest_open(contract, CONTRACT, 0), one(CUDDREWYN_FOUND, turn - 7200));
+    check_reply(cuddrewyn_earliest_open(contract, CONTRACT, turn - 1), one(CUDDREWYN_FOUND, turn - 1));
+    check_reply(cuddrewyn_earliest_open(contract, CONTRACT, turn + 3600),
+                one(CUDDREWYN_FOUND, turn + CUDDREWYN_WEEK - 7200));
+    check_reply(cuddrewyn_earliest_open(contract, CONTRACT, last), plain(CUDDREWYN_NO));
+    check_reply(cuddrewyn_is_open(contract, CONTRACT - 1, turn), refused(35, 0, 0, 0, 0, 0));
+    put_span(contract + 20, 597600, CUDDREWYN_WEEK + 1);
+    check_reply(cuddrewyn_is_open(contract, CONTRACT, turn), refused(35, 0, 0, 0, 0, 0));
+    check_reply(cuddrewyn_earliest_open(contract, CONTRACT, turn), refused(35, 0, 0, 0, 0, 0));
+    free(contract);
+}
+
 static void names(void) {
     static const uint8_t name[] = "segment://a/b/c/0010-00ff-12";
     size_t length = sizeof name - 1;
@@ -288,6 +321,7 @@ int main(void) {
     test_keys();
     charges();
     churn();
+    hours();
     names();
     ranges();
     free(store);

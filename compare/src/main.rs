@@ -15,6 +15,7 @@ mod charges;
 mod churns;
 mod either_order;
 mod generate;
+mod hours;
 mod keys;
 mod lists;
 #[cfg_attr(not(feature = "watch"), allow(dead_code))]

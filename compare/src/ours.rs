@@ -121,6 +121,16 @@ pub fn churn_current(window: &mut [u8]) -> Reply {
     spoiled_reply(Call::ChurnCurrent, reply, &mut [window])
 }
 
+pub fn is_open(contract: &mut [u8], second: u64) -> Reply {
+    let reply = unsafe { raw::cuddrewyn_is_open(contract.as_ptr(), contract.len(), second) };
+    spoiled_reply(Call::IsOpen, reply, &mut [contract])
+}
+
+pub fn earliest_open(contract: &mut [u8], second: u64) -> Reply {
+    let reply = unsafe { raw::cuddrewyn_earliest_open(contract.as_ptr(), contract.len(), second) };
+    spoiled_reply(Call::EarliestOpen, reply, &mut [contract])
+}
+
 pub fn segment_topic(parent: &mut [u8], range: (u32, u32), id: u64, out: &mut [u8]) -> Reply {
     let reply = unsafe { raw::cuddrewyn_segment_topic(parent.as_ptr(), parent.len(), range.0, range.1, id, out.as_mut_ptr(), out.len()) };
     spoiled_reply(Call::SegmentTopic, reply, &mut [parent, out])

@@ -2,6 +2,7 @@
 use crate::charges::{self, Charges};
 use crate::churns::{self, Churns};
 use crate::either_order::{self, EitherOrder};
+use crate::hours::{self, Hours};
 use crate::keys::{self, Keys};
 use crate::lists::{self, Lists};
 use crate::names::Names;
@@ -32,6 +33,8 @@ pub fn directed(tally: &mut Tally, seed: u64) {
     charges::directed(tally);
     tally.place = CHURN.into();
     churns::directed(tally);
+    tally.place = HOURS.into();
+    hours::directed(tally);
     #[cfg(feature = "watch")]
     {
         tally.place = "long topics".into();
@@ -48,6 +51,7 @@ enum Work {
     Keys(Keys),
     Charges(Charges),
     Churns(Churns),
+    Hours(Hours),
     Short(Short),
     #[cfg(feature = "watch")]
     Watch(crate::watch::Watch),
@@ -65,6 +69,7 @@ impl Work {
             Self::Keys(keys) => keys.step(tally),
             Self::Charges(charges) => charges.step(tally),
             Self::Churns(churns) => churns.step(tally),
+            Self::Hours(hours) => hours.step(tally),
             Self::Short(short) => return short.step(tally),
             #[cfg(feature = "watch")]
             Self::Watch(watch) => watch.step(tally),
@@ -106,6 +111,7 @@ pub const EITHER_ORDER: &str = "deltas in either order";
 pub const KEYS: &str = "keys and their segments";
 pub const CHARGES: &str = "charges of holdings";
 pub const CHURN: &str = "windows of lost counts";
+pub const HOURS: &str = "pass hours";
 pub const WATCH: &str = "topics watch";
 
 impl Parts {
@@ -124,6 +130,7 @@ impl Parts {
             (KEYS, 1, Work::Keys(Keys::new(seed))),
             (CHARGES, 1, Work::Charges(Charges::new(seed))),
             (CHURN, 1, Work::Churns(Churns::new(seed))),
+            (HOURS, 1, Work::Hours(Hours::new(seed))),
             #[cfg(feature = "watch")]
             (WATCH, 5, Work::Watch(crate::watch::Watch::new(seed))),
         ];

@@ -164,6 +164,16 @@ pub(crate) fn churn_current(window: &[u8]) -> Reply {
     unsafe { raw::cuddrewyn_churn_current(window.as_ptr(), window.len()) }
 }
 
+pub(crate) fn is_open(contract: &[u8], second: u64) -> Reply {
+    // SAFETY: a slice as pointer and length of a live reference; it is not written.
+    unsafe { raw::cuddrewyn_is_open(contract.as_ptr(), contract.len(), second) }
+}
+
+pub(crate) fn earliest_open(contract: &[u8], second: u64) -> Reply {
+    // SAFETY: a slice as pointer and length of a live reference; it is not written.
+    unsafe { raw::cuddrewyn_earliest_open(contract.as_ptr(), contract.len(), second) }
+}
+
 pub(crate) fn segment_topic(parent: &str, start: u32, end: u32, segment_id: u64, out: &mut [u8]) -> Reply {
     // SAFETY: two slices as pointer and length of live references; `out`, the only one written, is exclusive.
     unsafe {

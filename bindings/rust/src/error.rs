@@ -32,6 +32,7 @@ pub(crate) fn own_text(number: u8) -> &'static str {
         30 => "the topic set is malformed",
         31 => "the topic set does not fit its buffer, or a topic is longer than 65535 bytes",
         32 => "the key is longer than 65535 bytes",
+        35 => "the contract has a span that ends before it starts, a window beyond the week or a count too large",
         36 => "the charge is beyond 64 bits, or the remainder is not below 235929600",
         38 => "the lost count is above 65535, or the window points beyond its 256 places",
         _ => "the call is refused",
@@ -245,6 +246,8 @@ pub enum AssignmentError<'m> {
     MalformedStore,
     /// 32: the key is longer than [`LONGEST_KEY`](crate::LONGEST_KEY).
     KeyTooLong,
+    /// 35: the contract has an end not after its start, a window beyond the week or a count too large.
+    InvalidContract,
     /// 36: the product and the remainder reach 2^64 together, or the remainder lent in is not below [`DIVISOR`](crate::DIVISOR).
     ChargeTooLarge,
     /// 38: the lost count is above 65,535, or the window's own numbers point beyond its 256 places.
@@ -285,6 +288,7 @@ impl<'m> AssignmentError<'m> {
             Self::StaleEpoch { .. } => 27,
             Self::PreBaselineBufferFull { .. } => 28,
             Self::KeyTooLong => 32,
+            Self::InvalidContract => 35,
             Self::ChargeTooLarge => 36,
             Self::InvalidWindow => 38,
             Self::Unknown(reply) => reply.number,
@@ -311,6 +315,7 @@ impl<'m> AssignmentError<'m> {
             21 => Self::ResultTooLong,
             22 => Self::MalformedStore,
             32 => Self::KeyTooLong,
+            35 => Self::InvalidContract,
             36 => Self::ChargeTooLarge,
             38 => Self::InvalidWindow,
             _ => Self::of_state(reply),

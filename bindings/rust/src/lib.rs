@@ -82,6 +82,7 @@
 //! | | [`key_for_hash`], [`key_in_segment`]: the key that has a hash, a key that falls in a segment |
 //! | | [`charge()`]: what a holding of a segment costs |
 //! | | [`Churn`]: sum and largest of the lost counts of the latest 256 deltas |
+//! | | [`is_open`], [`earliest_open`]: the hours that a [`Contract`] leaves open |
 //!
 //! # Memory to lend
 //!
@@ -94,6 +95,7 @@
 //! | output of [`to_pb`] | [`to_pb_room`](ConsumerAssignment::to_pb_room) |
 //! | output of a segment's name | the parent's length + [`SEGMENT_TOPIC_EXTRA`] |
 //! | output of a parent | the name's length |
+//! | output of [`Contract::pack`] | [`contract_len`]`(terms, windows)` |
 //! | buffer of the watch | 2 and the length for each topic |
 //! | output of the watch | 1 + the new set for a snapshot, 5 + both lists for a diff |
 //!
@@ -125,6 +127,7 @@ mod call;
 mod charge;
 mod churn;
 mod error;
+mod hours;
 mod lists;
 mod names;
 #[allow(unsafe_code, missing_docs)]
@@ -138,6 +141,7 @@ mod watch;
 pub use charge::{Charge, DIVISOR, charge};
 pub use churn::{CHURN_WINDOW, Churn, ChurnTotals};
 pub use error::{AssignmentError, SegmentTopicError};
+pub use hours::{Contract, MAX_TERMS, MAX_WINDOWS, Span, WEEK, contract_len, earliest_open, is_open};
 pub use lists::{apply, join, key_for_hash, key_in_segment, segment_for_key, to_pb};
 pub use names::{SegmentSource, canonical_segment_topic, parent_topic};
 pub use raw::Record;

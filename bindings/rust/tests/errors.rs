@@ -68,6 +68,7 @@ fn texts_and_numbers_of_our_own() {
         (E::ResultTooLong, 21, "the result does not fit the output"),
         (E::MalformedStore, 22, "the record or a slot of the store is malformed"),
         (E::KeyTooLong, 32, "the key is longer than 65535 bytes"),
+        (E::InvalidContract, 35, "the contract has a span that ends before it starts, a window beyond the week or a count too large"),
         (E::ChargeTooLarge, 36, "the charge is beyond 64 bits, or the remainder is not below 235929600"),
         (E::InvalidWindow, 38, "the lost count is above 65535, or the window points beyond its 256 places"),
         (E::Unknown(reply), 77, "answer 9 with number 77 is not known to these bindings"),

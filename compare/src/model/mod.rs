@@ -4,6 +4,7 @@
 pub mod charge;
 pub mod churn;
 pub mod delta;
+pub mod hours;
 pub mod identity;
 pub mod lookup;
 pub mod messages;

@@ -31,6 +31,10 @@ pub enum Line {
     Charge,
     // Sum and largest of the lost counts.
     Churn,
+    // Whether a second is open by a contract.
+    IsOpen,
+    // The earliest open second not before one.
+    EarliestOpen,
     // It is no call, and why was written.
     Damaged,
 }
@@ -131,6 +135,8 @@ fn line_at(place: usize) -> Line {
         7 => Line::Key,
         8 => Line::Charge,
         9 => Line::Churn,
+        10 => Line::IsOpen,
+        11 => Line::EarliestOpen,
         _ => Line::Damaged,
     }
 }
@@ -139,10 +145,10 @@ fn line_at(place: usize) -> Line {
 pub fn tested(at: u64, line: &[u8]) -> Line {
     let name = lines::word(line, 0);
     let place = lines::place_of(
-        b"open update response drain begin invalidate segment key charge churn",
+        b"open update response drain begin invalidate segment key charge churn is_open earliest_open",
         name,
     );
-    let form = lines::word(b"cnnbbbk cnb cnb c cn c cb cn cbnnn c", place);
+    let form = lines::word(b"cnnbbbk cnb cnb c cn c cb cn cbnnn c cbn cbn", place);
     if form.len() == 0 {
         damaged_word(at, b"unknown call ", name);
         return Line::Damaged;

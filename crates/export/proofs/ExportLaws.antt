@@ -22,13 +22,15 @@ use Rattle.session.specs.declared.SessionRecord.{SessionRecord}
 use Rattle.session.specs.declared.Answer.{Answer}
 use Rattle.session.specs.declared.Opened.{Opened}
 use Rattle.session.specs.Calls.{Outcome, OpenOutcome, outcome}
+use Rattle.hours.specs.declared.EarliestAnswer.{EarliestAnswer}
+use Rattle.hours.specs.Hours.{Earliest}
 use Rattle.watch.specs.declared.WatchAnswer.{WatchAnswer}
 use Rattle.watch.specs.Watch as watch
 use Rattle.reply.specs.declared.Reply.{Reply}
 use Rattle.session_reply.specs.declared.SessionReply.{SessionReply}
 use Rattle.session_reply.specs.Replies.{sessionReply, openReply}
 use Rattle.export.specs.Exports.{Output, Exported, Opening, writeReply, writeOf, nameReply, nameOf, exportOf, openOf}
-use Rattle.export.specs.Exports.{Watched, watchReply, watchOf}
+use Rattle.export.specs.Exports.{Watched, watchReply, watchOf, earliestReply, EarliestReply}
 use Rattle.export.specs.Exports.{Windowed, churnReply, windowOf}
 
 abbrev pub outputs : Reply → List ℕ → Output
@@ -64,6 +66,11 @@ pub open-call :
     (consumer : ℕ) (link : ControllerIncarnation) {x : SessionReply} {a : Opened} {store : List ℕ} {o : OpenOutcome} →
     x ≡ openReply consumer link a → record { answer = a; store = store } ≡ o → opening x store ≡ openOf consumer link o
 open-call consumer link {store = store} e f = ap (λ (y : SessionReply). opening y store) e ∙ ap (openOf consumer link) f
+
+pub earliest-call :
+    {contract : List ℕ} {second : ℕ} {x : Reply} (a : EarliestAnswer) →
+    Earliest contract second a → x ≡ earliestReply a → EarliestReply contract second x
+earliest-call a h e = record { answer = a; earliest = h; reply-is = e }
 
 abbrev pub watched : Reply → List ℕ → List ℕ → Watched
 watched x buffer out = record { reply = x; buffer = buffer; out = out }

@@ -1,6 +1,7 @@
 -- The exported calls: each is a call of 01, its answer in numbers and the record as a plain struct.
 -- Assumes nothing.
 use Prim.Native.Nat.{ℕ}
+use mathlib.Core.Path.{_≡_}
 use mathlib.Core.List.{List, [], _∷_}
 use lib.IntN.{pos}
 use Rattle.types.specs.declared.ControllerIncarnation.{ControllerIncarnation}
@@ -26,6 +27,11 @@ use Rattle.charge.specs.declared.ChargeAnswer.the-variants as charge
 use Rattle.churn.specs.declared.ChurnAnswer.{ChurnAnswer}
 use Rattle.churn.specs.declared.ChurnAnswer.the-variants as churn
 use Rattle.churn.specs.Churn as window
+use Rattle.hours.specs.declared.OpenAnswer.{OpenAnswer}
+use Rattle.hours.specs.declared.OpenAnswer.the-variants as hours
+use Rattle.hours.specs.declared.EarliestAnswer.{EarliestAnswer}
+use Rattle.hours.specs.declared.EarliestAnswer.the-variants as earliest
+use Rattle.hours.specs.Hours.{Earliest}
 use Rattle.session.specs.declared.Match.{Match}
 use Rattle.session.specs.declared.Match.the-variants as match′
 use Rattle.session.specs.Calls.{Outcome, OpenOutcome}
@@ -83,6 +89,17 @@ unfoldable pub churnReply : ChurnAnswer → Reply
 churnReply (churn.Counted t) = takenReply found (pos (t .sum) ∷ pos (t .largest) ∷ [])
 churnReply (churn.Refused x) = refusedReply x
 
+-- whether a second is open
+unfoldable pub hoursReply : OpenAnswer → Reply
+hoursReply (hours.Told b) = testReply b
+hoursReply (hours.Refused x) = refusedReply x
+
+-- the earliest open second
+unfoldable pub earliestReply : EarliestAnswer → Reply
+earliestReply (earliest.At s) = takenReply found (pos s ∷ [])
+earliestReply earliest.NoneOpen = takenReply no []
+earliestReply (earliest.Refused x) = refusedReply x
+
 unfoldable pub matchReply : Match → Reply
 matchReply match′.Same = takenReply yes []
 matchReply match′.Other = takenReply no []
@@ -102,6 +119,12 @@ pub record Exported : Type 0 where
 
 abbrev pub exportOf : Outcome → Exported
 exportOf o = record { call = sessionReply (o .answer) (o .next); store = o .store; out = o .out }
+
+-- the one answer that `Earliest` has, in numbers
+pub record EarliestReply (contract : List ℕ) (second : ℕ) (x : Reply) : Type 0 where
+  pub answer : EarliestAnswer
+  pub earliest : Earliest contract second answer
+  pub reply-is : x ≡ earliestReply answer
 
 -- reply and output
 pub record Output : Type 0 where

@@ -4,6 +4,7 @@
 // A session's record goes in by value and comes back in the reply; store, message and output are lent. A slice is a pointer and a length.
 mod charge_calls;
 mod churn_calls;
+mod hours_calls;
 mod key_calls;
 mod list_calls;
 mod name_calls;

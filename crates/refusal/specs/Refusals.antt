@@ -18,7 +18,7 @@ use Rattle.refusal.specs.declared.Refusal.the-variants.{DuplicateSegment
 use Rattle.refusal.specs.declared.Refusal.the-variants.{SegmentIdMismatch, MalformedInput, ResultTooLong, MalformedStore, IncarnationMismatch}
 use Rattle.refusal.specs.declared.Refusal.the-variants.{ConsumerMismatch, NonAdvancingIncarnation, CrossIncarnationEpochRegression, StaleEpoch}
 use Rattle.refusal.specs.declared.Refusal.the-variants.{PreBaselineBufferFull, WatchMismatch, MalformedSet, SetTooLong, KeyTooLong}
-use Rattle.refusal.specs.declared.Refusal.the-variants.{ChargeTooLarge, InvalidWindow}
+use Rattle.refusal.specs.declared.Refusal.the-variants.{InvalidContract, ChargeTooLarge, InvalidWindow}
 
 abbrev pub numberOf : Refusal → ℕ
 numberOf StoreTooShort = 1
@@ -55,6 +55,7 @@ numberOf (WatchMismatch got expected) = 29
 numberOf MalformedSet = 30
 numberOf SetTooLong = 31
 numberOf KeyTooLong = 32
+numberOf InvalidContract = 35
 numberOf ChargeTooLarge = 36
 numberOf InvalidWindow = 38
 
@@ -103,5 +104,6 @@ valuesOf (WatchMismatch got expected) = pos got ∷ pos expected ∷ []
 valuesOf MalformedSet = []
 valuesOf SetTooLong = []
 valuesOf KeyTooLong = []
+valuesOf InvalidContract = []
 valuesOf ChargeTooLarge = []
 valuesOf InvalidWindow = []

@@ -123,6 +123,8 @@ pub enum Refusal {
     SetTooLong,
     // 32: a key is longer than 65,535 bytes.
     KeyTooLong,
+    // 35: a contract has an end not after its start, a window beyond the week or a count too large.
+    InvalidContract,
     // 36: the holding's product and remainder reach 2^64 together, or the remainder lent in is not below the divisor.
     ChargeTooLarge,
     // 38: a lost count is above 65,535, or the window's own numbers point beyond its 256 places.
@@ -188,6 +190,7 @@ pub fn number(refusal: Refusal) -> u8
         Refusal::MalformedSet => 30,
         Refusal::SetTooLong => 31,
         Refusal::KeyTooLong => 32,
+        Refusal::InvalidContract => 35,
         Refusal::ChargeTooLarge => 36,
         Refusal::InvalidWindow => 38,
     }

@@ -14,6 +14,8 @@
 //     key ID
 //     charge SEGMENT SECONDS RATE REMAINDER
 //     churn
+//     is_open CONTRACT SECOND
+//     earliest_open CONTRACT SECOND
 //
 // Each call is answered by a line `LINE CALL ANSWER`; a line that is none by `LINE damaged: REASON`, and the run goes on. The whole page is `help`.
 //

@@ -1,5 +1,7 @@
 // Questions that need no session: a line holds all that is asked about.
 use charge::ChargeAnswer;
+use hours::EarliestAnswer;
+use hours::OpenAnswer;
 
 // charge SEGMENT SECONDS RATE REMAINDER
 pub fn charge(line: &[u8]) -> ChargeAnswer {
@@ -11,4 +13,18 @@ pub fn charge(line: &[u8]) -> ChargeAnswer {
         lines::number_at(line, 3),
         lines::number_at(line, 4),
     )
+}
+
+// is_open CONTRACT SECOND
+pub fn is_open(line: &[u8]) -> OpenAnswer {
+    let mut contract = io::large_buffer();
+    let n = lines::bytes_at(line, 1, &mut contract);
+    hours::is_open(&contract[..n], lines::number_at(line, 2))
+}
+
+// earliest_open CONTRACT SECOND
+pub fn earliest_open(line: &[u8]) -> EarliestAnswer {
+    let mut contract = io::large_buffer();
+    let n = lines::bytes_at(line, 1, &mut contract);
+    hours::earliest_open(&contract[..n], lines::number_at(line, 2))
 }

@@ -8,6 +8,8 @@ use call_text::space;
 use call_text::text;
 use charge::ChargeAnswer;
 use churn::ChurnAnswer;
+use hours::EarliestAnswer;
+use hours::OpenAnswer;
 use lookup::SegmentAnswer;
 use packed::SLOT;
 use refusal::Refusal;
@@ -88,12 +90,29 @@ pub fn show_churn(answer: ChurnAnswer) {
     }
 }
 
+// The earliest open second.
+pub fn show_earliest(answer: EarliestAnswer) {
+    match answer {
+        EarliestAnswer::At(second) => decimal(second),
+        EarliestAnswer::NoneOpen => text(b"none"),
+        EarliestAnswer::Refused(x) => call_text::refused(x),
+    }
+}
+
 fn show_flag(label: &[u8], b: bool) {
     text(label);
     if b {
         text(b"yes");
     } else {
         text(b"no");
+    }
+}
+
+// Whether a second is open.
+pub fn show_open(answer: OpenAnswer) {
+    match answer {
+        OpenAnswer::Told(b) => show_flag(b"", b),
+        OpenAnswer::Refused(x) => call_text::refused(x),
     }
 }
 

@@ -16,6 +16,8 @@ use call_text::space;
 use call_text::text;
 use charge::ChargeAnswer;
 use churn::ChurnAnswer;
+use hours::EarliestAnswer;
+use hours::OpenAnswer;
 use libc::STDOUT_FILENO;
 use lookup::SegmentAnswer;
 use segment_key::KeyAnswer;
@@ -205,6 +207,32 @@ fn run_churn(run: Run, line: &[u8], window: &[u8]) -> Run {
     }
 }
 
+// Shows whether the second of a line is open by its contract. Nothing is changed but the counts.
+fn run_is_open(run: Run, line: &[u8]) -> Run {
+    let answer = questions::is_open(line);
+    show_name(run.line, line);
+    report::show_open(answer);
+    newline();
+    if let OpenAnswer::Refused(_) = answer {
+        counted(run, true)
+    } else {
+        counted(run, false)
+    }
+}
+
+// Shows the earliest open second not before that of a line. Nothing is changed but the counts.
+fn run_earliest_open(run: Run, line: &[u8]) -> Run {
+    let answer = questions::earliest_open(line);
+    show_name(run.line, line);
+    report::show_earliest(answer);
+    newline();
+    if let EarliestAnswer::Refused(_) = answer {
+        counted(run, true)
+    } else {
+        counted(run, false)
+    }
+}
+
 // The run behind a damaged line.
 fn with_damaged(options: Options, run: Run) -> Run {
     let mut next = run;
@@ -262,6 +290,8 @@ fn run_tested(
         Line::Key => run_key(run, line, store),
         Line::Charge => run_charge(run, line),
         Line::Churn => run_churn(run, line, window),
+        Line::IsOpen => run_is_open(run, line),
+        Line::EarliestOpen => run_earliest_open(run, line),
         Line::Call(name) => run_call(options, run, name, line, store, window),
     }
 }

@@ -1,0 +1,3 @@
+pub mod SpanLaws
+pub mod HoursLaws
+pub mod EarliestRows

@@ -1,0 +1,4 @@
+pub mod Contract
+pub mod Hours
+pub mod Rows
+pub mod Steps
