@@ -215,9 +215,10 @@ def writes(pairs):
     yield "# parents: not UTF-8, also where the form is wrong too; no parents; both before the room, malformed before all"
     for parent in (
         b"topic://t/n/\xff", b"\xff", b"topic://t//m", b"topic://t/n", b"topic://t/n/", b"topic://t/n/m/", b"topic://t/n/m?", b"topic://t/n/a#b", b"",
+        b"topic://t?/n/m", b"topic://t/#n/m", "topic://t?/n#/é".encode(),
     ):
         yield line("to_pb", row_a, parent, 0)
-    yield line("to_pb", row_a, "topic://t?/n#/é".encode(), 80)
+    yield line("to_pb", row_a, "topic://t-/n_/é".encode(), 80)
     for a in (row_a[:-1], row_a + b"\0", b"", sheet(*BARE), sheet(half(1, (0, 5), (5, 9)))):
         yield line("to_pb", a, b"\xff", 0)
 
@@ -314,6 +315,11 @@ def refused_messages():
     yield "# no parent: behind a segment's own ranges, before its name; not looked at where there is no segment"
     for parent in (b"", b"topic://t//m", b"topic://a/b", b"segment://a/b/c", b"topic://a/b/c/"):
         yield update(wire(1), parent=parent)
+    for path in (b"t?/n/m", b"t/n#/m"):
+        yield update(wire(1, path=path), parent=b"topic://" + path)
+        yield update(wire(1, 9, 3, path=path), parent=b"topic://" + path)
+        yield update(wire(1, 0, 9, (1, 2), (2, 3), path=path), parent=b"topic://" + path)
+        yield update(parent=b"topic://" + path)
     yield update(wire(1, 0, 9, (1, 2), (2, 3)), parent=b"")
     yield update(wire(1, name=b""), parent=b"")
     yield "# names: of another id, range, parent; in upper case; with zeros; cut; longer; none; and a name that is not UTF-8 of such a parent"

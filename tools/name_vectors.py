@@ -44,7 +44,7 @@ def parent_path(parent):
         raise Refused(12)
     path = parent[len(b"topic://"):]
     parts = path.split(b"/", 2)
-    if len(parts) < 3 or not all(parts) or parts[2].endswith(b"/") or re.search(rb"[?#]", parts[2]):
+    if len(parts) < 3 or not all(parts) or parts[2].endswith(b"/") or any(re.search(rb"[?#]", part) for part in parts):
         raise Refused(12)
     return path
 

@@ -172,7 +172,8 @@ cuddrewyn_reply cuddrewyn_is_open(const uint8_t *contract, size_t contract_len, 
 /* The earliest open second not before the one given. FOUND: first is that second. NO: none from there on is open. */
 cuddrewyn_reply cuddrewyn_earliest_open(const uint8_t *contract, size_t contract_len, uint64_t second);
 
-/* The name of a segment. WRITTEN: first is its length in out. Refuses 7, 9, 12, 21. */
+/* The name of a segment. WRITTEN: first is its length in out. Refuses 7, 9, 12 (the parent is no topic://tenant/namespace/name, or has ? or # in
+ * a part), 21. */
 cuddrewyn_reply cuddrewyn_segment_topic(const uint8_t *parent, size_t parent_len, uint32_t start, uint32_t end, uint64_t segment_id, uint8_t *out,
                                         size_t out_len);
 

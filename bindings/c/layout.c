@@ -295,6 +295,10 @@ static void names(void) {
     check_reply(cuddrewyn_parent_topic(name, length, out, OUT), one(CUDDREWYN_WRITTEN, TOPIC_LEN));
     check_bytes(out, TOPIC, TOPIC_LEN, "the parent");
     check_reply(cuddrewyn_parent_topic(name, 3, out, OUT), refused(18, 0, 0, 0, 0, 0));
+    static const uint8_t marked[] = "topic://t?/n/m", marked_name[] = "segment://t/n#/m/0010-00ff-12", marked_id[] = "segment://t/n/m/0010-00ff-?";
+    check_reply(cuddrewyn_segment_topic(marked, sizeof marked - 1, 0x10, 0xff, 12, out, OUT), refused(12, 0, 0, 0, 0, 0));
+    check_reply(cuddrewyn_segment_source(12, marked_name, sizeof marked_name - 1), refused(12, 0, 0, 0, 0, 0));
+    check_reply(cuddrewyn_segment_source(12, marked_id, sizeof marked_id - 1), refused(18, 0, 0, 0, 0, 0));
 }
 
 static void ranges(void) {

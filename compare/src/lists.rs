@@ -1,6 +1,7 @@
 //! Packed lists and deltas lent alone: the wire writer against the Rust's `to_pb`, apply and join against the model.
 use crate::generate::Assignment;
 use crate::model::delta::{self, Delta, Written, within};
+use crate::model::names;
 use crate::model::sheet::{Segment, Sheet};
 use crate::oracle;
 use crate::ours;
@@ -9,13 +10,22 @@ use crate::pb;
 use crate::reply::refused;
 use crate::rng::Rng;
 use crate::scalable_consumer::ConsumerAssignment;
-use crate::tally::{Call, Tally, hex};
+use crate::tally::{self, Call, Tally, hex};
 use prost::Message as _;
 
 const IDS: &[u64] = &[0, 1, 2, 3, 4, 9, 300, u64::MAX - 1, u64::MAX];
 const VALUES: &[u16] = &[0, 1, 5, 9, 255, 256, 0x7fff, 0x8000, 0xfffe, 0xffff];
-const PARENTS: &[&[u8]] =
-    &[b"topic://a/b/c", b"topic://t/n//m", b"topic://t//m", b"topic://a/b/c#", b"", b"topic://a/b/\xff", "topic://ä/ö/ü".as_bytes()];
+const PARENTS: &[&[u8]] = &[
+    b"topic://a/b/c",
+    b"topic://t/n//m",
+    b"topic://t//m",
+    b"topic://a/b/c#",
+    b"topic://a?/b/c",
+    b"topic://a/#b/c",
+    b"",
+    b"topic://a/b/\xff",
+    "topic://ä/ö/ü".as_bytes(),
+];
 
 pub fn random_segment(id: u64, rng: &mut Rng) -> Segment {
     let (a, b) = (rng.pick(VALUES), rng.pick(VALUES));
@@ -96,12 +106,17 @@ fn written(sheet: &[u8], parent: &[u8], room: usize) -> Written {
     let Some(sheet) = Sheet::whole(sheet) else {
         return (refused(20, &[]), Vec::new());
     };
-    let message = if sheet.segments.is_empty() { Ok(encoded(&sheet, "")) } else { std::str::from_utf8(parent).map(|parent| encoded(&sheet, parent)) };
+    let message = if sheet.segments.is_empty() { Ok(encoded(&sheet, "")) } else { std::str::from_utf8(parent).map(|parent| named(&sheet, parent)) };
     match message {
         Err(_) => (refused(7, &[]), Vec::new()),
         Ok(None) => (refused(12, &[]), Vec::new()),
         Ok(Some(bytes)) => within(bytes, room),
     }
+}
+
+/// The message with names of this parent; none where it is no parent (12), by the model where the Rust is not compared.
+fn named(sheet: &Sheet, parent: &str) -> Option<Vec<u8>> {
+    if oracle::left_out(parent) && !names::is_parent(parent) { None } else { encoded(sheet, parent) }
 }
 
 /// `to_pb` of the list, encoded by prost; none where the Rust refuses the parent (12).
@@ -128,7 +143,9 @@ fn check_to_pb(tally: &mut Tally, output: &mut Output, sheet: &[u8], parent: &[u
     let expected = written(sheet, parent, room);
     let (mut sheet_lent, mut parent_lent) = (sheet.to_vec(), parent.to_vec());
     let given = ours::to_pb(&mut sheet_lent, &mut parent_lent, output.lent(room));
-    tally.count(Call::ToPb, &given, matches!(expected.0.number, 0 | 12));
+    let out = std::str::from_utf8(parent).is_ok_and(oracle::left_out);
+    tally.left_out[tally::LISTS] += u64::from(out);
+    tally.count(Call::ToPb, &given, !out && matches!(expected.0.number, 0 | 12));
     let lent = [(&sheet_lent[..], sheet), (&parent_lent[..], parent)];
     output.check(tally, Call::ToPb, &given, &expected, &lent, || format!("output of {room}, parent {}, sheet {}", hex(parent), hex(sheet)));
 }

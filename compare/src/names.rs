@@ -1,13 +1,14 @@
-//! Names, ranges and kinds against the Rust.
+//! Names against the model and, those of parents that 02 h forbids excepted, against the Rust; ranges and kinds against the Rust.
 use crate::model::delta::{Written, within};
-use crate::oracle::{name_refusal, range_refusal};
+use crate::model::names as model;
+use crate::oracle::{left_out, left_out_name, name_refusal, range_refusal};
 use crate::ours;
 use crate::output::Output;
 use crate::raw::{self, Reply};
 use crate::reply::{refused, show, taken};
 use crate::rng::Rng;
 use crate::scalable_consumer::{ScalableConsumerType, SegmentSource, SegmentTopicError, canonical_segment_topic};
-use crate::tally::{Call, Tally, hex};
+use crate::tally::{Call, NAMES, Tally, hex};
 use crate::types::{KeyRange, SegmentId};
 
 const EDGES: &[u32] = &[0, 1, 2, 9, 0x0a0b, 0x7fff, 0x8000, 65_534, 65_535, 65_536, 65_537, 1 << 31, u32::MAX];
@@ -15,7 +16,7 @@ const IDS: &[u64] = &[0, 1, 9, 10, 99, 18_446_744_073_709_551_609, u64::MAX];
 const GOOD_NAMES: &[&str] = &[
     "segment://a/b/c/0000-7fff-0",
     "segment://t/n//m/1234-abcd-18446744073709551615",
-    "segment://a?/b#/c/0000-0000-10",
+    "segment://t-0/n_1/m/0000-0000-10",
     "segment://é/日/\u{10ffff}/00ff-ff00-7",
 ];
 const NEAR_NAMES: &[&str] = &[
@@ -34,18 +35,26 @@ const NEAR_NAMES: &[&str] = &[
     "",
     "segment://t/n//0000-ffff-1",
     "segment://a/b/c?/0000-ffff-1",
+    "segment://t?/n/m/0000-ffff-1",
+    "segment://t/n#/m/0000-ffff-1",
+    "segment://a?/b#/c/ffff-0000-10",
+    "segment://t?/n/m/x",
+    "segment://t?/n/0000-ffff-1",
+    "segment://a/b/c/0000-7fff-0?",
+    "segment://a/b/c/#000-7fff-0",
     "topic://a/b/c/0000-7fff-0",
     "segment://a/b/c/0000-7fff-99999999999999999999",
     "segment://a/b/c/0000-7fff-+1",
 ];
-const GOOD_PARENTS: &[&str] = &["topic://a/b/c", "topic://t/n//m", "topic://a?/b#/c", "topic://é/日/\u{10ffff}"];
+const GOOD_PARENTS: &[&str] = &["topic://a/b/c", "topic://t/n//m", "topic://t-0/n_1/m", "topic://é/日/\u{10ffff}"];
+const NEAR_PARENTS: &[&str] = &["topic://t?/n/m", "topic://t/#/m", "topic://a?/b#/c", "topic://t?/n", "topic://t?/n/m/", "topic://t/n/m#"];
 
 pub struct Names {
     rng: Rng,
     output: Output,
 }
 
-/// The parent's text and the range, tested before the Rust is asked: 7, 9.
+/// The Rust's. The parent's text and the range are tested before it is asked: 7, 9.
 fn built(parent: &[u8], range: (u32, u32), id: u64, room: usize) -> Written {
     let none = |reply: Reply| (reply, Vec::new());
     let Ok(parent) = std::str::from_utf8(parent) else { return none(refused(7, &[])) };
@@ -76,6 +85,18 @@ fn parent(topic: &[u8], room: usize) -> Written {
     }
 }
 
+/// Holds the Rust's answer to the model's, unless it is left out.
+fn judged(tally: &mut Tally, call: Call, out: bool, expected: &Written, theirs: impl FnOnce() -> Written, input: impl FnOnce() -> String) {
+    if out {
+        tally.left_out[NAMES] += 1;
+        return;
+    }
+    let theirs = theirs();
+    if theirs != *expected {
+        tally.differ(call, &format!("the model {}, the Rust {}", show(&expected.0), show(&theirs.0)), input);
+    }
+}
+
 impl Names {
     pub fn new(seed: u64) -> Self {
         let mut rng = Rng::new(seed, "names");
@@ -84,41 +105,48 @@ impl Names {
     }
 
     fn check_built(&mut self, tally: &mut Tally, parent: &[u8], range: (u32, u32), id: u64, room: usize) {
-        let expected = built(parent, range, id, room);
+        let expected = model::built(parent, range, id, room);
+        let out = std::str::from_utf8(parent).is_ok_and(left_out);
         let mut lent = parent.to_vec();
         let given = ours::segment_topic(&mut lent, range, id, self.output.lent(room));
-        tally.count(Call::SegmentTopic, &given, !matches!(expected.0.number, 7 | 21));
+        tally.count(Call::SegmentTopic, &given, !out && !matches!(expected.0.number, 7 | 21));
         let input = || format!("parent {}, range {range:?}, id {id}, output of {room}", hex(parent));
         self.output.check(tally, Call::SegmentTopic, &given, &expected, &[(&lent, parent)], input);
+        judged(tally, Call::SegmentTopic, out, &expected, || built(parent, range, id, room), input);
     }
 
     fn check_source(&mut self, tally: &mut Tally, id: u64, topic: &[u8]) {
-        let found = |source: SegmentSource| taken(raw::FOUND, &[source.key_range().start().into(), source.key_range().end().into()]);
-        let expected = source(id, topic).map_or_else(|reply| reply, found);
+        let expected = (model::source(id, topic), Vec::new());
+        let out = std::str::from_utf8(topic).is_ok_and(left_out_name);
         let mut lent = topic.to_vec();
         let given = ours::segment_source(id, &mut lent);
-        tally.count(Call::SegmentSource, &given, expected.number != 7);
+        tally.count(Call::SegmentSource, &given, !out && expected.0.number != 7);
         let input = || format!("id {id}, name {}", hex(topic));
-        self.output.check(tally, Call::SegmentSource, &given, &(expected, Vec::new()), &[(&lent, topic)], input);
+        self.output.check(tally, Call::SegmentSource, &given, &expected, &[(&lent, topic)], input);
+        let found = |source: SegmentSource| taken(raw::FOUND, &[source.key_range().start().into(), source.key_range().end().into()]);
+        let theirs = || (source(id, topic).map_or_else(|reply| reply, found), Vec::new());
+        judged(tally, Call::SegmentSource, out, &expected, theirs, input);
     }
 
     fn check_parent(&mut self, tally: &mut Tally, topic: &[u8], room: usize) {
-        let expected = parent(topic, room);
+        let expected = model::parent(topic, room);
+        let out = std::str::from_utf8(topic).is_ok_and(left_out_name);
         let mut lent = topic.to_vec();
         let given = ours::parent_topic(&mut lent, self.output.lent(room));
-        tally.count(Call::ParentTopic, &given, !matches!(expected.0.number, 7 | 21));
+        tally.count(Call::ParentTopic, &given, !out && !matches!(expected.0.number, 7 | 21));
         let input = || format!("name {}, output of {room}", hex(topic));
         self.output.check(tally, Call::ParentTopic, &given, &expected, &[(&lent, topic)], input);
+        judged(tally, Call::ParentTopic, out, &expected, || parent(topic, room), input);
     }
 
     /// A name in every call, with the id that it has and another, with room that is enough, exact and short.
     fn name(&mut self, tally: &mut Tally, topic: &[u8]) {
         let id = self.rng.pick(IDS);
         self.check_source(tally, id, topic);
-        if let Err(Reply { number: 19, second, .. }) = source(id, topic) {
+        if let Reply { number: 19, second, .. } = model::source(id, topic) {
             self.check_source(tally, second, topic);
         }
-        let needed = parent(topic, usize::MAX).1.len();
+        let needed = model::parent(topic, usize::MAX).1.len();
         for room in [self.output.length(), needed, needed.saturating_sub(1)] {
             self.check_parent(tally, topic, room.min(self.output.length()));
         }
@@ -128,7 +156,7 @@ impl Names {
         let (start, end, id) = (self.rng.pick(EDGES), self.rng.pick(EDGES), self.rng.pick(IDS));
         self.check_built(tally, parent, (start, end), id, self.output.length());
         let range = (start.min(65_535).min(end), 65_535.min(start.max(end)));
-        let needed = built(parent, range, id, usize::MAX).1.len();
+        let needed = model::built(parent, range, id, usize::MAX).1.len();
         for room in [needed, needed.saturating_sub(1), needed + 1] {
             self.check_built(tally, parent, range, id, room.min(self.output.length()));
         }
@@ -151,7 +179,7 @@ impl Names {
 
     /// All edits of one byte of the good names, and all short names over small alphabets.
     pub fn directed(&mut self, tally: &mut Tally) {
-        for name in GOOD_NAMES.iter().chain(NEAR_NAMES).chain(GOOD_PARENTS) {
+        for name in GOOD_NAMES.iter().chain(NEAR_NAMES).chain(GOOD_PARENTS).chain(NEAR_PARENTS) {
             self.name(tally, name.as_bytes());
             self.parent(tally, name.as_bytes());
         }

@@ -1,12 +1,13 @@
 //! The Rust: its refusals in 01's numbers, its lists in the packed forms, its readings of bytes.
 use crate::model::delta::Delta;
 use crate::model::messages::{self, WireAssignment, WireSegment};
+use crate::model::names;
 use crate::model::sheet::{Segment, Sheet};
 use crate::pb;
 use crate::raw::Reply;
 use crate::reply::{refused, word};
-use crate::scalable_consumer::{AssignedSegment, AssignmentDelta, AssignmentError, ConsumerAssignment, SegmentTopicError};
-use crate::types::KeyRangeError;
+use crate::scalable_consumer::{AssignedSegment, AssignmentDelta, AssignmentError, ConsumerAssignment, SegmentTopicError, canonical_segment_topic};
+use crate::types::{KeyRange, KeyRangeError, SegmentId};
 
 /// What a newer prost derives, and Debian's does not.
 macro_rules! from_number {
@@ -21,6 +22,16 @@ macro_rules! from_number {
 }
 
 from_number!(SegmentState CompressionType ScalableConsumerType);
+
+/// Whether a parent leaves the comparison by 02 h: its tenant or namespace has '?' or '#', and the Rust takes it. Any other text is compared.
+pub fn left_out(parent: &str) -> bool {
+    names::marked_in_front(parent) && canonical_segment_topic(parent, KeyRange::FULL, SegmentId(0)).is_ok()
+}
+
+/// The same of the parent of a name.
+pub fn left_out_name(name: &str) -> bool {
+    names::parent_of(name).is_some_and(|(parent, _)| left_out(&parent))
+}
 
 /// 9: the segment's id where there is one, the kind, the kind's own numbers.
 pub fn range_refusal(id: Option<u64>, error: &KeyRangeError) -> Reply {

@@ -15,7 +15,7 @@ use std::fmt::Write as _;
 
 const SESSIONS: usize = 24;
 const CALLS: usize = 16;
-const TOPICS: &[&str] = &["topic://a/b/c", "topic://t/n//m", "topic://a?/b#/c", "topic://t//m"];
+const TOPICS: &[&str] = &["topic://a/b/c", "topic://t/n//m", "topic://t0/n1/m", "topic://t//m"];
 const CONSUMER: u64 = 7;
 
 /// The log and the answers as they grow.

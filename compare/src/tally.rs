@@ -103,12 +103,19 @@ struct Count {
 /// Differences that are printed whole.
 const PRINTED: usize = 10;
 
+/// The places in `Tally::left_out`.
+pub const NAMES: usize = 0;
+pub const LISTS: usize = 1;
+pub const SESSIONS: usize = 2;
+
 pub struct Tally {
     counts: Vec<[Count; COLUMNS]>,
     pub calls: u64,
     pub differences: u64,
     /// Messages in two orders of their segments: accepted, refused by the same number, refused by two.
     pub orders: [u64; 3],
+    /// Held to the model alone, by 02 h: calls with such a parent or a name of one, lists written for one, sessions opened with one.
+    pub left_out: [u64; 3],
     /// The part of the run that is on, and its step.
     pub place: String,
     pub quiet: bool,
@@ -116,7 +123,15 @@ pub struct Tally {
 
 impl Tally {
     pub fn new() -> Self {
-        Self { counts: vec![[Count::default(); COLUMNS]; REACH.len()], calls: 0, differences: 0, orders: [0; 3], place: String::new(), quiet: false }
+        Self {
+            counts: vec![[Count::default(); COLUMNS]; REACH.len()],
+            calls: 0,
+            differences: 0,
+            orders: [0; 3],
+            left_out: [0; 3],
+            place: String::new(),
+            quiet: false,
+        }
     }
 
     /// Counts a call; `oracle`: its answer was compared with the Rust's.
@@ -151,6 +166,8 @@ impl Tally {
         }
         let [accepted, same, other] = self.orders;
         println!("  messages in two orders of their segments: {accepted} accepted, {same} refused by the same number, {other} by two");
+        let [names, lists, sessions] = self.left_out;
+        println!("  parents that only ours refuses, by the model alone: {names} calls on names, {lists} lists written, {sessions} sessions");
     }
 
     /// The answers that should have come and did not.
@@ -158,6 +175,9 @@ impl Tally {
         let mut missing = Vec::new();
         if self.orders.contains(&0) {
             missing.push("two orders accepted, refused by the same number, by two".into());
+        }
+        if self.left_out.contains(&0) {
+            missing.push("names, lists and sessions of parents that only ours refuses".into());
         }
         for (call, numbers, answers) in reach() {
             let refusals = numbers.iter().map(|number| column(raw::REFUSED, *number));

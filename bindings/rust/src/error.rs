@@ -45,7 +45,7 @@ pub(crate) fn own_text(number: u8) -> &'static str {
 #[derive(Debug, Clone, Copy, PartialEq, Eq)]
 #[non_exhaustive]
 pub enum SegmentTopicError {
-    /// 12: the parent is no `topic://tenant/namespace/name`.
+    /// 12: the parent is no `topic://tenant/namespace/name`, or has `?` or `#` in a part.
     InvalidParent,
     /// 18: the text is no name of a segment.
     InvalidSegment,

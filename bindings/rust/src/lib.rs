@@ -70,7 +70,7 @@
 //! | `ConsumerAssignment::to_pb()` | [`to_pb`](ConsumerAssignment::to_pb)`(parent, &mut out)?`, as bytes |
 //! | `ConsumerAssignment::segment_topics()` | `segment_topics(parent)?`, with the feature `std` |
 //! | `try_from_pb` | inside the session's calls alone; [`from_bytes`](ConsumerAssignment::from_bytes) reads the packed form |
-//! | `canonical_segment_topic(parent, range, id)` | [`canonical_segment_topic`]`(parent, range, id, &mut out)?` |
+//! | `canonical_segment_topic(parent, range, id)` | [`canonical_segment_topic`]`(parent, range, id, &mut out)?`; `?` and `#` in tenant and namespace are refused too |
 //! | `SegmentSource::new(id, topic)`, `parent_topic()` | [`SegmentSource::new`]`(id, &topic)`, [`parent_topic`](SegmentSource::parent_topic)`(&mut out)?` |
 //! | `KeyRange`, `SegmentId`, `ControllerIncarnation`, `ScalableConsumerType` | the same |
 //! | `ScalableTopicsWatch::new(id, namespace)` | `new(id, namespace, &mut buffer)` |

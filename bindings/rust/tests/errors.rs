@@ -170,12 +170,14 @@ fn lists_that_are_not_taken() {
 
 #[test]
 fn parents_that_are_none() {
-    let mut session = open("persistent://a/b/c", store());
-    let message = response(1, &[segment(7, 0, 9, &[])]);
-    let refusal = session.handle_subscribe_response(&message).unwrap_err();
-    assert_eq!(refusal, E::SegmentTopic(SegmentTopicError::InvalidParent));
-    // Without a segment the parent is not looked at.
-    assert!(session.handle_subscribe_response(b"\x08\x01\x22\x02\x08\x02").is_ok());
+    for topic in ["persistent://a/b/c", "topic://t?/n/m", "topic://t/n#/m"] {
+        let mut session = open(topic, store());
+        let message = response(1, &[segment(7, 0, 9, &[])]);
+        let refusal = session.handle_subscribe_response(&message).unwrap_err();
+        assert_eq!(refusal, E::SegmentTopic(SegmentTopicError::InvalidParent));
+        // Without a segment the parent is not looked at.
+        assert!(session.handle_subscribe_response(b"\x08\x01\x22\x02\x08\x02").is_ok());
+    }
 }
 
 #[test]

@@ -209,6 +209,7 @@ fn the_writer_writes_what_the_messages_have() {
     assert_eq!(list.to_pb(TOPIC, &mut out).unwrap(), expected);
     assert_eq!(list.to_pb(TOPIC, &mut [0; 20]), Err(AssignmentError::ResultTooLong));
     assert_eq!(list.to_pb("topic://t//m", &mut out), Err(SegmentTopicError::InvalidParent.into()));
+    assert_eq!(list.to_pb("topic://t?/n/m", &mut out), Err(SegmentTopicError::InvalidParent.into()));
     // Without a segment the parent is not looked at.
     assert_eq!(ConsumerAssignment::default().to_pb("", &mut out).unwrap(), [8, 0]);
 }

@@ -30,6 +30,8 @@ fn names_built() {
         "topic://a/b/c/",
         "topic://a/b/c?",
         "topic://a/b/c#",
+        "topic://a?/b/c",
+        "topic://a/#b/c",
         "persistent://a/b/c",
     ] {
         assert_eq!(
@@ -57,6 +59,9 @@ fn names_read() {
         ("segment://x", E::InvalidSegment),
         ("segment://a/b/c", E::InvalidParent),
         ("segment://t/n//0000-ffff-1", E::InvalidParent),
+        ("segment://t?/n/m/0000-ffff-1", E::InvalidParent),
+        ("segment://t/n#/m/0000-ffff-1", E::InvalidParent),
+        ("segment://t/n/m/0000-ffff-1?", E::InvalidSegment),
         ("segment://a/b/c/0000-ffff", E::InvalidSegment),
         ("segment://a/b/c/0000-FFFF-1", E::InvalidSegment),
         ("segment://a/b/c/0000-ffff-01", E::InvalidSegment),

@@ -1,6 +1,7 @@
-//! What 01 says, read independently of the port: its reader of messages, its packed forms, its store and its calls. Slow and plain.
+//! What 01 and 02 say, read independently of the port: its reader of messages, its packed forms, its store and its calls. Slow and plain.
 //!
-//! Refusals 9 to 14 of a message's segments are the Rust's (`oracle::intake`); the rest of a call's answer is reckoned here.
+//! Refusals 9 to 14 of a message's segments are the Rust's (`oracle::intake`), which is told of no parent where `names::is_parent` finds none;
+//! the rest of a call's answer is reckoned here.
 pub mod charge;
 pub mod churn;
 pub mod delta;
@@ -8,6 +9,7 @@ pub mod hours;
 pub mod identity;
 pub mod lookup;
 pub mod messages;
+pub mod names;
 pub mod session;
 pub mod sheet;
 pub mod test_key;

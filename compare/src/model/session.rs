@@ -1,7 +1,7 @@
 //! The session's calls: what each answers and writes, for any record, store, message and output.
 use super::delta::Delta;
 use super::sheet::{SHEET_MOST, Sheet};
-use super::{identity, messages};
+use super::{identity, messages, names};
 use crate::oracle;
 use crate::raw::{self, Record, Reply};
 use crate::reply::{refused, taken, word};
@@ -86,9 +86,10 @@ fn in_use<'a>(record: &Record, store: &'a [u8]) -> Option<Slots<'a>> {
     Some(Slots { topic, held, queue })
 }
 
-/// 9 to 15 of an assignment.
+/// 9 to 15 of an assignment. What is no parent by 02 h is 12 where the Rust finds that the empty text is none.
 fn content(assignment: &messages::WireAssignment, topic: &str) -> Result<Sheet, Reply> {
-    let sheet = oracle::intake(assignment, topic)?;
+    let parent = if names::is_parent(topic) { topic } else { "" };
+    let sheet = oracle::intake(assignment, parent)?;
     if sheet.size() > SHEET_MOST { Err(refused(15, &[])) } else { Ok(sheet) }
 }
 

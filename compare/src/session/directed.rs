@@ -17,6 +17,7 @@ pub fn run(tally: &mut Tally, seed: u64) {
     link_traps(tally, seed);
     drain_traps(tally, seed);
     order_in_a_segment(tally, seed);
+    marked_parents(tally, seed);
     high_bits(tally, seed);
     broker_codes(tally, seed);
 }
@@ -206,6 +207,28 @@ fn order_in_a_segment(tally: &mut Tally, seed: u64) {
             let given = s.response(&list);
             s.expect("order in a segment", Call::Response, given, expected);
         }
+    }
+}
+
+/// '?' or '#' in any of a parent's three parts: 12 at the first segment, behind its ranges; without a segment nothing is asked of the parent.
+fn marked_parents(tally: &mut Tally, seed: u64) {
+    for path in ["t?/n/m", "t/n#/m", "#/?/m", "t/n/m?"] {
+        let mut s = Script::open(tally, seed, 4 * SLOT, &format!("topic://{path}"));
+        let named = |start: u32, buckets: Vec<(i32, i32)>| Assignment { epoch: 1, parts: vec![Part::new(path, 4, start, 9, buckets)] };
+        let faults = [
+            (named(0, vec![]), refused(12, &[])),
+            (named(10, vec![]), refused(9, &[4, 3, 10, 9])),
+            (named(0, vec![(5, -1)]), refused(10, &[4, 0, 5, u64::MAX])),
+            (named(0, vec![(0, 5), (5, 5)]), refused(11, &[4])),
+        ];
+        for (list, expected) in faults {
+            let given = s.update(&list);
+            s.expect("marked parent", Call::Update, given, expected);
+            let given = s.response(&list);
+            s.expect("marked parent", Call::Response, given, expected);
+        }
+        let given = s.response(&list(1, &[]));
+        s.expect("marked parent, no segment", Call::Response, given, taken(ACCEPTED, &[]));
     }
 }
 

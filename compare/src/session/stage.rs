@@ -10,7 +10,7 @@ use crate::reply::{is_ours, show};
 use crate::rng::Rng;
 use crate::shrink::shrunk;
 use crate::spoil::{Judge, listens_to};
-use crate::tally::{Call, Tally, first_difference, hex};
+use crate::tally::{Call, SESSIONS, Tally, first_difference, hex};
 use crate::texts;
 
 /// A call of a session.
@@ -87,12 +87,14 @@ impl Stage {
         Self { record, mirror: store.clone(), store, out_mirror: out.clone(), out }
     }
 
-    /// Opens a session on the store as it is. The Rust's session where ours is open.
+    /// Opens a session on the store as it is. The Rust's session where ours is open, and compared.
     pub fn open(&mut self, tally: &mut Tally, consumer_id: u64, incarnation: u64, texts: &Texts) -> Option<Twin> {
         let (reply, writes) = identity::open(texts, self.mirror.len());
         let prediction = Prediction { reply, state: fresh(consumer_id, incarnation), writes, out: Vec::new() };
         let given = ours::open(consumer_id, incarnation, texts, &mut self.store);
-        let twin = if reply.answer == raw::ACCEPTED { Twin::open(consumer_id, incarnation, texts) } else { None };
+        let open = reply.answer == raw::ACCEPTED;
+        let twin = if open { Twin::open(consumer_id, incarnation, texts) } else { None };
+        tally.left_out[SESSIONS] += u64::from(open && twin.is_none());
         tally.count(Call::Open, &given.reply, twin.is_some());
         let wrong = self.differs(&prediction, &given);
         let good = wrong.is_none();

@@ -44,12 +44,13 @@ fn string(bytes: &[u8]) -> Option<String> {
 }
 
 impl Twin {
-    /// Texts that are UTF-8.
+    /// Texts that are UTF-8, and a topic on which the Rust is compared.
     pub fn open(consumer_id: u64, incarnation: u64, texts: &Texts) -> Option<Self> {
         let [topic, subscription, name] = &texts.texts;
+        let topic = string(topic).filter(|topic| !oracle::left_out(topic))?;
         let kind = ScalableConsumerType::from_pb_i32(texts.kind);
         let session =
-            ScalableConsumerSession::new(consumer_id, string(topic)?, string(subscription)?, string(name)?, kind, ControllerIncarnation(incarnation));
+            ScalableConsumerSession::new(consumer_id, topic, string(subscription)?, string(name)?, kind, ControllerIncarnation(incarnation));
         Some(Self { session, pending: None, drained: 0, fed: 0 })
     }
 

@@ -1,5 +1,5 @@
--- Parents (01, Names): `topic://` and a path of tenant, namespace and rest, "split at the first two `/`". "All three are non-empty; the rest
--- does not end in `/` and has no `?` or `#`."
+-- Parents (01, Names; 02 h): `topic://` and a path of tenant, namespace and rest, "split at the first two `/`". "All three are non-empty; the
+-- rest does not end in `/` and has no `?` or `#`." By 02 h tenant and namespace have none either.
 -- Assumes nothing.
 use Prim.Native.Nat.{ℕ, _+_, _-_, _≤_}
 use mathlib.Core.Path.{_≡_}
@@ -47,8 +47,16 @@ localName p = behindSlash (behindSlash p)
 abbrev pub isLocalName : List ℕ → Bool
 isLocalName r = nonEmpty r && (not (endsInSlash r) && clean r)
 
+-- 01's rule alone, which is the Rust's
+unfoldable pub hasThreeParts : List ℕ → Bool
+hasThreeParts p = nonEmpty (tenant p) && (nonEmpty (namespace p) && isLocalName (localName p))
+
+-- 02 h: "forbids `?` and `#` in all three parts of a parent"; the rest has none by 01
+unfoldable pub frontClean : List ℕ → Bool
+frontClean p = clean (tenant p) && clean (namespace p)
+
 unfoldable pub isPath : List ℕ → Bool
-isPath p = nonEmpty (tenant p) && (nonEmpty (namespace p) && isLocalName (localName p))
+isPath p = hasThreeParts p && frontClean p
 
 unfoldable pub isParent : List ℕ → Bool
 isParent s = startsWith topicScheme s && isPath (drop 8 s)

@@ -1,4 +1,5 @@
-// Parents of names: `topic://` and a path of tenant, namespace and local name. A name's bytes are sorted into classes by a table.
+// Parents of names: `topic://` and a path of tenant, namespace and local name, without '?' and '#'. A name's bytes are sorted into classes by
+// a table.
 mod class;
 
 ghost use mathlib.Core.Path.{_≡_};
@@ -46,7 +47,8 @@ fn is_clean(s: &[u8], from: usize) -> bool
     true
 }
 
-// The part is a path of tenant, namespace and local name.
+// The part is a path of tenant, namespace and local name: none is empty, none has '?' or '#', and the last does not end in '/'. A '/' is no
+// mark, so the whole path is clean where its parts are.
 pub fn is_path(p: &[u8]) -> bool
     ensures { λ r. ⌜ r ≡ isPath (now (p .entry)) ⌝ }
 {
@@ -68,7 +70,7 @@ pub fn is_path(p: &[u8]) -> bool
     if class_of(p[end - 1]) == SLASH {
         return false;
     }
-    is_clean(p, b + 1)
+    is_clean(p, 0)
 }
 
 // The text is a parent.

@@ -7,7 +7,7 @@ use Rattle.ranges.specs.Overlap.{anyOverlap}
 use Rattle.parts.specs.Same.{sameBytes, startsWith}
 use Rattle.utf8.specs.Table.{table, fits, sequenceIn, sequenceOf, textAfter, isUtf8}
 use Rattle.parents.specs.Classes.{classOf}
-use Rattle.parents.specs.Parents.{beforeSlash, behindSlash, clean, isPath, isParent}
+use Rattle.parents.specs.Parents.{beforeSlash, behindSlash, clean, hasThreeParts, frontClean, isPath, isParent}
 use Rattle.topic.specs.Names.{hex4, decimalWithin, decimal, descriptor, segmentTopic}
 use Rattle.wire.specs.Varints.{varintOf}
 use Rattle.wire.specs.Field.{keyOf, numberOf, partOf}
@@ -30,7 +30,7 @@ use Rattle.rows.specs.Rows.{Rows}
 use Rattle.rows.proofs.BucketLaws.{buckets-taken, buckets-long}
 
 pub rows : Rows
-unfolding newKeyRange anyOverlap sameBytes startsWith table fits sequenceIn sequenceOf textAfter isUtf8 classOf beforeSlash behindSlash clean isPath isParent hex4 decimalWithin decimal descriptor segmentTopic varintOf keyOf numberOf partOf fieldsOf ruleFor complete firstFault segmentOf assignmentOf updateOf sizeSegment sizeSegments sizeAssignment sameRanges sameSegment sameSegments sameAssignment hasSame without deltaBetween bucketFault nameFault segmentFault firstRefusal assignedSegment inIdOrder consumerAssignment contentOf depthOf damaged updateUnregistered updateRegistered updateContent updateValid updateCall
+unfolding newKeyRange anyOverlap sameBytes startsWith table fits sequenceIn sequenceOf textAfter isUtf8 classOf beforeSlash behindSlash clean hasThreeParts frontClean isPath isParent hex4 decimalWithin decimal descriptor segmentTopic varintOf keyOf numberOf partOf fieldsOf ruleFor complete firstFault segmentOf assignmentOf updateOf sizeSegment sizeSegments sizeAssignment sameRanges sameSegment sameSegments sameAssignment hasSame without deltaBetween bucketFault nameFault segmentFault firstRefusal assignedSegment inIdOrder consumerAssignment contentOf depthOf damaged updateUnregistered updateRegistered updateContent updateValid updateCall
 rows =
     record {
       a-valid = refl;
@@ -57,4 +57,8 @@ rows =
       j-not-valid = refl;
       j-any = λ w. refl;
       j-refused = refl;
+      marked-tenant = refl;
+      marked-namespace = refl;
+      marked-any = λ w. refl;
+      marked-refused = refl;
     }

@@ -1,4 +1,5 @@
--- The specification's worked rows A to J (01, Sessions to check by hand), as one table about the definitions that contracts cite.
+-- The specification's worked rows A to J (01, Sessions to check by hand), and the parent that 02 h names, as one table about the definitions
+-- that contracts cite.
 -- Its proof is proofs/Table.
 -- Assumes nothing.
 use Prim.Native.Nat.{ℕ, zero, suc}
@@ -109,6 +110,13 @@ slashInName = topicScheme ++ (0x74 ∷ 0x2f ∷ 0x6e ∷ 0x2f ∷ 0x2f ∷ 0x6d 
 abbrev pub noNamespace : List ℕ
 noNamespace = topicScheme ++ (0x74 ∷ 0x2f ∷ 0x2f ∷ 0x6d ∷ [])
 
+-- topic://t?/n/m and topic://t/n#/m
+abbrev pub markedTenant : List ℕ
+markedTenant = topicScheme ++ (0x74 ∷ 0x3f ∷ 0x2f ∷ 0x6e ∷ 0x2f ∷ 0x6d ∷ [])
+
+abbrev pub markedNamespace : List ℕ
+markedNamespace = topicScheme ++ (0x74 ∷ 0x2f ∷ 0x6e ∷ 0x23 ∷ 0x2f ∷ 0x6d ∷ [])
+
 pub record Rows : Type 0 where
   -- A: the message is valid, and says consumer 7, epoch 3, one segment
   pub a-valid : firstFault CommandScalableTopicAssignmentUpdate messageA ≡ Valid
@@ -150,3 +158,8 @@ pub record Rows : Type 0 where
   pub j-not-valid : isParent noNamespace ≡ false
   pub j-any : (w : WireSegment) → nameFault noNamespace w ≡ some InvalidParent
   pub j-refused : contentOf noNamespace (updateOf messageA .assignment) ≡ refused InvalidParent
+  -- 02 h: "`topic://t?/n/m` becomes 12", for any segment, and so for row A's assignment; a mark in the namespace as well
+  pub marked-tenant : isParent markedTenant ≡ false
+  pub marked-namespace : isParent markedNamespace ≡ false
+  pub marked-any : (w : WireSegment) → nameFault markedTenant w ≡ some InvalidParent
+  pub marked-refused : contentOf markedTenant (updateOf messageA .assignment) ≡ refused InvalidParent

@@ -17,7 +17,7 @@ use Rattle.topic.specs.Build.{Outcome, refuse, written, buildName, canonicalSeg
 use Rattle.magnetar.specs.Result.{Result, Ok, Err, _>>=_, map-err}
 use Rattle.magnetar.specs.Text.{Text}
 use Rattle.magnetar.specs.SegmentTopic.{SegmentTopicError, InvalidParent, InvalidRange, canonical-segment-topic}
-use Rattle.same_names.specs.Agree.{rangeOf, outcomeOf, fits, BuildAgrees}
+use Rattle.same_names.specs.Agree.{rangeOf, isMarked, outcomeOf, fits, BuildAgrees}
 use Rattle.same_names.proofs.ParentAgrees.{segment-topic-agrees}
 use Rattle.same_names.proofs.RangeAgrees.{new-agrees}
 
@@ -37,7 +37,7 @@ gives-text text out h = rw h
 abbrev behindRange : Text → SegmentId → Result KeyRange KeyRangeError → Result Text SegmentTopicError
 behindRange parent id r = map-err InvalidRange r >>= (λ range. canonical-segment-topic parent range id)
 
-module _ (parent : Text) (id : SegmentId) (out : List ℕ) where
+module _ (parent : Text) (id : SegmentId) (out : List ℕ) (m : isMarked parent ≡ false) where
   abbrev name : KeyRange → Text
   name range = segmentTopic (pathOf parent) range id
 
@@ -53,10 +53,10 @@ module _ (parent : Text) (id : SegmentId) (out : List ℕ) where
   unfolding buildName
   range-stage (Invalid error) = λ h. refl
   range-stage (Valid range) =
-      gives-by out _ (segment-topic-agrees parent range id) (parent-stage range (isParent parent))
+      gives-by out _ (segment-topic-agrees parent range id m) (parent-stage range (isParent parent))
 
 pub build-agrees : BuildAgrees
 unfolding canonicalSegmentTopic
-build-agrees parent s e id out u =
+build-agrees parent s e id out u m =
     let x : Outcome = buildName parent (newKeyRange s e) id out in
-    rw u (gives-by out x (ap (behindRange parent id) (new-agrees s e)) (range-stage parent id out (newKeyRange s e)))
+    rw u (gives-by out x (ap (behindRange parent id) (new-agrees s e)) (range-stage parent id out m (newKeyRange s e)))

@@ -1,7 +1,8 @@
--- Parents and the names built of them are the Rust's (`parent-agrees`, `segment-topic-agrees`).
+-- Parents and the names built of them are the Rust's (`parent-agrees`, `segment-topic-agrees`), those that 02 h forbids excepted
+-- (`marked-differs`).
 --
 -- In order: a prefix stripped (`strip-agrees`); the split at the first '/' (`split-once-agrees`); the tests of a path's parts; a path
--- (`path-agrees`); the theorems.
+-- (`path-agrees`, `path-unmarked`); the theorems.
 -- Assumes nothing.
 use Prim.Native.Nat.{ℕ, suc, _-_}
 use native.Mathlib.Omega.{arith}
@@ -11,17 +12,19 @@ use mathlib.Core.List.{List, [], _∷_, _++_, append-assoc}
 use mathlib.Core.Option.{Option, some, none, Option·map}
 use lib.ListN.{length, take, drop}
 use lib.Dec.{eqb}
-use borrow.Author.Tests.{eq-eqb, ne-eqb, eqb-true, eqb-false, lt-ltb}
+use borrow.Author.Tests.{eq-eqb, ne-eqb, eqb-true, eqb-false, lt-ltb, not-true}
 use Rattle.parts.specs.Same.{sameBytes, startsWith}
 use Rattle.parents.specs.Classes.{classOf, isSlash}
-use Rattle.parents.specs.Parents.{topicScheme, beforeSlash, behindSlash, clean, nonEmpty, endsInSlash, isLocalName, isPath, isParent, pathOf}
+use Rattle.parents.specs.Parents.{topicScheme, beforeSlash, behindSlash, clean, nonEmpty, endsInSlash, isLocalName, hasThreeParts, frontClean}
+use Rattle.parents.specs.Parents.{isPath, isParent, pathOf}
 use Rattle.topic.specs.Names.{segmentScheme, hex4, decimal, descriptor, segmentTopic}
 use Rattle.segment_source.specs.Parse.{hasSlash}
+use Rattle.digits.proofs.TestLaws.{and-both}
 use Rattle.magnetar.specs.Result.{Result, Ok, Err, _>>=_, ok-or}
 use Rattle.magnetar.specs.Text.{Text, is-empty, strip-prefix, contains-any, ends-with, Split, longer, split-once, splitn-from, splitn}
 use Rattle.magnetar.specs.SegmentTopic.{SegmentTopicError, InvalidParent, slash, dash, question, hash, next-and, parts-valid}
 use Rattle.magnetar.specs.SegmentTopic.{to-hex-string}
-use Rattle.same_names.specs.Agree.{ParentAgrees, SegmentTopicAgrees}
+use Rattle.same_names.specs.Agree.{isMarkedPath, MarkedDiffers, ParentAgrees, SegmentTopicAgrees}
 use Rattle.same_names.proofs.ClassTests.{slash-test, mark-test}
 
 -- ---- a prefix
@@ -115,8 +118,8 @@ two-agree q = rw split-once-agrees (go (hasSlash q) refl)
     go true e = rw (nonempty-agrees (beforeSlash q), rest-agrees (behindSlash q), and-true)
     go false e = rw (no-slash-behind q e) (and-false (is-part q) ∙ sym (and-false (nonEmpty (beforeSlash q))))
 
-pub path-agrees : (p : Text) → parts-valid (splitn 3 slash p) ≡ isPath p
-unfolding isPath beforeSlash
+path-agrees : (p : Text) → parts-valid (splitn 3 slash p) ≡ hasThreeParts p
+unfolding hasThreeParts beforeSlash
 path-agrees p = rw split-once-agrees (go (hasSlash p) refl)
   where
     go : (t : Bool) → hasSlash p ≡ t
@@ -125,14 +128,24 @@ path-agrees p = rw split-once-agrees (go (hasSlash p) refl)
     go true e = rw (nonempty-agrees (beforeSlash p)) (ap (λ (t : Bool). is-part (beforeSlash p) && t) (two-agree (behindSlash p)))
     go false e = rw (no-slash-behind p e) (and-false (is-part p) ∙ sym (and-false (nonEmpty (beforeSlash p))))
 
+-- of a path that 02 h does not forbid, this port asks what the Rust does
+path-unmarked : (p : Text) → isMarkedPath p ≡ false → isPath p ≡ hasThreeParts p
+unfolding isPath
+path-unmarked p = go (hasThreeParts p) (frontClean p)
+  where
+    go : (t u : Bool) → (t && not u) ≡ false → (t && u) ≡ t
+    go true true e = refl
+    go true false e = absurd (true≢false e)
+    go false u e = refl
+
 -- ---- parents, and the names built of them
 
 -- what `canonical_parent_path` makes of the path
 abbrev tested : Text → Text → Result Text SegmentTopicError
 tested t path = cond (not (parts-valid (splitn 3 slash path))) (Err (InvalidParent t)) (Ok path)
 
-tested-agrees : (t p : Text) → tested t p ≡ cond (isPath p) (Ok p) (Err (InvalidParent t))
-tested-agrees t p = rw path-agrees (go (isPath p))
+tested-agrees : (t p : Text) → isMarkedPath p ≡ false → tested t p ≡ cond (isPath p) (Ok p) (Err (InvalidParent t))
+tested-agrees t p m = rw (path-agrees, path-unmarked p m) (go (hasThreeParts p))
   where
     go : (v : Bool) → cond (not v) (Err (InvalidParent t)) (Ok p) ≡ cond v (Ok p) (Err (InvalidParent t))
     go true = refl
@@ -140,19 +153,29 @@ tested-agrees t p = rw path-agrees (go (isPath p))
 
 pub parent-agrees : ParentAgrees
 unfolding isParent
-parent-agrees t =
-    ap (λ (o : Option Text). ok-or (InvalidParent t) o >>= tested t) (strip-agrees topicScheme t) ∙ go (startsWith topicScheme t)
+parent-agrees t m =
+    ap (λ (o : Option Text). ok-or (InvalidParent t) o >>= tested t) (strip-agrees topicScheme t) ∙ go (startsWith topicScheme t) m
   where
-    go : (u : Bool)
+    go : (u : Bool) → (u && isMarkedPath (pathOf t)) ≡ false
         → (ok-or (InvalidParent t) (cond u (some (pathOf t)) none) >>= tested t)
         ≡ cond (u && isPath (pathOf t)) (Ok (pathOf t)) (Err (InvalidParent t))
-    go true = tested-agrees t (pathOf t)
-    go false = refl
+    go true m = tested-agrees t (pathOf t) m
+    go false m = refl
+
+pub marked-differs : MarkedDiffers
+unfolding isPath isParent
+marked-differs t m =
+    let p = and-both (startsWith topicScheme t) (isMarkedPath (pathOf t)) m in
+    let q = and-both (hasThreeParts (pathOf t)) (not (frontClean (pathOf t))) (p .1) in
+    let taken : tested t (pathOf t) ≡ Ok (pathOf t) = rw (path-agrees, q .0) in (
+      ap (λ (o : Option Text). ok-or (InvalidParent t) o >>= tested t) (strip-agrees topicScheme t) ∙ rw (p .0) taken,
+      rw (p .0, q .0, not-true (frontClean (pathOf t)) (q .1)),
+    )
 
 pub segment-topic-agrees : SegmentTopicAgrees
 unfolding segmentTopic descriptor
-segment-topic-agrees t range id =
-    ap (λ (r : Result Text SegmentTopicError). r >>= (λ path. Ok (name path))) (parent-agrees t) ∙ go (isParent t)
+segment-topic-agrees t range id m =
+    ap (λ (r : Result Text SegmentTopicError). r >>= (λ path. Ok (name path))) (parent-agrees t m) ∙ go (isParent t)
   where
     name : Text → Text
     name path = segmentScheme ++ (path ++ (slash ∷ (to-hex-string range ++ (dash ∷ decimal (id .0)))))

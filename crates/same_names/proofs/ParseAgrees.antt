@@ -31,7 +31,7 @@ use Rattle.magnetar.specs.Ranges.{KeyRange-new}
 use Rattle.magnetar.specs.SegmentTopic.{SegmentTopicError, InvalidParent, InvalidSegment, InvalidRange, slash, dash}
 use Rattle.magnetar.specs.SegmentTopic.{canonical-parent-path, parse-canonical-hex-word, is-canonical-decimal, parse-u64}
 use Rattle.magnetar.specs.SegmentTopic.{Descriptor, descriptor-of, ParsedTopic}
-use Rattle.same_names.specs.Agree.{paper, rangeOf, readOf, ParseAgrees}
+use Rattle.same_names.specs.Agree.{paper, rangeOf, readOf, isMarkedPath, ParseAgrees}
 use Rattle.same_names.proofs.ClassTests.{slash-test}
 use Rattle.same_names.proofs.ParentAgrees.{strip-agrees, parent-agrees}
 use Rattle.same_names.proofs.RangeAgrees.{new-agrees}
@@ -106,9 +106,10 @@ module _ (t parent : Text) where
 abbrev nameOf : Text → ℕ → KeyRange → ParsedTopic
 nameOf path i range = record { parent = topicScheme ++ path; key-range = range; id = record { 0 = i } }
 
-scheme-agrees : (b : Text) → canonical-parent-path (topicScheme ++ b) ≡ cond (isPath b) (Ok b) (Err (InvalidParent (topicScheme ++ b)))
+scheme-agrees : (b : Text) → isMarkedPath b ≡ false
+    → canonical-parent-path (topicScheme ++ b) ≡ cond (isPath b) (Ok b) (Err (InvalidParent (topicScheme ++ b)))
 unfolding isParent startsWith sameBytes
-scheme-agrees b = parent-agrees (topicScheme ++ b)
+scheme-agrees b m = parent-agrees (topicScheme ++ b) m
 
 module _ (t b : Text) (n : ℕ) (h : take (n - 10) (drop 10 t) ≡ b) where
   abbrev parent : Text
@@ -144,11 +145,11 @@ module _ (t b : Text) (n : ℕ) (h : take (n - 10) (drop 10 t) ≡ b) where
       go false q = refl
 
   -- 12
-  parent-stage : (d : Text)
+  parent-stage : (d : Text) → isMarkedPath b ≡ false
       → map-err paper (canonical-parent-path parent >>= (λ ignored. withText t parent d))
       ≡ readOf t (cond (isPath b) (descriptorStage n d) (parsed.Refused refusal.InvalidParent))
-  parent-stage d =
-      ap (λ (r : Result Text SegmentTopicError). map-err paper (r >>= (λ ignored. withText t parent d))) (scheme-agrees b) ∙ go (isPath b)
+  parent-stage d m =
+      ap (λ (r : Result Text SegmentTopicError). map-err paper (r >>= (λ ignored. withText t parent d))) (scheme-agrees b m) ∙ go (isPath b)
     where
       go : (u : Bool)
           → map-err paper (cond u (Ok b) (Err (InvalidParent parent)) >>= (λ ignored. withText t parent d))
@@ -166,10 +167,11 @@ module _ (t : Text) where
   abbrev withPath : Text → Result ParsedTopic SegmentTopicError
   withPath p = ok-or (InvalidSegment t) (rsplit-once slash p) >>= withHalves
 
-  slash-stage : map-err paper (withPath (drop 10 t))
+  slash-stage : isMarkedPath (beforeLast (drop 10 t)) ≡ false
+      → map-err paper (withPath (drop 10 t))
       ≡ readOf t (cond (hasSlash (drop 10 t)) (parentStage (drop 10 t)) (parsed.Refused refusal.InvalidSegment))
   unfolding parentStage
-  slash-stage =
+  slash-stage m =
       ap (λ (o : Option Split). map-err paper (ok-or (InvalidSegment t) o >>= withHalves)) (rsplit-agrees (drop 10 t))
       ∙ go (hasSlash (drop 10 t))
     where
@@ -179,17 +181,17 @@ module _ (t : Text) where
       go true =
           let b : Text = beforeLast (drop 10 t) in
           let e : 10 + length b - 10 ≡ length b = omega arith in
-          parent-stage t b (10 + length b) (rw e (before-last-take (drop 10 t))) (drop (length b + 1) (drop 10 t))
+          parent-stage t b (10 + length b) (rw e (before-last-take (drop 10 t))) (drop (length b + 1) (drop 10 t)) m
       go false = refl
 
 pub parse-agrees : ParseAgrees
 unfolding parseSegmentTopic
-parse-agrees t =
+parse-agrees t m =
     ap (λ (o : Option Text). map-err paper (ok-or (InvalidSegment t) o >>= withPath t)) (strip-agrees segmentScheme t)
-    ∙ go (startsWith segmentScheme t)
+    ∙ go (startsWith segmentScheme t) m
   where
-    go : (u : Bool)
+    go : (u : Bool) → (u && isMarkedPath (beforeLast (drop 10 t))) ≡ false
         → map-err paper (ok-or (InvalidSegment t) (cond u (some (drop 10 t)) none) >>= withPath t)
         ≡ readOf t (cond (u && hasSlash (drop 10 t)) (parentStage (drop 10 t)) (parsed.Refused refusal.InvalidSegment))
-    go true = slash-stage t
-    go false = refl
+    go true m = slash-stage t m
+    go false m = refl

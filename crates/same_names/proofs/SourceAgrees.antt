@@ -33,7 +33,7 @@ use Rattle.magnetar.specs.Text.{Text, Split, rsplit-once, strip-prefix}
 use Rattle.magnetar.specs.SegmentTopic.{SegmentTopicError, SegmentIdMismatch, slash, ParsedTopic, parse-segment-topic}
 use Rattle.magnetar.specs.SegmentTopic.{SegmentSource, SegmentSource-new}
 use Rattle.magnetar.specs.SegmentTopic.{behind-length, without-end, parent-topic}
-use Rattle.same_names.specs.Agree.{paper, readOf, sourceOf, parent-of, SourceAgrees, ParentTopicAgrees}
+use Rattle.same_names.specs.Agree.{paper, readOf, sourceOf, isMarkedName, parent-of, SourceAgrees, ParentTopicAgrees}
 use Rattle.same_names.proofs.ParentAgrees.{strip-agrees}
 use Rattle.same_names.proofs.BuildAgrees.{Gives, gives-by, gives-text}
 use Rattle.same_names.proofs.ParseAgrees.{atLast, rsplit-agrees, parse-agrees}
@@ -45,7 +45,7 @@ map-err-bind g (Err e) f = refl
 
 -- ---- the source with the given id
 
-module _ (id : SegmentId) (t : Text) where
+module _ (id : SegmentId) (t : Text) (m : isMarkedName t ≡ false) where
   -- 19
   abbrev withId : ParsedTopic → Result SegmentSource SegmentTopicError
   withId x =
@@ -67,12 +67,12 @@ module _ (id : SegmentId) (t : Text) where
   source-read : map-err paper (SegmentSource-new id t) ≡ sourceOf t (sourceStage id (parseSegmentTopic t))
   source-read =
       map-err-bind paper (parse-segment-topic t) withId
-      ∙ ap (λ (r : Result ParsedTopic Refusal). r >>= (λ y. map-err paper (withId y))) (parse-agrees t)
+      ∙ ap (λ (r : Result ParsedTopic Refusal). r >>= (λ y. map-err paper (withId y))) (parse-agrees t m)
       ∙ source-stage (parseSegmentTopic t)
 
 pub source-agrees : SourceAgrees
 unfolding segmentSource parseText
-source-agrees id t u = rw u (source-read id t)
+source-agrees id t u m = rw u (source-read id t m)
 
 -- ---- the path of a name
 
@@ -101,7 +101,7 @@ cut-path t h k =
 
 -- ---- the parent of a name
 
-module _ (t : Text) where
+module _ (t : Text) (m : isMarkedName t ≡ false) where
   abbrev withSource : Result SegmentSource SegmentTopicError → Result Text SegmentTopicError
   withSource r = r >>= (λ made. Ok (parent-topic made))
 
@@ -112,7 +112,7 @@ module _ (t : Text) where
   module _ (n : ℕ) (range : KeyRange) (id : SegmentId) (e : parseSegmentTopic t ≡ parsed.Name n range id) where
     own-id : map-err paper (SegmentSource-new id t) ≡ Ok (record { segment-id = id; topic = t; key-range = range })
     unfolding sourceStage
-    own-id = source-read id t ∙ rw (e, eq-eqb (id .0) (id .0) refl)
+    own-id = source-read id t m ∙ rw (e, eq-eqb (id .0) (id .0) refl)
 
     own-path : parent-topic (record { segment-id = id; topic = t; key-range = range }) ≡ topicScheme ++ take (n - 10) (drop 10 t)
     own-path =
@@ -129,7 +129,7 @@ module _ (t : Text) where
   parent-read : map-err paper (parent-of t) ≡ parentRead (parseSegmentTopic t)
   parent-read =
       map-err-bind paper (parse-segment-topic t) (λ name. withSource (SegmentSource-new (name .id) t))
-      ∙ ap (λ (r : Result ParsedTopic Refusal). r >>= own) (parse-agrees t)
+      ∙ ap (λ (r : Result ParsedTopic Refusal). r >>= own) (parse-agrees t m)
       ∙ go (parseSegmentTopic t) refl
     where
       own : ParsedTopic → Result Text Refusal
@@ -152,4 +152,4 @@ module _ (t : Text) where
 
 pub parent-topic-agrees : ParentTopicAgrees
 unfolding parentTopic parseText
-parent-topic-agrees t out u = rw u (parent-stage t out (parseSegmentTopic t) (parent-of t) (parent-read t))
+parent-topic-agrees t out u m = rw u (parent-stage t m out (parseSegmentTopic t) (parent-of t) (parent-read t m))

@@ -3,11 +3,12 @@
 --
 -- Where the two sides have different types, a table takes one to the other: `paper` takes the Rust's errors to this port's refusals,
 -- `readOf`, `sourceOf`, `rangeOf`, `lengthTold` and `testTold` an answer of this port to the Rust's `Result`. The only conditions are on the
--- inputs: a text is UTF-8, as a `str` is, and what the Rust gives for them fits the output.
+-- inputs: a text is UTF-8, as a `str` is; what the Rust gives for them fits the output; and the parent is none that the Rust takes and 02 h
+-- forbids (`isMarked`, `isMarkedName`).
 -- Assumes nothing.
 use Prim.Native.Nat.{ℕ, _-_}
 use mathlib.Core.Path.{_≡_}
-use mathlib.Core.Bool.{Bool, true, cond}
+use mathlib.Core.Bool.{Bool, true, false, cond, not, _&&_}
 use mathlib.Core.List.{List, _++_}
 use lib.ListN.{length, take, drop}
 use lib.IntN.{ℤ}
@@ -28,16 +29,17 @@ use Rattle.key_range.specs.declared.TestAnswer.{TestAnswer}
 use Rattle.key_range.specs.declared.TestAnswer.the-variants as tests
 use Rattle.key_range.specs.Calls.{lengthOf, containsOf, containsRangeOf, isAdjacentOf}
 use Rattle.packed_int.specs.Put.{put}
+use Rattle.parts.specs.Same.{startsWith}
 use Rattle.utf8.specs.Table.{isUtf8}
 use Rattle.topic.specs.declared.NameAnswer.the-variants.{Written}
-use Rattle.parents.specs.Parents.{topicScheme, isParent, pathOf}
-use Rattle.topic.specs.Names.{segmentTopic}
+use Rattle.parents.specs.Parents.{topicScheme, hasThreeParts, frontClean, isParent, pathOf}
+use Rattle.topic.specs.Names.{segmentScheme, segmentTopic}
 use Rattle.topic.specs.Build.{Outcome, outcome, refuse, canonicalSegmentTopic}
 use Rattle.segment_source.specs.declared.Parsed.{Parsed}
 use Rattle.segment_source.specs.declared.Parsed.the-variants as parsed
 use Rattle.segment_source.specs.declared.SourceAnswer.{SourceAnswer}
 use Rattle.segment_source.specs.declared.SourceAnswer.the-variants as source
-use Rattle.segment_source.specs.Parse.{parseSegmentTopic, segmentSource, parentTopic}
+use Rattle.segment_source.specs.Parse.{beforeLast, parseSegmentTopic, segmentSource, parentTopic}
 use Rattle.magnetar.specs.Result.{Result, Ok, Err, _>>=_, map-err}
 use Rattle.magnetar.specs.Text.{Text}
 use Rattle.magnetar.specs.Ranges.{KeyRange-new, KeyRange-len, KeyRange-contains, KeyRange-contains-range, KeyRange-is-adjacent-to}
@@ -55,16 +57,35 @@ paper (InvalidSegment topic) = refusal.InvalidSegment
 paper (SegmentIdMismatch segment-id topic-id) = refusal.SegmentIdMismatch segment-id topic-id
 paper (InvalidRange source) = refusal.InvalidKeyRange source
 
+-- ---- what leaves the comparison
+
+-- 02 h: "Sessions and calls with such a parent, or a name of one, leave the set on which the Rust is compared". A path that is one by 01's
+-- rule, with a `?` or `#` in its tenant or namespace; where it is none by 01's rule, it is refused on both sides.
+abbrev pub isMarkedPath : Text → Bool
+isMarkedPath p = hasThreeParts p && not (frontClean p)
+
+-- such a parent
+abbrev pub isMarked : Text → Bool
+isMarked t = startsWith topicScheme t && isMarkedPath (pathOf t)
+
+-- a name of one, whatever its descriptor
+abbrev pub isMarkedName : Text → Bool
+isMarkedName t = startsWith segmentScheme t && isMarkedPath (beforeLast (drop 10 t))
+
+-- no other text has to leave it: such a parent is taken by the Rust and refused here
+abbrev pub MarkedDiffers : Type 0
+MarkedDiffers = (t : Text) → isMarked t ≡ true → (canonical-parent-path t ≡ Ok (pathOf t)) × (isParent t ≡ false)
+
 -- ---- parents and names built
 
 -- `canonical_parent_path`
 abbrev pub ParentAgrees : Type 0
-ParentAgrees = (t : Text) → canonical-parent-path t ≡ cond (isParent t) (Ok (pathOf t)) (Err (InvalidParent t))
+ParentAgrees = (t : Text) → isMarked t ≡ false → canonical-parent-path t ≡ cond (isParent t) (Ok (pathOf t)) (Err (InvalidParent t))
 
 -- `canonical_segment_topic`
 abbrev pub SegmentTopicAgrees : Type 0
 SegmentTopicAgrees =
-    (t : Text) (range : KeyRange) (id : SegmentId)
+    (t : Text) (range : KeyRange) (id : SegmentId) → isMarked t ≡ false
     → canonical-segment-topic t range id ≡ cond (isParent t) (Ok (segmentTopic (pathOf t) range id)) (Err (InvalidParent t))
 
 -- a call with an output: the text at its front and the text's length, or a refusal and the output as it was
@@ -85,8 +106,8 @@ build parent start end id = do
 
 abbrev pub BuildAgrees : Type 0
 BuildAgrees =
-    (parent : Text) (start end : ℕ) (id : SegmentId) (out : List ℕ) → isUtf8 parent ≡ true → fits out (build parent start end id) ≡ true
-    → canonicalSegmentTopic parent start end id out ≡ outcomeOf out (build parent start end id)
+    (parent : Text) (start end : ℕ) (id : SegmentId) (out : List ℕ) → isUtf8 parent ≡ true → isMarked parent ≡ false
+    → fits out (build parent start end id) ≡ true → canonicalSegmentTopic parent start end id out ≡ outcomeOf out (build parent start end id)
 
 -- ---- names read
 
@@ -98,7 +119,7 @@ readOf t (parsed.Refused x) = Err x
 
 -- `parse_segment_topic`
 abbrev pub ParseAgrees : Type 0
-ParseAgrees = (t : Text) → map-err paper (parse-segment-topic t) ≡ readOf t (parseSegmentTopic t)
+ParseAgrees = (t : Text) → isMarkedName t ≡ false → map-err paper (parse-segment-topic t) ≡ readOf t (parseSegmentTopic t)
 
 abbrev pub sourceOf : Text → SourceAnswer → Result SegmentSource Refusal
 sourceOf t (source.Source s) = Ok (record { segment-id = s .«segment_id»; topic = t; key-range = s .«key_range» })
@@ -106,7 +127,9 @@ sourceOf t (source.Refused x) = Err x
 
 -- `SegmentSource::new`
 abbrev pub SourceAgrees : Type 0
-SourceAgrees = (id : SegmentId) (t : Text) → isUtf8 t ≡ true → map-err paper (SegmentSource-new id t) ≡ sourceOf t (segmentSource id t)
+SourceAgrees =
+    (id : SegmentId) (t : Text) → isUtf8 t ≡ true → isMarkedName t ≡ false
+    → map-err paper (SegmentSource-new id t) ≡ sourceOf t (segmentSource id t)
 
 -- `parent_topic` of the source that `SegmentSource::new` makes of the name and the name's own id
 abbrev pub parent-of : Text → Result Text SegmentTopicError
@@ -117,7 +140,8 @@ parent-of t = do
 
 abbrev pub ParentTopicAgrees : Type 0
 ParentTopicAgrees =
-    (t : Text) (out : List ℕ) → isUtf8 t ≡ true → fits out (parent-of t) ≡ true → parentTopic t out ≡ outcomeOf out (parent-of t)
+    (t : Text) (out : List ℕ) → isUtf8 t ≡ true → isMarkedName t ≡ false → fits out (parent-of t) ≡ true
+    → parentTopic t out ≡ outcomeOf out (parent-of t)
 
 -- ---- ranges given by their ends
 

@@ -27,6 +27,7 @@ use Rattle.magnetar.specs.Collections.{insert-by, sort-by, id-key, is-new, with
 use Rattle.magnetar.specs.Assignment.{DuplicateSegment, AssignedSegment, AssignedSegment-try-from-pb, segments-loop, id-le}
 use Rattle.magnetar.specs.Assignment.{ConsumerAssignment-try-from-pb}
 use Rattle.magnetar.specs.Session.{segment-key}
+use Rattle.same_names.specs.Agree.{isMarked}
 use Rattle.same_session.specs.Paper.{paper}
 use Rattle.same_session.specs.Values.{asSegment, asAssignment}
 use Rattle.same_session.proofs.Verdicts.{verdict, seq, test, or-none}
@@ -50,13 +51,13 @@ abbrev asTheyCame : Text → List WireSegment → List AssignedSegment
 asTheyCame parent [] = []
 asTheyCame parent (w ∷ ws) = asSegment parent (assignedSegment w) ∷ asTheyCame parent ws
 
-module _ (parent : Text) where
+module _ (parent : Text) (m : isMarked parent ≡ false) where
   segments-agree : (ws : List WireSegment) (segments : List AssignedSegment) (ids : List SegmentId) (seen : List ℕ) → SameIds ids seen
       → map-err paper (segments-loop parent ws segments ids) ≡ verdict (firstRefusal parent seen ws) (segments ++ asTheyCame parent ws)
   unfolding firstRefusal assignedSegment
   segments-agree [] segments ids seen h = ap (λ l. verdict none l) (sym (append-nil segments))
   segments-agree (w ∷ ws) segments ids seen h =
-      seq paper (AssignedSegment-try-from-pb w parent) (segmentFault parent w) x (segment-agrees parent w) _
+      seq paper (AssignedSegment-try-from-pb w parent) (segmentFault parent w) x (segment-agrees parent m w) _
       (orElse (duplicateFault seen w) later) (segments ++ (x ∷ asTheyCame parent ws)) (λ n.
       test paper (not (is-new (wireId w) ids)) (holds self (w .segmentId) seen)
       (Bool·not-not (holds id-key (w .segmentId) ids) ∙ h (w .segmentId)) (DuplicateSegment (wireId w))
@@ -203,13 +204,13 @@ module _ (parent : Text) where
 
 -- ---- the assignment
 
-pub content-agrees : (parent : Text) (a : WireAssignment)
+pub content-agrees : (parent : Text) (a : WireAssignment) → isMarked parent ≡ false
     → map-err paper (ConsumerAssignment-try-from-pb a parent)
     ≡ verdict (firstRefusal parent [] (a .segments)) (asAssignment parent (consumerAssignment a))
 unfolding consumerAssignment
-content-agrees parent a =
+content-agrees parent a m =
     seq paper (segments-loop parent (a .segments) [] []) (firstRefusal parent [] (a .segments)) (asTheyCame parent (a .segments))
-    (segments-agree parent (a .segments) [] [] [] (λ k. refl)) _ none (asAssignment parent (consumerAssignment a))
+    (segments-agree parent m (a .segments) [] [] [] (λ k. refl)) _ none (asAssignment parent (consumerAssignment a))
     (λ n.
     ap (λ l. verdict none (record { layout-epoch = a .layoutEpoch; segments = l }))
     (order-agrees parent (a .segments) [] [] [] refl seen-start n))

@@ -28,8 +28,9 @@ use Rattle.session.proofs.Model.{resultOf}
 use Rattle.session.proofs.CallLaws.{update-cases, response-cases, drain-cases}
 use Rattle.session.proofs.ViewLaws.{Kept, kept-fresh, Follows}
 use Rattle.session.proofs.TraceLaws.{outOf, follow-call, step-is}
+use Rattle.same_names.specs.Agree.{isMarked}
 use Rattle.same_session.specs.Values.{asAssignment, asFloor, asType}
-use Rattle.same_session.specs.Demand.{fullSize, portShown, portRun, Caller, rustStep, rustRun, opened, isOurs, noneOurs, fedCalls}
+use Rattle.same_session.specs.Demand.{fullSize, topicIn, portShown, portRun, Caller, rustStep, rustRun, opened, isOurs, noneOurs, fedCalls}
 use Rattle.same_session.specs.Demand.{fedShown, DemandTwoFed, DemandTwo}
 use Rattle.same_session.proofs.ReplayAgrees.{Registration, sess}
 use Rattle.same_session.proofs.Mirror.{oursIn, Mirror, Good}
@@ -127,11 +128,13 @@ registrationOf st =
       consumer-type = asType (kindOf (slot st identitySlot));
     }
 
-start : (r : SessionRecord) → Fresh r → (st : List ℕ) → length st ≡ fullSize → Mirror (registrationOf st) (view r st) (opened r st)
+start : (r : SessionRecord) → Fresh r → (st : List ℕ) → length st ≡ fullSize → isMarked (topicIn st) ≡ false
+    → Mirror (registrationOf st) (view r st) (opened r st)
 unfolding view listsIn
-start r f st full =
+start r f st full unmarked =
     record {
       size = full;
+      unmarked = unmarked;
       counted = view-counted r st;
       state =
           inl (record {
@@ -149,8 +152,8 @@ start r f st full =
     }
 
 pub demand-two-fed : DemandTwoFed
-demand-two-fed r f st full calls bytes =
-    fed-run (registrationOf st) calls r st (opened r st) (kept-fresh r st f) (start r f st full) bytes
+demand-two-fed r f st full unmarked calls bytes =
+    fed-run (registrationOf st) calls r st (opened r st) (kept-fresh r st f) (start r f st full unmarked) bytes
 
 -- ---- where none of ours is due, all calls are fed
 
@@ -168,6 +171,6 @@ all-fed (w ∷ ws) r st e =
     record { all = rw t (ap (w ∷_) (h .all)); shown = rw t (ap (portShown w o ∷_) (h .shown)) }
 
 pub demand-two : DemandTwo
-demand-two r f st full calls bytes e =
+demand-two r f st full unmarked calls bytes e =
     let a : AllFed r st calls = all-fed calls r st e in
-    sym (a .shown) ∙ demand-two-fed r f st full calls bytes ∙ ap (rustRun (opened r st)) (a .all)
+    sym (a .shown) ∙ demand-two-fed r f st full unmarked calls bytes ∙ ap (rustRun (opened r st)) (a .all)

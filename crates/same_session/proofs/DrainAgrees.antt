@@ -19,6 +19,7 @@ use Rattle.session.specs.Session.{Session, damaged}
 use Rattle.session.specs.Drain.{Found, end, entry, nextChange, placeOf, drained, drainCall}
 use Rattle.session.specs.Trace.{Call, drain}
 use Rattle.magnetar.specs.Session.{AssignmentReplay}
+use Rattle.same_names.specs.Agree.{isMarked}
 use Rattle.same_session.specs.Values.{asReplay, replays}
 use Rattle.same_session.specs.Demand.{fullSize, replay, Caller, handOn, rustStep}
 use Rattle.same_session.proofs.ReplayAgrees.{Registration, replays-end, replays-none, Next, replays-entry}
@@ -38,8 +39,8 @@ module _ (n : Registration) (out : List ℕ) (s : Session) where
   abbrev left : ℕ → List AssignmentReplay
   left k = replays (s .topic) (s .baseline) (s .queue) k
 
-  module _ (full : s .size ≡ fullSize) (counted : length (s .queue) ≡ s .state .«queue_count»)
-      (live : s .state .registered ≡ true) (pl : Proper (s .list)) where
+  module _ (full : s .size ≡ fullSize) (unmarked : isMarked (s .topic) ≡ false)
+      (counted : length (s .queue) ≡ s .state .«queue_count») (live : s .state .registered ≡ true) (pl : Proper (s .list)) where
     -- with nothing left
     drained-end : Good n call s (drained s end) (handOn (rust n s (holding s) [] []) [])
     unfolding drained
@@ -47,6 +48,7 @@ module _ (n : Registration) (out : List ℕ) (s : Session) where
         good-same n call s (drained s end) _ counted refl
         (record {
           size = full;
+          unmarked = unmarked;
           counted = counted;
           state =
               inr (record {
@@ -69,6 +71,7 @@ module _ (n : Registration) (out : List ℕ) (s : Session) where
         (ap (λ k. replay (asReplay (s .topic) (getD (s .queue) k (s .baseline)) d)) (placed i))
         (record {
           size = full;
+          unmarked = unmarked;
           counted = counted;
           state = inr (record { registered = live; is = refl; left = append-nil l ∙ e; proper = pl });
         })
@@ -96,7 +99,7 @@ module _ (n : Registration) (out : List ℕ) (s : Session) where
     drained-fair (inl d) u = absurd (false≢true (sym (d .registered) ∙ u))
     drained-fair (inr d) u = λ f.
         subst (λ x. Good n call s (drained s found) (rustStep x call)) (sym (d .is))
-        (live-drain (h .size) (h .counted) (d .registered) (d .proper) (c .taken ++ c .session .replayed-updates) (d .left) found refl)
+        (live-drain (h .size) (h .unmarked) (h .counted) (d .registered) (d .proper) (c .taken ++ c .session .replayed-updates) (d .left) found refl)
 
     idle-fair : Idle n s c ⊎ Live n s c → s .state .registered ≡ false
         → Fair n call s (record { reply = session.nothing; next = s .state; writes = [] }) (rustStep c call)

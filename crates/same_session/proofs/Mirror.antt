@@ -37,6 +37,7 @@ use Rattle.magnetar.specs.Assignment.{CrossIncarnationEpochRegression, PreBasel
 use Rattle.magnetar.specs.Assignment.{InvalidBucketRange, OverlappingBucketRanges, AttachmentMismatch, SegmentTopic, Broker, Empty}
 use Rattle.magnetar.specs.Assignment.{ConsumerAssignment}
 use Rattle.magnetar.specs.Session.{AssignmentReplay, ScalableConsumerSession, Did, Run, go-on, enforce}
+use Rattle.same_names.specs.Agree.{isMarked}
 use Rattle.same_session.specs.Paper.{paper, textOf}
 use Rattle.same_session.specs.Values.{asAssignment, asDelta, asReplay, asFloor, replays}
 use Rattle.same_session.specs.Demand.{fullSize, Told, refuses, baseline, done, no-change, delta, replay, Shown, textBeside, Caller}
@@ -109,6 +110,8 @@ pub record Live (n : Registration) (s : Session) (c : Caller) : Type 0 where
 
 pub record Mirror (n : Registration) (s : Session) (c : Caller) : Type 0 where
   pub size : s .size ≡ fullSize
+  -- the Rust is compared on the parent
+  pub unmarked : isMarked (s .topic) ≡ false
   pub counted : length (s .queue) ≡ s .state .«queue_count»
   pub state : Idle n s c ⊎ Live n s c
 

@@ -194,5 +194,5 @@ unfolding view
 none-due r f st full good calls bytes e = none-from calls r st (well-fresh r st f full good) bytes e
 
 pub demand-two-of-inputs : DemandTwoOfInputs
-demand-two-of-inputs r f st full good calls bytes e =
-    let n : noneOurs r st calls ≡ true = none-due r f st full good calls bytes e in (n, demand-two r f st full calls bytes n)
+demand-two-of-inputs r f st full unmarked good calls bytes e =
+    let n : noneOurs r st calls ≡ true = none-due r f st full good calls bytes e in (n, demand-two r f st full unmarked calls bytes n)

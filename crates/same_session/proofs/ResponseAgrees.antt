@@ -140,6 +140,7 @@ module _ (n : Registration) (message : List ℕ) (link : ControllerIncarnation) 
       accepted e =
           record {
             size = h .size;
+            unmarked = h .unmarked;
             counted = counted;
             state =
                 inr (record {
@@ -204,7 +205,7 @@ module _ (n : Registration) (message : List ℕ) (link : ControllerIncarnation) 
     response-reply true =
         contents (Responds t) (s .topic) (responseContent s) from (floorRest (own .requestId))
         (ConsumerAssignment-try-from-pb (own .assignment) (s .topic)) (firstRefusal (s .topic) [] (own .assignment .segments))
-        (consumerAssignment (own .assignment)) (content-agrees (s .topic) (own .assignment))
+        (consumerAssignment (own .assignment)) (content-agrees (s .topic) (own .assignment) (h .unmarked))
         (theirs-content (s .topic) [] (own .assignment .segments))
         (λ x y p. plain-fair n call s x y (caller n s o q r t) p h)
         (λ d f. absurd (true≢false f))

@@ -35,6 +35,7 @@ use Rattle.magnetar.specs.SegmentTopic.{canonical-segment-topic}
 use Rattle.magnetar.specs.Assignment.{AssignmentError, InvalidRange, InvalidBucketRange, OverlappingBucketRanges, AttachmentMismatch}
 use Rattle.magnetar.specs.Assignment.{SegmentTopic, AssignedSegment, u32-try-from, bucket-range-from, bucket-range}
 use Rattle.magnetar.specs.Assignment.{AssignedSegment-try-from-pb}
+use Rattle.same_names.specs.Agree.{isMarked}
 use Rattle.same_names.proofs.ParentAgrees.{segment-topic-agrees}
 use Rattle.same_session.specs.Paper.{paper}
 use Rattle.same_session.specs.Values.{asSegment}
@@ -142,7 +143,7 @@ apart parent w range buckets =
 abbrev bucketed : Text → WireSegment → KeyRange → Result AssignedSegment AssignmentError
 bucketed parent w range = collect-results (enumerate-map (bucket-range (wireId w)) 0 (w .bucketRanges)) >>= apart parent w range
 
-module _ (parent : Text) (w : WireSegment) where
+module _ (parent : Text) (unmarked : isMarked parent ≡ false) (w : WireSegment) where
   abbrev range : KeyRange
   range = keyRange (w .hashStart) (w .hashEnd)
 
@@ -157,7 +158,7 @@ module _ (parent : Text) (w : WireSegment) where
   names-agree : map-err paper (named parent w range (bucketsOf w)) ≡ verdict (nameFault parent w) (asSegment parent (assignedSegment w))
   unfolding nameFault assignedSegment
   names-agree =
-      ap (λ m. map-err paper (map-err SegmentTopic m >>= attached w range (bucketsOf w))) (segment-topic-agrees parent range (wireId w))
+      ap (λ m. map-err paper (map-err SegmentTopic m >>= attached w range (bucketsOf w))) (segment-topic-agrees parent range (wireId w) unmarked)
       ∙ go (isParent parent)
     where
       go : (b : Bool)

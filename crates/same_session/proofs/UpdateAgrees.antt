@@ -125,6 +125,7 @@ module _ (n : Registration) (message : List ℕ) (link : ControllerIncarnation) 
     queued =
         record {
           size = h .size;
+          unmarked = h .unmarked;
           counted = omega (arith, h .counted, length-append (s .queue) (a ∷ []));
           state = inl (record { registered = idle; is = refl; proper = each-append Proper (s .queue) (a ∷ []) each (pa, tt) });
         }
@@ -195,6 +196,7 @@ module _ (n : Registration) (message : List ℕ) (link : ControllerIncarnation) 
               mirror-same n s (hold s a) _ (h .counted)
               (record {
                 size = h .size;
+                unmarked = h .unmarked;
                 counted = h .counted;
                 state = inr (record { registered = live; is = refl; left = left; proper = pa });
               });
@@ -234,7 +236,7 @@ module _ (n : Registration) (message : List ℕ) (link : ControllerIncarnation) 
         (caller n s o q r t) refl refl h) (λ u.
         contents (Updates t) (s .topic) (updateContent s) from (incomingRest from)
         (ConsumerAssignment-try-from-pb (pushed .assignment) (s .topic)) (firstRefusal (s .topic) [] (pushed .assignment .segments))
-        (consumerAssignment (pushed .assignment)) (content-agrees (s .topic) (pushed .assignment))
+        (consumerAssignment (pushed .assignment)) (content-agrees (s .topic) (pushed .assignment) (h .unmarked))
         (theirs-content (s .topic) [] (pushed .assignment .segments))
         (λ x y p. plain-fair n call s x y (caller n s o q r t) p h)
         (λ d f. absurd (true≢false f))

@@ -4,9 +4,10 @@
 -- A run is a list of calls; what it shows is a list too, of what is seen after each call (`Shown`), in the Rust's types on both sides. The
 -- port's run (`portRun`) goes by the definitions that the programs' contracts cite, on the bytes of record and store; the Rust's
 -- (`rustRun`) by the transcription in the crate magnetar. The Rust is fed what the reader makes of a message, and only where the reader
--- takes it.
+-- takes it. By 02 h sessions whose parent has a `?` or `#` in tenant or namespace leave the set on which the Rust is compared: the session's
+-- topic is no such parent (`isMarked`).
 --
--- Three statements, each proved in proofs/: `DemandTwoFed` has no condition, and feeds the Rust the calls that none of ours refuses;
+-- Three statements, each proved in proofs/: `DemandTwoFed` has no other condition, and feeds the Rust the calls that none of ours refuses;
 -- `DemandTwo` is 01's wording; `DemandTwoOfInputs` says when none of ours is due, by the inputs alone.
 -- Assumes nothing.
 use Prim.Native.Nat.{ℕ}
@@ -43,6 +44,7 @@ use Rattle.magnetar.specs.Text.{Text}
 use Rattle.magnetar.specs.Assignment.{AssignmentError, ConsumerAssignment}
 use Rattle.magnetar.specs.Session.{AssignmentDelta, AssignmentReplay, ScalableConsumerSession, new, take-replayed-updates}
 use Rattle.magnetar.specs.Session.{begin-incarnation, invalidate-authority, handle-subscribe-response-for, handle-assignment-update-for}
+use Rattle.same_names.specs.Agree.{isMarked}
 use Rattle.same_session.specs.Paper.{paper, textOf}
 use Rattle.same_session.specs.Values.{asAssignment, asDelta, asReplay, asFloor, asType, replays}
 
@@ -269,19 +271,21 @@ allRoomy parent (c ∷ cs) = roomy parent c && allRoomy parent cs
 -- whatever is called: the Rust, fed the calls that none of ours refuses, shows after each what the port shows
 abbrev pub DemandTwoFed : Type 0
 DemandTwoFed =
-    (r : SessionRecord) → Fresh r → (store : List ℕ) → length store ≡ fullSize → (calls : List Call) → AllOfBytes calls
+    (r : SessionRecord) → Fresh r → (store : List ℕ) → length store ≡ fullSize → isMarked (topicIn store) ≡ false
+    → (calls : List Call) → AllOfBytes calls
     → fedShown r store calls ≡ rustRun (opened r store) (fedCalls r store calls)
 
 -- where none of ours is due
 abbrev pub DemandTwo : Type 0
 DemandTwo =
-    (r : SessionRecord) → Fresh r → (store : List ℕ) → length store ≡ fullSize → (calls : List Call) → AllOfBytes calls
+    (r : SessionRecord) → Fresh r → (store : List ℕ) → length store ≡ fullSize → isMarked (topicIn store) ≡ false
+    → (calls : List Call) → AllOfBytes calls
     → noneOurs r store calls ≡ true → portRun r store calls ≡ rustRun (opened r store) calls
 
 -- which is so by the inputs alone: with a well-formed identity, outputs of at least 3,210 bytes, messages that the reader takes, and
 -- assignments that are refused for their content or fit a slot
 abbrev pub DemandTwoOfInputs : Type 0
 DemandTwoOfInputs =
-    (r : SessionRecord) → Fresh r → (store : List ℕ) → length store ≡ fullSize → isIdentity (slot store identitySlot) ≡ true
-    → (calls : List Call) → AllOfBytes calls → allRoomy (topicIn store) calls ≡ true
+    (r : SessionRecord) → Fresh r → (store : List ℕ) → length store ≡ fullSize → isMarked (topicIn store) ≡ false
+    → isIdentity (slot store identitySlot) ≡ true → (calls : List Call) → AllOfBytes calls → allRoomy (topicIn store) calls ≡ true
     → (noneOurs r store calls ≡ true) × (portRun r store calls ≡ rustRun (opened r store) calls)
