@@ -1,6 +1,6 @@
 #!/usr/bin/env python3
 """Measures the port beside the Rust and prints the tables of docs/BENCHMARKS.md; with --write they replace those in the file. A table's mark as a word (update,
-reconnect, scan, intake, plain, text, watch, keys, memory, sizes) makes that one alone.
+reconnect, scan, intake, plain, text, watch, keys, logs, memory, sizes) makes that one alone.
 
 Instructions are counted by callgrind: a run of some turns less a run of none, by their number. Times are the shortest of five runs of many turns less the shortest of
 five of none. The heap is what valgrind finds. It needs rt, gcc and valgrind. The Rust's side is measured where CUDDREWYN_RUST names the folder of the Rust's sources
@@ -66,6 +66,9 @@ WATCHES = [
 ]
 # Bytes of a key; segments of the list.
 KEYS = [(0, 4), (8, 4), (32, 4), (1024, 4), (65535, 4), (8, 145)]
+# Ids that a delta loses, and as many that it gains; the order of the log; turns that are counted.
+LOGS = [(145, "rising", TURNS), (145, "falling", TURNS), (4000, "rising", TURNS), (4000, "falling", 1), (65535, "rising", 2)]
+YES = "6"
 # What it is; how many calls of the run are refused; the call and its messages.
 STACKS = [
     ("an update, case a", 0, "update", "a", "a"),
@@ -92,6 +95,7 @@ class Bench:
         self.port = self.compiled("port", "export", "-pthread")
         self.pieces = self.compiled("pieces", "speed")
         self.keys = self.compiled("keys", "export")
+        self.logs = self.compiled("logs", "export")
         self.rust = self.built()
 
     def compiled(self, name, library, *more):
@@ -230,6 +234,15 @@ def key_table(bench):
     return rows(["bytes of the key", "segments", "C, instructions", "port, instructions", "port / C"], lines)
 
 
+def log_table(bench):
+    """An uploader's log of one delta, which passes."""
+    lines = []
+    for ids, order, turns in LOGS:
+        count = instructions(YES, [bench.logs, order, ids], turns)
+        lines.append([f"{ids:,}", order, f"{count:,}", f"{count // (2 * ids):,}"])
+    return rows(["ids lost, and as many gained", "entries", "port, instructions", "for an entry"], lines)
+
+
 def heap(bench, *words):
     """The bytes that a run of the Rust leaves in use, and how often it allocates; nothing where it is not measured."""
     if bench.rust is None:
@@ -279,7 +292,7 @@ def size_table(bench):
 
 TABLES = {
     "update": update_table, "reconnect": reconnect_table, "scan": scan_table, "intake": intake_table, "plain": plain_table, "text": text_table,
-    "watch": watch_table, "keys": key_table, "memory": memory_table, "sizes": size_table,
+    "watch": watch_table, "keys": key_table, "logs": log_table, "memory": memory_table, "sizes": size_table,
 }
 
 

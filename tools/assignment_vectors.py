@@ -102,14 +102,22 @@ def whole_assignment(data):
     return assignment
 
 
-def whole_delta(data):
-    data = Bytes(data)
+def take_delta(data):
+    """The delta at the front."""
     epoch, losses, gains = data.take(">QHH")
     lost = [data.take(">Q")[0] for _ in range(losses)]
     gained = take_segments(data, gains)
-    if data.at != len(data.data) or not rising(lost):
+    if not rising(lost):
         raise Malformed
     return Delta(epoch, lost, gained)
+
+
+def whole_delta(data):
+    data = Bytes(data)
+    delta = take_delta(data)
+    if data.at != len(data.data):
+        raise Malformed
+    return delta
 
 
 # ---- what changed, apply and join

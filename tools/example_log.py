@@ -3,7 +3,8 @@
 
 The messages are put into bytes by tools/assignment_vectors.py, the hostile ones here, field by field.
 """
-from assignment_vectors import Assignment, Segment, name_of, number_field, pack_segment, part_field, segment_message, to_pb
+from assignment_vectors import Assignment, Delta, Segment, name_of, number_field, pack_delta, pack_segment, part_field, segment_message, to_pb
+from attach_log_vectors import attach, detach, packed_entry, packed_log
 from hours_vectors import at, of_week, packed
 from vectors import CRATES
 
@@ -184,6 +185,19 @@ def hours():
     yield "is_open", CONTRACT, b"noon"
 
 
+def uploads():
+    deltas = pack_delta(Delta(6, [], [SOUTH])) + pack_delta(Delta(7, [0, 1, 2], [EAST_WHOLE, NORTH_LOW, NORTH_HIGH]))
+    split = [*attach(2), *detach(2, 0, 1), *attach(1, 4, 3)]
+    yield "# A customer's uploader sends its log of the pushes at epochs 6 and 7."
+    yield "check_log", deltas, packed_log(split)
+    yield "# Segment 4 is attached before segment 1 is detached; an entry is missing; a filling bit is set; a delta is cut short; no log."
+    yield "check_log", deltas, packed_log([*attach(2), *detach(2, 0), *attach(4), *detach(1), *attach(1, 3)])
+    yield "check_log", deltas, packed_log(split[:-1])
+    yield "check_log", deltas, packed_log(split[:-1]) + packed_entry(split[-1], "0000001")
+    yield "check_log", deltas[:-1], packed_log(split)
+    yield "check_log", deltas
+
+
 def shown(word):
     """A word of a line: plain texts as they stand, all other bytes in hexadecimal."""
     if not isinstance(word, bytes):
@@ -197,7 +211,7 @@ def line(step):
 
 def main():
     head = "# A pass of the station svalbard-2 as a log of calls, written by tools/example_log.py. The answers stand in stdout."
-    parts = [[head], first_link(), pushes(), second_link(), damage(), questions(), charges(), hours()]
+    parts = [[head], first_link(), pushes(), second_link(), damage(), questions(), charges(), hours(), uploads()]
     text = "\n\n".join("\n".join(map(line, part)) for part in parts)
     (CRATES / "station" / "stdin").write_text(text + "\n", encoding="ascii")
 

@@ -19,6 +19,7 @@ NAMES = {
     27: "StaleEpoch",
     35: "InvalidContract",
     36: "ChargeTooLarge",
+    37: "InvalidLog",
 }
 
 

@@ -5,14 +5,15 @@ the same of the logs of `station` in vectors/ (tools/logs.py).
 The vectors are the lines of their files stdin. Each subject has its judge: tools/name_vectors.py (texts, names, ranges), tools/wire_vectors.py,
 tools/assignment_vectors.py (packed assignments, deltas, the calls with an output, the intake), tools/watch_vectors.py and tools/key_vectors.py (hashes, the
 segment of a key, test keys); each log has one too: tools/charge_vectors.py (what holdings cost), tools/churn_vectors.py (lost counts), tools/hours_vectors.py
-(pass hours). `--write` writes anew what is compared. The ends of every row of Unicode's Table 3-7 (tools/text_vectors.py) have to be among those of `vectors`,
-answered as their row says.
+(pass hours), tools/attach_log_vectors.py (uploaders' logs). `--write` writes anew what is compared. The ends of every row of Unicode's Table 3-7
+(tools/text_vectors.py) have to be among those of `vectors`, answered as their row says.
 """
 import pathlib
 import re
 import sys
 
 import assignment_vectors
+import attach_log_vectors
 import charge_vectors
 import churn_vectors
 import hours_vectors
@@ -32,7 +33,12 @@ PROGRAMS = {"vectors": 1048576, "key_vectors": 262144}
 
 COMMANDS = name_vectors.COMMANDS | wire_vectors.COMMANDS | assignment_vectors.COMMANDS | watch_vectors.COMMANDS | key_vectors.COMMANDS
 # the logs of station in vectors/
-LOGS = {"charge": charge_vectors.COMMANDS, "churn": churn_vectors.COMMANDS, "hours": hours_vectors.COMMANDS}
+LOGS = {
+    "attach_log": attach_log_vectors.COMMANDS,
+    "charge": charge_vectors.COMMANDS,
+    "churn": churn_vectors.COMMANDS,
+    "hours": hours_vectors.COMMANDS,
+}
 
 
 def answer(line):

@@ -29,6 +29,8 @@ extern "C" {
 #define CUDDREWYN_MAX_TERMS 64
 #define CUDDREWYN_MAX_WINDOWS 28
 #define CUDDREWYN_WEEK 604800
+/* The bytes of an entry of an uploader's log. */
+#define CUDDREWYN_LOG_ENTRY 9
 /* Where the baseline and the list held stand in the store. */
 #define CUDDREWYN_BASELINE 2048
 #define CUDDREWYN_LIST 4096
@@ -171,6 +173,12 @@ cuddrewyn_reply cuddrewyn_is_open(const uint8_t *contract, size_t contract_len, 
 
 /* The earliest open second not before the one given. FOUND: first is that second. NO: none from there on is open. */
 cuddrewyn_reply cuddrewyn_earliest_open(const uint8_t *contract, size_t contract_len, uint64_t second);
+
+/* Whether an uploader's log is what deltas, packed one behind another, ask for: delta after delta each lost id detached
+ * once in any order, then each gained id attached once in any order, and nothing more. An entry of the log has 9 bytes:
+ * one bit (0 detach, 1 attach), a 64-bit id, seven zero bits. YES or NO; refuses 20 (deltas malformed), 37 (the log's
+ * length is no multiple of 9, or a filling bit is set). */
+cuddrewyn_reply cuddrewyn_check_log(const uint8_t *deltas, size_t deltas_len, const uint8_t *log, size_t log_len);
 
 /* The name of a segment. WRITTEN: first is its length in out. Refuses 7, 9, 12 (the parent is no topic://tenant/namespace/name, or has ? or # in
  * a part), 21. */

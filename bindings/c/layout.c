@@ -283,6 +283,37 @@ static void hours(void) {
     free(contract);
 }
 
+/* One entry of an uploader's log: 1 attach or 0 detach, and an id. */
+static void put_entry(uint8_t *entry, unsigned attach, uint64_t id) {
+    entry[0] = (uint8_t)(attach << 7 | id >> 57);
+    for (int byte = 1; byte < 8; byte++) entry[byte] = (uint8_t)(id >> (57 - 8 * byte));
+    entry[8] = (uint8_t)(id << 7);
+}
+
+/* Segment 5 gained, no change, 5 lost and the highest id gained: a log of three entries. */
+static void logs(void) {
+    static const uint8_t deltas[72] = {[7] = 1,     [11] = 1,    [19] = 5,    [23] = 9,    [33] = 2,    [45] = 3,
+                                       [47] = 1,    [49] = 1,    [57] = 5,    [58] = 0xff, [59] = 0xff, [60] = 0xff,
+                                       [61] = 0xff, [62] = 0xff, [63] = 0xff, [64] = 0xff, [65] = 0xff, [69] = 9};
+    uint8_t log[4 * CUDDREWYN_LOG_ENTRY];
+    put_entry(log, 1, 5);
+    put_entry(log + 9, 0, 5);
+    put_entry(log + 18, 1, UINT64_MAX);
+    put_entry(log + 27, 1, UINT64_MAX);
+    check_reply(cuddrewyn_check_log(deltas, 72, log, 27), plain(CUDDREWYN_YES));
+    check_reply(cuddrewyn_check_log(deltas, 38, log, 9), plain(CUDDREWYN_YES));
+    check_reply(cuddrewyn_check_log(deltas, 0, log, 0), plain(CUDDREWYN_YES));
+    check_reply(cuddrewyn_check_log(deltas, 72, log, 18), plain(CUDDREWYN_NO));
+    check_reply(cuddrewyn_check_log(deltas, 72, log, 36), plain(CUDDREWYN_NO));
+    check_reply(cuddrewyn_check_log(deltas, 72, log, 26), refused(37, 0, 0, 0, 0, 0));
+    check_reply(cuddrewyn_check_log(deltas, 71, log, 26), refused(20, 0, 0, 0, 0, 0));
+    put_entry(log + 9, 1, UINT64_MAX);
+    put_entry(log + 18, 0, 5);
+    check_reply(cuddrewyn_check_log(deltas, 72, log, 27), plain(CUDDREWYN_NO));
+    log[26] |= 0x40;
+    check_reply(cuddrewyn_check_log(deltas, 72, log, 27), refused(37, 0, 0, 0, 0, 0));
+}
+
 static void names(void) {
     static const uint8_t name[] = "segment://a/b/c/0010-00ff-12";
     size_t length = sizeof name - 1;
@@ -326,6 +357,7 @@ int main(void) {
     charges();
     churn();
     hours();
+    logs();
     names();
     ranges();
     free(store);

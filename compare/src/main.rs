@@ -11,6 +11,7 @@ include!(concat!(env!("OUT_DIR"), "/sources.rs"));
 #[allow(dead_code)]
 mod raw;
 
+mod attach_logs;
 mod charges;
 mod churns;
 mod either_order;

@@ -131,6 +131,11 @@ pub fn earliest_open(contract: &mut [u8], second: u64) -> Reply {
     spoiled_reply(Call::EarliestOpen, reply, &mut [contract])
 }
 
+pub fn check_log(deltas: &mut [u8], log: &mut [u8]) -> Reply {
+    let reply = unsafe { raw::cuddrewyn_check_log(deltas.as_ptr(), deltas.len(), log.as_ptr(), log.len()) };
+    spoiled_reply(Call::CheckLog, reply, &mut [deltas, log])
+}
+
 pub fn segment_topic(parent: &mut [u8], range: (u32, u32), id: u64, out: &mut [u8]) -> Reply {
     let reply = unsafe { raw::cuddrewyn_segment_topic(parent.as_ptr(), parent.len(), range.0, range.1, id, out.as_mut_ptr(), out.len()) };
     spoiled_reply(Call::SegmentTopic, reply, &mut [parent, out])

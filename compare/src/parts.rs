@@ -1,4 +1,5 @@
 //! The parts of a run: first what is written down, then what is random or long, sharing the time.
+use crate::attach_logs::{self, AttachLogs};
 use crate::charges::{self, Charges};
 use crate::churns::{self, Churns};
 use crate::either_order::{self, EitherOrder};
@@ -35,6 +36,8 @@ pub fn directed(tally: &mut Tally, seed: u64) {
     churns::directed(tally);
     tally.place = HOURS.into();
     hours::directed(tally);
+    tally.place = ATTACH_LOGS.into();
+    attach_logs::directed(tally);
     #[cfg(feature = "watch")]
     {
         tally.place = "long topics".into();
@@ -52,6 +55,7 @@ enum Work {
     Charges(Charges),
     Churns(Churns),
     Hours(Hours),
+    AttachLogs(AttachLogs),
     Short(Short),
     #[cfg(feature = "watch")]
     Watch(crate::watch::Watch),
@@ -70,6 +74,7 @@ impl Work {
             Self::Charges(charges) => charges.step(tally),
             Self::Churns(churns) => churns.step(tally),
             Self::Hours(hours) => hours.step(tally),
+            Self::AttachLogs(attach_logs) => attach_logs.step(tally),
             Self::Short(short) => return short.step(tally),
             #[cfg(feature = "watch")]
             Self::Watch(watch) => watch.step(tally),
@@ -112,6 +117,7 @@ pub const KEYS: &str = "keys and their segments";
 pub const CHARGES: &str = "charges of holdings";
 pub const CHURN: &str = "windows of lost counts";
 pub const HOURS: &str = "pass hours";
+pub const ATTACH_LOGS: &str = "uploaders' logs";
 pub const WATCH: &str = "topics watch";
 
 impl Parts {
@@ -131,6 +137,7 @@ impl Parts {
             (CHARGES, 1, Work::Charges(Charges::new(seed))),
             (CHURN, 1, Work::Churns(Churns::new(seed))),
             (HOURS, 1, Work::Hours(Hours::new(seed))),
+            (ATTACH_LOGS, 1, Work::AttachLogs(AttachLogs::new(seed))),
             #[cfg(feature = "watch")]
             (WATCH, 5, Work::Watch(crate::watch::Watch::new(seed))),
         ];

@@ -1,6 +1,6 @@
 //! Whether the comparison notices a wrong bit, for each call and each place of what it gives.
 use crate::model::session::{LIST, SLOT};
-use crate::parts::{CHARGES, CHURN, EITHER_ORDER, HOURS, KEYS, LISTS, NAMES, ORDERS, Parts, SMALL_STORES, WATCH};
+use crate::parts::{ATTACH_LOGS, CHARGES, CHURN, EITHER_ORDER, HOURS, KEYS, LISTS, NAMES, ORDERS, Parts, SMALL_STORES, WATCH};
 use crate::spoil::{Judge, Place, arm, armed, disarm, leave_to};
 use crate::tally::{Call, Tally};
 
@@ -27,6 +27,7 @@ const CALLS: &[(Call, bool, usize)] = &[
     (Call::ChurnCurrent, false, 1),
     (Call::IsOpen, false, 1),
     (Call::EarliestOpen, false, 1),
+    (Call::CheckLog, false, 2),
     (Call::SegmentTopic, false, 2),
     (Call::SegmentSource, false, 1),
     (Call::ParentTopic, false, 2),
@@ -96,6 +97,7 @@ fn part_of(call: Call) -> &'static str {
         Call::Charge => CHARGES,
         Call::ChurnPush | Call::ChurnClear | Call::ChurnCurrent => CHURN,
         Call::IsOpen | Call::EarliestOpen => HOURS,
+        Call::CheckLog => ATTACH_LOGS,
         Call::Watch | Call::WatchText => WATCH,
         Call::SegmentTopic | Call::SegmentSource | Call::ParentTopic | Call::ConsumerType => NAMES,
         Call::RangeLen | Call::RangeContains | Call::RangeContainsRange | Call::RangeAdjacent => NAMES,

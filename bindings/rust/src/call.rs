@@ -174,6 +174,11 @@ pub(crate) fn earliest_open(contract: &[u8], second: u64) -> Reply {
     unsafe { raw::cuddrewyn_earliest_open(contract.as_ptr(), contract.len(), second) }
 }
 
+pub(crate) fn check_log(deltas: &[u8], log: &[u8]) -> Reply {
+    // SAFETY: two slices as pointer and length of live references; none is written.
+    unsafe { raw::cuddrewyn_check_log(deltas.as_ptr(), deltas.len(), log.as_ptr(), log.len()) }
+}
+
 pub(crate) fn segment_topic(parent: &str, start: u32, end: u32, segment_id: u64, out: &mut [u8]) -> Reply {
     // SAFETY: two slices as pointer and length of live references; `out`, the only one written, is exclusive.
     unsafe {

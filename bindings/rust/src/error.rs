@@ -34,6 +34,7 @@ pub(crate) fn own_text(number: u8) -> &'static str {
         32 => "the key is longer than 65535 bytes",
         35 => "the contract has a span that ends before it starts, a window beyond the week or a count too large",
         36 => "the charge is beyond 64 bits, or the remainder is not below 235929600",
+        37 => "the length of the log is no multiple of 9, or a filling bit is set",
         38 => "the lost count is above 65535, or the window points beyond its 256 places",
         _ => "the call is refused",
     }
@@ -250,6 +251,8 @@ pub enum AssignmentError<'m> {
     InvalidContract,
     /// 36: the product and the remainder reach 2^64 together, or the remainder lent in is not below [`DIVISOR`](crate::DIVISOR).
     ChargeTooLarge,
+    /// 37: the log's length is no multiple of 9, or one of its filling bits is set.
+    InvalidLog,
     /// 38: the lost count is above 65,535, or the window's own numbers point beyond its 256 places.
     InvalidWindow,
     /// A reply that this crate does not know: the archive is of another version.
@@ -290,6 +293,7 @@ impl<'m> AssignmentError<'m> {
             Self::KeyTooLong => 32,
             Self::InvalidContract => 35,
             Self::ChargeTooLarge => 36,
+            Self::InvalidLog => 37,
             Self::InvalidWindow => 38,
             Self::Unknown(reply) => reply.number,
         }
@@ -317,6 +321,7 @@ impl<'m> AssignmentError<'m> {
             32 => Self::KeyTooLong,
             35 => Self::InvalidContract,
             36 => Self::ChargeTooLarge,
+            37 => Self::InvalidLog,
             38 => Self::InvalidWindow,
             _ => Self::of_state(reply),
         }

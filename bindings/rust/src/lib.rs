@@ -83,6 +83,7 @@
 //! | | [`charge()`]: what a holding of a segment costs |
 //! | | [`Churn`]: sum and largest of the lost counts of the latest 256 deltas |
 //! | | [`is_open`], [`earliest_open`]: the hours that a [`Contract`] leaves open |
+//! | | [`check_log`]: whether an uploader's log, of [`Entry`]s, is what deltas ask for |
 //!
 //! # Memory to lend
 //!
@@ -122,6 +123,7 @@
 #[cfg(feature = "std")]
 extern crate std;
 
+mod attach_log;
 #[allow(unsafe_code)]
 mod call;
 mod charge;
@@ -138,6 +140,7 @@ mod views;
 #[cfg(feature = "watch")]
 mod watch;
 
+pub use attach_log::{Entry, check_log};
 pub use charge::{Charge, DIVISOR, charge};
 pub use churn::{CHURN_WINDOW, Churn, ChurnTotals};
 pub use error::{AssignmentError, SegmentTopicError};

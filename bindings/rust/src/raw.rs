@@ -128,6 +128,7 @@ unsafe extern "C" {
     pub fn cuddrewyn_churn_current(window: *const u8, window_len: usize) -> Reply;
     pub fn cuddrewyn_is_open(contract: *const u8, contract_len: usize, second: u64) -> Reply;
     pub fn cuddrewyn_earliest_open(contract: *const u8, contract_len: usize, second: u64) -> Reply;
+    pub fn cuddrewyn_check_log(deltas: *const u8, deltas_len: usize, log: *const u8, log_len: usize) -> Reply;
     pub fn cuddrewyn_segment_topic(
         parent: *const u8,
         parent_len: usize,

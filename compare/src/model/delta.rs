@@ -37,13 +37,18 @@ impl Delta {
         Some(packed)
     }
 
-    pub fn whole(bytes: &[u8]) -> Option<Self> {
-        let mut taker = Taker(bytes);
+    /// The delta at the front, whatever follows it.
+    pub fn at_front(taker: &mut Taker<'_>) -> Option<Self> {
         let (epoch, lost_count, gained_count) = (taker.word()?, taker.short()?, taker.short()?);
         let lost = (0..lost_count).map(|_| taker.word()).collect::<Option<Vec<_>>>()?;
         let gained = taker.records(gained_count)?;
-        let good = lost.windows(2).all(|pair| pair[0] < pair[1]) && taker.0.is_empty();
-        good.then_some(Self { epoch, lost, gained })
+        lost.windows(2).all(|pair| pair[0] < pair[1]).then_some(Self { epoch, lost, gained })
+    }
+
+    /// A delta lent alone.
+    pub fn whole(bytes: &[u8]) -> Option<Self> {
+        let mut taker = Taker(bytes);
+        Self::at_front(&mut taker).filter(|_| taker.0.is_empty())
     }
 
     /// Strikes the lost ids, then writes the gained records over any with that id.

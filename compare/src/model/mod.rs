@@ -2,6 +2,7 @@
 //!
 //! Refusals 9 to 14 of a message's segments are the Rust's (`oracle::intake`), which is told of no parent where `names::is_parent` finds none;
 //! the rest of a call's answer is reckoned here.
+pub mod attach_log;
 pub mod charge;
 pub mod churn;
 pub mod delta;

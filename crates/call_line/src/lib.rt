@@ -35,6 +35,8 @@ pub enum Line {
     IsOpen,
     // The earliest open second not before one.
     EarliestOpen,
+    // Whether an uploader's log is what deltas ask for.
+    CheckLog,
     // It is no call, and why was written.
     Damaged,
 }
@@ -137,6 +139,7 @@ fn line_at(place: usize) -> Line {
         9 => Line::Churn,
         10 => Line::IsOpen,
         11 => Line::EarliestOpen,
+        12 => Line::CheckLog,
         _ => Line::Damaged,
     }
 }
@@ -145,10 +148,10 @@ fn line_at(place: usize) -> Line {
 pub fn tested(at: u64, line: &[u8]) -> Line {
     let name = lines::word(line, 0);
     let place = lines::place_of(
-        b"open update response drain begin invalidate segment key charge churn is_open earliest_open",
+        b"open update response drain begin invalidate segment key charge churn is_open earliest_open check_log",
         name,
     );
-    let form = lines::word(b"cnnbbbk cnb cnb c cn c cb cn cbnnn c cbn cbn", place);
+    let form = lines::word(b"cnnbbbk cnb cnb c cn c cb cn cbnnn c cbn cbn cbb", place);
     if form.len() == 0 {
         damaged_word(at, b"unknown call ", name);
         return Line::Damaged;

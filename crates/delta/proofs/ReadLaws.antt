@@ -1,27 +1,31 @@
 -- What is known in each turn of the readers of src/, and how their tests decide.
 --
 -- In order: the least id that may follow (`lowest`); a turn of reading ids (`Ids`: `ids-start`, `ids-stale`, `ids-next`, `ids-end`) and of
--- reading records up to the end (`Records`: `records-start`, `records-cut`, `records-stale`, `records-next`, `records-end`); the cases of
--- `deltaRead` (`delta-short` to `delta-good`).
+-- reading records (`Records`: `records-start`, `records-cut`, `records-stale`, `records-next`, `records-end`), and what the place behind
+-- them says (`records-to`, `no-records`); the cases of `frontRead` (`front-short` to `front-good`), and from them those of `deltaRead`
+-- (`delta-none`, `delta-more`, `delta-all`).
 -- Assumes nothing.
 use Prim.Native.Nat.{ℕ, suc, _+_, _-_, _*_, _≤_, _<_}
 use native.Mathlib.Nat.{add-zero}
 use native.Mathlib.Omega.{arith}
 use mathlib.Core.Path.{_≡_, refl, sym, ap, _∙_}
-use mathlib.Core.Bool.{Bool, true, false, not, _&&_, and-false, and-true}
+use mathlib.Core.Bool.{Bool, true, false, not, _&&_, and-false}
 use mathlib.Core.List.{List}
-use lib.ListN.{length, drop, length-drop}
-use lib.Dec.{leb, eqb}
-use borrow.Author.Tests.{not-true, not-false, le-leb, lt-leb, eq-eqb, ne-eqb, eqb-true, eqb-false}
+use lib.ListN.{length, drop}
+use lib.Dec.{leb}
+use borrow.Author.Tests.{not-true, not-false, le-leb, lt-leb, leb-true, eq-eqb, ne-eqb}
+use Rattle.ranges.specs.Meaning.{both-true}
 use Rattle.packed_int.specs.Be.{beAt}
 use Rattle.packed.specs.Assignment.{sizeSegments, num, segmentsOf, okFrom}
 use Rattle.packed.specs.Answers.{recordRead}
 use Rattle.packed.specs.declared.RecordRead.the-variants as record-read
-use Rattle.packed.proofs.AssignmentLaws.{length-segmentsOf, Got, rest, size-turn, cut, stale, onward}
-use Rattle.delta.specs.Delta.{idsOf, deltaOf, sizeDelta, idsFrom, okDelta, isDelta}
-use Rattle.delta.specs.Answers.{recordsEnd, deltaRead}
+use Rattle.packed.proofs.AssignmentLaws.{length-segmentsOf, Got, rest, size-turn, cut, stale, onward, Rest}
+use Rattle.delta.specs.Delta.{AssignmentDelta, idsOf, deltaOf, sizeDelta, idsFrom, okDelta, startsDelta, isDelta}
+use Rattle.delta.specs.Answers.{recordsTo, frontRead, deltaRead}
+use Rattle.delta.specs.declared.RecordsTo.the-variants as to
+use Rattle.delta.specs.declared.FrontRead.the-variants as front-read
 use Rattle.delta.specs.declared.DeltaRead.the-variants.{Delta, Malformed}
-use Rattle.delta.proofs.RoundLaws.{ids-none, ids-at, length-idsOf, by-counts, size-is, ok-is}
+use Rattle.delta.proofs.RoundLaws.{ids-none, ids-at, length-idsOf, by-counts, size-is, ok-is, front-answer, not-front, is-front}
 
 -- ---- the least id that may follow: any at first, then those above the one before
 
@@ -72,97 +76,86 @@ module _ {s : List ℕ} {at n p left : ℕ} {first : Bool} {prev : ℕ} (I : Ids
   unfolding idsFrom
   ids-end h = sym (I .decides ∙ ap (idsFrom (lowest first prev)) (ids-none left (drop p s) h))
 
--- ---- records up to the end
+-- ---- records up to a place
 
--- so many more bytes from a place on, or so many in all
-from-place : (s : List ℕ) (at z : ℕ) → at ≤ length s → eqb z (length (drop at s)) ≡ eqb (at + z) (length s)
-from-place s at z h = go (eqb z (length (drop at s))) refl
-  where
-    go : (t : Bool) → eqb z (length (drop at s)) ≡ t → eqb z (length (drop at s)) ≡ eqb (at + z) (length s)
-    go true e =
-        let f : z ≡ length (drop at s) = eqb-true _ _ e in
-        let k : at + z ≡ length s = omega (arith, length-drop at s) in
-        e ∙ sym (eq-eqb (at + z) (length s) k)
-    go false e = e ∙ sym (ne-eqb (at + z) (length s) (λ k. eqb-false z (length (drop at s)) e (omega (arith, length-drop at s))))
-
--- what ends at a place ends by it
-equal-below : (a b : ℕ) (x : Bool) → (eqb a b && x) ≡ (eqb a b && (leb a b && x))
-equal-below a b x = go (eqb a b) refl
-  where
-    go : (t : Bool) → eqb a b ≡ t → (eqb a b && x) ≡ (eqb a b && (leb a b && x))
-    go true e = let f : a ≡ b = eqb-true a b e in simp (e, le-leb a b (omega arith))
-    go false e = simp e
-
--- n records from the place p on end where s ends, are good, and their ids rise from low on
-abbrev pub ends : List ℕ → ℕ → ℕ → ℕ → Bool
-ends s p n low = eqb (p + sizeSegments (segmentsOf n (drop p s))) (length s) && rest s (length s) p n low
-
-ends-is : (s : List ℕ) (at n : ℕ) → at ≤ length s → recordsEnd n (drop at s) ≡ ends s at n 0
-unfolding recordsEnd
-ends-is s at n h =
-    ap (λ (t : Bool). t && okFrom 0 (segmentsOf n (drop at s))) (from-place s at (sizeSegments (segmentsOf n (drop at s))) h)
-    ∙ equal-below (at + sizeSegments (segmentsOf n (drop at s))) (length s) (okFrom 0 (segmentsOf n (drop at s)))
-
--- at the place p, with `left` records of n to read: these decide the whole
+-- at the place p, with `left` records of n to read: these decide the whole, and end where all end
 pub record Records (s : List ℕ) (at n p left : ℕ) (first : Bool) (prev : ℕ) : Type 0 where
   pub bound : p ≤ length s
-  pub decides : recordsEnd n (drop at s) ≡ ends s p left (lowest first prev)
+  pub decides : rest s (length s) at n 0 ≡ rest s (length s) p left (lowest first prev)
+  pub sums : at + sizeSegments (segmentsOf n (drop at s)) ≡ p + sizeSegments (segmentsOf left (drop p s))
 
 pub records-start : (s : List ℕ) (at n : ℕ) → at ≤ length s → Records s at n at n true 0
-records-start s at n h = record { bound = h; decides = ends-is s at n h }
+records-start s at n h = record { bound = h; decides = refl; sums = refl }
 
 module _ {s : List ℕ} {at n p left : ℕ} {first : Bool} {prev : ℕ} (I : Records s at n p left first prev) where
-  refused : rest s (length s) p left (lowest first prev) ≡ false → false ≡ recordsEnd n (drop at s)
-  refused e =
-      let b : Bool = eqb (p + sizeSegments (segmentsOf left (drop p s))) (length s) in
-      sym (I .decides ∙ ap (λ (t : Bool). b && t) e ∙ and-false b)
+  refused : rest s (length s) p left (lowest first prev) ≡ false → to.Malformed ≡ recordsTo s at n
+  unfolding recordsTo
+  refused e = let f : rest s (length s) at n 0 ≡ false = I .decides ∙ e in simp f
 
   -- no good record stands there
-  pub records-cut : 0 < left → record-read.Malformed ≡ recordRead s p (length s) → false ≡ recordsEnd n (drop at s)
+  pub records-cut : 0 < left → record-read.Malformed ≡ recordRead s p (length s) → to.Malformed ≡ recordsTo s at n
   records-cut h e = refused (cut s p left (lowest first prev) (length s) h e)
 
   module _ {i z : ℕ} (h : 0 < left) (g : Got s p (length s) i z) where
-    pub records-stale : i < lowest first prev → false ≡ recordsEnd n (drop at s)
+    pub records-stale : i < lowest first prev → to.Malformed ≡ recordsTo s at n
     records-stale k = refused (stale s p left (lowest first prev) (length s) h i z g k)
 
     pub records-next : lowest first prev ≤ i → Records s at n (p + z) (left - 1) false i
     records-next k =
         record {
           bound = omega (arith, g .fits, g .size-is);
-          decides =
-              I .decides
-              ∙ ap (λ (t : Bool). eqb (p + sizeSegments (segmentsOf left (drop p s))) (length s) && t)
-              (onward s p left (lowest first prev) (length s) h i z g k)
-              ∙ ap (λ (m : ℕ). eqb m (length s) && rest s (length s) (p + z) (left - 1) (suc i)) (size-turn s p left z h (g .size-is));
+          decides = I .decides ∙ onward s p left (lowest first prev) (length s) h i z g k;
+          sums = I .sums ∙ size-turn s p left z h (g .size-is);
         }
 
-  pub records-end : left ≤ 0 → eqb p (length s) ≡ recordsEnd n (drop at s)
+  all-read : left ≤ 0 → (rest s (length s) at n 0 ≡ true) × (at + sizeSegments (segmentsOf n (drop at s)) ≡ p)
   unfolding segmentsOf sizeSegments okFrom
-  records-end h =
-      let e : left ≡ 0 = omega arith in
-      let d : recordsEnd n (drop at s) ≡ ends s p 0 (lowest first prev) = I .decides ∙ ap (λ (m : ℕ). ends s p m (lowest first prev)) e in
-      sym (d ∙ simp (add-zero, le-leb p (length s) (I .bound), and-true))
+  all-read h =
+      let e : left ≡ 0 = omega arith in (
+        I .decides ∙ ap (λ (m : ℕ). rest s (length s) p m (lowest first prev)) e ∙ simp (add-zero, le-leb p (length s) (I .bound)),
+        I .sums ∙ ap (λ (m : ℕ). p + sizeSegments (segmentsOf m (drop p s))) e ∙ add-zero p,
+      )
 
--- ---- the cases of `deltaRead`
+  pub records-end : left ≤ 0 → to.End p ≡ recordsTo s at n
+  unfolding recordsTo
+  records-end h = let d = all-read h .0 in ap to.End (sym (all-read h .1)) ∙ simp d
 
-and-swap : (a b c : Bool) → (a && (b && c)) ≡ (b && (a && c))
-and-swap true true c = refl
-and-swap true false c = refl
-and-swap false true c = refl
-and-swap false false c = refl
+-- what the answer of `records_to` says
+pub records-to : (s : List ℕ) (at n z : ℕ) → to.End z ≡ recordsTo s at n → (Rest s at n) × (z ≡ at + sizeSegments (segmentsOf n (drop at s)))
+unfolding recordsTo
+records-to s at n z e = go (rest s (length s) at n 0) refl
+  where
+    go : (t : Bool) → rest s (length s) at n 0 ≡ t → (Rest s at n) × (z ≡ at + sizeSegments (segmentsOf n (drop at s)))
+    go true h =
+        let f : to.End z ≡ to.End (at + sizeSegments (segmentsOf n (drop at s))) = e ∙ simp h in
+        let b = both-true (leb (at + sizeSegments (segmentsOf n (drop at s))) (length s)) _ h in
+        (record { fits = leb-true _ _ (b .0); ok = b .1 }, cc)
+    go false h = let f : to.End z ≡ to.Malformed = e ∙ simp h in let y : _≡_ {A = ℕ} 0 1 = cc in absurd (omega arith)
 
-delta-refused : (s : List ℕ) → isDelta s ≡ false → Malformed ≡ deltaRead s
-unfolding deltaRead
-delta-refused s e = simp e
+pub no-records : (s : List ℕ) (at n : ℕ) → to.Malformed ≡ recordsTo s at n → rest s (length s) at n 0 ≡ false
+unfolding recordsTo
+no-records s at n e = go (rest s (length s) at n 0) refl
+  where
+    go : (t : Bool) → rest s (length s) at n 0 ≡ t → rest s (length s) at n 0 ≡ false
+    go false h = h
+    go true h =
+        let f : to.Malformed ≡ to.End (at + sizeSegments (segmentsOf n (drop at s))) = e ∙ simp h in
+        let y : _≡_ {A = ℕ} 0 1 = cc in absurd (omega arith)
+
+-- ---- the cases of `frontRead`
+
+front-refused : (s : List ℕ) → startsDelta s ≡ false → front-read.Malformed ≡ frontRead s
+unfolding frontRead
+front-refused s e = simp e
 
 -- it has to be longer than it is
-delta-longer : (s : List ℕ) → length s < sizeDelta (deltaOf s) → Malformed ≡ deltaRead s
-unfolding isDelta
-delta-longer s h = delta-refused s (simp (ne-eqb (sizeDelta (deltaOf s)) (length s) (λ e. absurd (omega arith))))
+front-longer : (s : List ℕ) → length s < sizeDelta (deltaOf s) → front-read.Malformed ≡ frontRead s
+unfolding startsDelta
+front-longer s h = front-refused s (simp (lt-leb (sizeDelta (deltaOf s)) (length s) h))
 
-pub delta-short : (s : List ℕ) → length s < 12 → Malformed ≡ deltaRead s
+pub front-short : (s : List ℕ) → length s < 12 → front-read.Malformed ≡ frontRead s
 unfolding sizeDelta
-delta-short s h = delta-longer s (omega arith)
+front-short s h = front-longer s (omega arith)
 
 -- the counts that were read
 pub record Counts (s : List ℕ) (m n : ℕ) : Type 0 where
@@ -179,28 +172,75 @@ module _ {s : List ℕ} {m n : ℕ} (x : Counts s m n) where
   gained-count = x .gained-is
 
   -- the lost ids alone are too many
-  pub delta-cut : length s < 12 + 8 * m → Malformed ≡ deltaRead s
-  delta-cut h = delta-longer s (omega (arith, size-is s m n lost-count gained-count))
+  pub front-cut : length s < 12 + 8 * m → front-read.Malformed ≡ frontRead s
+  front-cut h = front-longer s (omega (arith, size-is s m n lost-count gained-count))
 
-  module _ (h : 12 + 8 * m ≤ length s) where
-    two : isDelta s ≡ (idsFrom 0 (idsOf m (drop 12 s)) && recordsEnd n (drop (12 + 8 * m) s))
-    unfolding isDelta recordsEnd
-    two =
-        let z : ℕ = sizeSegments (segmentsOf n (drop (12 + 8 * m) s)) in
-        ap (λ (k : ℕ). eqb k (length s) && okDelta (deltaOf s)) (size-is s m n lost-count gained-count)
-        ∙ ap (λ (t : Bool). t && okDelta (deltaOf s)) (sym (from-place s (12 + 8 * m) z h))
-        ∙ ap (λ (t : Bool). eqb z (length (drop (12 + 8 * m) s)) && t) (ok-is s m n lost-count gained-count)
-        ∙ and-swap (eqb z (length (drop (12 + 8 * m) s))) (idsFrom 0 (idsOf m (drop 12 s))) (okFrom 0 (segmentsOf n (drop (12 + 8 * m) s)))
+  -- the records end with the bytes or before, the lost ids pass their test b, and the records are good
+  abbrev within : Bool → Bool
+  within b =
+      leb (12 + 8 * m + sizeSegments (segmentsOf n (drop (12 + 8 * m) s))) (length s) && (b && okFrom 0 (segmentsOf n (drop (12 + 8 * m) s)))
 
-    pub delta-falls : false ≡ idsFrom 0 (idsOf m (drop 12 s)) → Malformed ≡ deltaRead s
-    delta-falls e = delta-refused s (two ∙ simp (← e))
+  starts-is : startsDelta s ≡ within (idsFrom 0 (idsOf m (drop 12 s)))
+  unfolding startsDelta
+  starts-is =
+      let z : ℕ = 12 + 8 * m + sizeSegments (segmentsOf n (drop (12 + 8 * m) s)) in
+      ap (λ (k : ℕ). leb k (length s) && okDelta (deltaOf s)) (size-is s m n lost-count gained-count)
+      ∙ ap (λ (t : Bool). leb z (length s) && t) (ok-is s m n lost-count gained-count)
 
-    pub delta-bad : false ≡ recordsEnd n (drop (12 + 8 * m) s) → Malformed ≡ deltaRead s
-    delta-bad e = delta-refused s (two ∙ simp (← e, and-false))
+  pub front-falls : false ≡ idsFrom 0 (idsOf m (drop 12 s)) → front-read.Malformed ≡ frontRead s
+  front-falls e = front-refused s (starts-is ∙ simp (← e, and-false))
 
-    pub delta-good : true ≡ idsFrom 0 (idsOf m (drop 12 s)) → true ≡ recordsEnd n (drop (12 + 8 * m) s) → Delta m n ≡ deltaRead s
-    unfolding deltaRead
-    delta-good e f =
-        let k : isDelta s ≡ true = two ∙ simp (← e, ← f) in
-        let d = by-counts s m n lost-count gained-count in
-        simp (k, d, length-idsOf, length-segmentsOf)
+  pub front-bad : to.Malformed ≡ recordsTo s (12 + 8 * m) n → front-read.Malformed ≡ frontRead s
+  front-bad e = front-refused s (starts-is ∙ go (idsFrom 0 (idsOf m (drop 12 s))))
+    where
+      go : (t : Bool) → within t ≡ false
+      go true = no-records s (12 + 8 * m) n e
+      go false = and-false (leb (12 + 8 * m + sizeSegments (segmentsOf n (drop (12 + 8 * m) s))) (length s))
+
+  pub front-good : true ≡ idsFrom 0 (idsOf m (drop 12 s)) → (z : ℕ) → to.End z ≡ recordsTo s (12 + 8 * m) n
+      → front-read.Delta m n z ≡ frontRead s
+  unfolding frontRead
+  front-good e z f =
+      let g = records-to s (12 + 8 * m) n z f in
+      let k : startsDelta s ≡ true =
+      starts-is
+      ∙ simp (le-leb (12 + 8 * m + sizeSegments (segmentsOf n (drop (12 + 8 * m) s))) (length s) (g .0 .fits), ← e, g .0 .ok) in
+      let y : sizeDelta (deltaOf s) ≡ z = size-is s m n lost-count gained-count ∙ sym (g .1) in
+      let d = by-counts s m n lost-count gained-count in
+      let a : length (deltaOf s .lost) ≡ m = ap (λ (v : AssignmentDelta). length (v .lost)) d ∙ length-idsOf m (drop 12 s) in
+      let b : length (deltaOf s .gained) ≡ n = ap (λ (v : AssignmentDelta). length (v .gained)) d ∙ length-segmentsOf n (drop (12 + 8 * m) s) in
+      simp (k, y, a, b)
+
+-- ---- the cases of `deltaRead`, from the delta at the front
+
+module _ (s : List ℕ) where
+  pub delta-none : front-read.Malformed ≡ frontRead s → Malformed ≡ deltaRead s
+  unfolding deltaRead
+  delta-none e = go (isDelta s) refl
+    where
+      go : (t : Bool) → isDelta s ≡ t → Malformed ≡ deltaRead s
+      go false h = simp h
+      go true h =
+          let k : _≡_ {A = Bool} true false = sym (is-front s h .0) ∙ not-front s e in
+          let q : _≡_ {A = ℕ} 0 1 = cc in
+          absurd (omega arith)
+
+  module _ (m n z : ℕ) (e : front-read.Delta m n z ≡ frontRead s) where
+    -- bytes are left over
+    pub delta-more : (z ≡ length s → ⊥) → Malformed ≡ deltaRead s
+    unfolding deltaRead isDelta
+    delta-more h =
+        let f = front-answer s m n z e in
+        let k : isDelta s ≡ false =
+        simp (ne-eqb (sizeDelta (deltaOf s)) (length s) (λ q. h (f .size-is ∙ q))) in
+        simp k
+
+    pub delta-all : z ≡ length s → Delta m n ≡ deltaRead s
+    unfolding deltaRead isDelta startsDelta
+    delta-all h =
+        let f = front-answer s m n z e in
+        let o : okDelta (deltaOf s) ≡ true = both-true (leb (sizeDelta (deltaOf s)) (length s)) _ (f .starts) .1 in
+        let k : isDelta s ≡ true = simp (eq-eqb (sizeDelta (deltaOf s)) (length s) (sym (f .size-is) ∙ h), o) in
+        let a : length (deltaOf s .lost) ≡ m = ap length (f .lost-is) ∙ length-idsOf m (drop 12 s) in
+        let b : length (deltaOf s .gained) ≡ n = ap length (f .gained-is) ∙ length-segmentsOf n (drop (12 + 8 * m) s) in
+        simp (k, a, b)

@@ -2,9 +2,10 @@
 --
 -- In order: ids at a place (`ids-none`, `ids-at`) and how many there are; the fields fit their widths (`FitIds`, `FitDelta`); how long an
 -- encoding is; what is encoded is read back, whatever follows it (`read-ids`, `read-delta`), and is a delta (`is-encode`); what is read
--- fits (`fit-ids`, `fit-delta`); the parts of a delta by its counts (`by-counts`, `size-is`, `ok-is`); what a walk over a delta needs
--- (`Walkable`), from `isDelta` (`walkable`) and from the answer of `read_delta` (`walk-read`, `not-delta`); a delta is the encoding of what
--- it is read as (`write-delta`).
+-- fits (`fit-ids`, `fit-delta`); the parts of a delta by its counts (`by-counts`, `size-is`, `ok-is`); what a walk over a delta at the
+-- front needs (`Front`), from `startsDelta` (`front`) and from the answer of `read_front` (`front-answer`, `not-front`); the same of one that
+-- is lent alone (`Walkable`), from `isDelta` (`walkable`) and from the answer of `read_delta` (`walk-read`, `not-delta`); a delta is the
+-- encoding of what it is read as (`write-delta`).
 -- Assumes nothing.
 use Prim.Native.Nat.{ℕ, zero, suc, _+_, _-_, _*_, _^_, _≤_, _<_}
 use native.Mathlib.Nat.{not-suc-le-zero, add-zero}
@@ -14,8 +15,8 @@ use mathlib.Core.Bool.{Bool, true, false, _&&_}
 use mathlib.Core.List.{List, [], _∷_, _++_, append-assoc, append-nil}
 use lib.ListN.{length, take, drop, length-append, length-take, length-drop, take-append-drop}
 use lib.Seq.{drop-drop, drop-at, take-all}
-use lib.Dec.{eqb}
-use borrow.Author.Tests.{eq-eqb, eqb-true}
+use lib.Dec.{leb, eqb}
+use borrow.Author.Tests.{le-leb, leb-true, eq-eqb, eqb-true}
 use Rattle.ranges.specs.Meaning.{both-true}
 use Rattle.parts.proofs.PartLaws.{Bytes, Bytes-take, Bytes-drop}
 use Rattle.packed_int.specs.Be.{be, bytesOf}
@@ -24,8 +25,9 @@ use Rattle.packed.specs.Assignment.{encodeSegments, sizeSegments, num, segments
 use Rattle.packed.proofs.AssignmentLaws.{length-segmentsOf, Rest}
 use Rattle.packed.proofs.RoundLaws.{FitSegments, length-encodeSegments, read-segments, write-segments, fit-segments}
 use Rattle.delta.specs.Delta.{AssignmentDelta, encodeIds, encodeDelta, sizeDelta}
-use Rattle.delta.specs.Delta.{idsOf, deltaWith, deltaOf, idsFrom, okDelta, isDelta}
-use Rattle.delta.specs.Answers.{deltaRead}
+use Rattle.delta.specs.Delta.{idsOf, deltaWith, deltaOf, idsFrom, okDelta, startsDelta, isDelta}
+use Rattle.delta.specs.Answers.{frontRead, deltaRead}
+use Rattle.delta.specs.declared.FrontRead.the-variants as front-read
 use Rattle.delta.specs.declared.DeltaRead.the-variants.{Delta, Malformed}
 
 -- ---- ids at a place
@@ -154,7 +156,64 @@ module _ (l : List ℕ) (m n : ℕ) (em : m ≡ num 2 (drop 8 l)) (en : n ≡ nu
   unfolding okDelta
   ok-is = ap okDelta by-counts
 
--- ---- a walk over a delta that loses m ids and gains n records
+-- ---- a walk over a delta of z bytes at the front, which loses m ids and gains n records
+
+pub record Front (l : List ℕ) (m n z : ℕ) : Type 0 where
+  pub starts : startsDelta l ≡ true
+  pub size-is : z ≡ sizeDelta (deltaOf l)
+  pub lost-is : deltaOf l .lost ≡ idsOf m (drop 12 l)
+  pub ids-rise : idsFrom 0 (idsOf m (drop 12 l)) ≡ true
+  pub gained-is : deltaOf l .gained ≡ segmentsOf n (drop (12 + 8 * m) l)
+  pub records : Rest l (12 + 8 * m) n
+  -- the records end where the delta ends
+  pub ends : 12 + 8 * m + sizeSegments (segmentsOf n (drop (12 + 8 * m) l)) ≡ z
+
+pub front : (l : List ℕ) (m n z : ℕ) → m ≡ num 2 (drop 8 l) → n ≡ num 2 (drop 10 l) → z ≡ sizeDelta (deltaOf l) → startsDelta l ≡ true
+    → Front l m n z
+unfolding startsDelta
+front l m n z em en ez e =
+    let a = both-true (leb (sizeDelta (deltaOf l)) (length l)) _ e in
+    let o = both-true (idsFrom 0 (idsOf m (drop 12 l))) _ (sym (ok-is l m n em en) ∙ a .1) in
+    let k : sizeDelta (deltaOf l) ≤ length l = leb-true _ _ (a .0) in
+    record {
+      starts = e;
+      size-is = ez;
+      lost-is = ap (λ (d : AssignmentDelta). d .lost) (by-counts l m n em en);
+      ids-rise = o .0;
+      gained-is = ap (λ (d : AssignmentDelta). d .gained) (by-counts l m n em en);
+      records = record { fits = omega (arith, size-is l m n em en); ok = o .1 };
+      ends = sym (size-is l m n em en) ∙ sym ez;
+    }
+
+-- what the answer of `read_front` says
+pub front-answer : (l : List ℕ) (m n z : ℕ) → front-read.Delta m n z ≡ frontRead l → Front l m n z
+unfolding frontRead deltaOf
+front-answer l m n z e = go (startsDelta l) refl
+  where
+    go : (t : Bool) → startsDelta l ≡ t → Front l m n z
+    go true h =
+        let f : front-read.Delta m n z ≡ front-read.Delta (length (deltaOf l .lost)) (length (deltaOf l .gained)) (sizeDelta (deltaOf l)) = e ∙ rw h in
+        let a : m ≡ length (deltaOf l .lost) = cc in
+        let b : n ≡ length (deltaOf l .gained) = cc in
+        let k : z ≡ sizeDelta (deltaOf l) = cc in
+        front l m n z (a ∙ length-idsOf _ _) (b ∙ length-segmentsOf _ _) k h
+    go false h =
+        let f : front-read.Delta m n z ≡ front-read.Malformed = e ∙ rw h in
+        let q : _≡_ {A = ℕ} 0 1 = cc in
+        absurd (omega arith)
+
+pub not-front : (l : List ℕ) → front-read.Malformed ≡ frontRead l → startsDelta l ≡ false
+unfolding frontRead
+not-front l e = go (startsDelta l) refl
+  where
+    go : (t : Bool) → startsDelta l ≡ t → startsDelta l ≡ false
+    go true h =
+        let f : front-read.Malformed ≡ front-read.Delta (length (deltaOf l .lost)) (length (deltaOf l .gained)) (sizeDelta (deltaOf l)) = e ∙ rw h in
+        let q : _≡_ {A = ℕ} 0 1 = cc in
+        absurd (omega arith)
+    go false h = h
+
+-- ---- a walk over a delta that is lent alone
 
 pub record Walkable (l : List ℕ) (m n : ℕ) : Type 0 where
   pub is-delta : isDelta l ≡ true
@@ -166,20 +225,27 @@ pub record Walkable (l : List ℕ) (m n : ℕ) : Type 0 where
   -- the records end where the delta ends
   pub ends : 12 + 8 * m + sizeSegments (segmentsOf n (drop (12 + 8 * m) l)) ≡ length l
 
-pub walkable : (l : List ℕ) (m n : ℕ) → m ≡ num 2 (drop 8 l) → n ≡ num 2 (drop 10 l) → isDelta l ≡ true → Walkable l m n
-unfolding isDelta
-walkable l m n em en e =
+-- it is one at the front that ends where the bytes end
+pub is-front : (l : List ℕ) → isDelta l ≡ true → (startsDelta l ≡ true) × (sizeDelta (deltaOf l) ≡ length l)
+unfolding isDelta startsDelta
+is-front l e =
     let a = both-true (eqb (sizeDelta (deltaOf l)) (length l)) _ e in
-    let o = both-true (idsFrom 0 (idsOf m (drop 12 l))) _ (sym (ok-is l m n em en) ∙ a .1) in
-    let z : 12 + 8 * m + sizeSegments (segmentsOf n (drop (12 + 8 * m) l)) ≡ length l = sym (size-is l m n em en) ∙ eqb-true _ _ (a .0) in
+    let z : sizeDelta (deltaOf l) ≡ length l = eqb-true _ _ (a .0) in
+    let b : leb (sizeDelta (deltaOf l)) (length l) ≡ true = le-leb (sizeDelta (deltaOf l)) (length l) (omega arith) in
+    (simp (b, a .1), z)
+
+pub walkable : (l : List ℕ) (m n : ℕ) → m ≡ num 2 (drop 8 l) → n ≡ num 2 (drop 10 l) → isDelta l ≡ true → Walkable l m n
+walkable l m n em en e =
+    let a = is-front l e in
+    let f : Front l m n (length l) = front l m n (length l) em en (sym (a .1)) (a .0) in
     record {
       is-delta = e;
-      ids-fit = omega arith;
-      lost-is = ap (λ (d : AssignmentDelta). d .lost) (by-counts l m n em en);
-      ids-rise = o .0;
-      gained-is = ap (λ (d : AssignmentDelta). d .gained) (by-counts l m n em en);
-      records = record { fits = omega arith; ok = o .1 };
-      ends = z;
+      ids-fit = omega (arith, f .ends);
+      lost-is = f .lost-is;
+      ids-rise = f .ids-rise;
+      gained-is = f .gained-is;
+      records = f .records;
+      ends = f .ends;
     }
 
 -- what the answer of `read_delta` says

@@ -1,18 +1,30 @@
--- What the reader of src/ answers.
+-- What the readers of src/ answer.
 -- Assumes nothing.
-use mathlib.Core.Bool.{Bool, cond, _&&_}
+use Prim.Native.Nat.{ℕ, _+_}
+use mathlib.Core.Bool.{cond, _&&_}
 use mathlib.Core.List.{List}
-use Prim.Native.Nat.{ℕ}
-use lib.ListN.{length}
-use lib.Dec.{eqb}
+use lib.ListN.{length, drop}
+use lib.Dec.{leb}
 use Rattle.packed.specs.Assignment.{sizeSegments, segmentsOf, okFrom}
+use Rattle.delta.specs.declared.RecordsTo.{RecordsTo}
+use Rattle.delta.specs.declared.RecordsTo.the-variants as to
+use Rattle.delta.specs.declared.FrontRead.{FrontRead}
+use Rattle.delta.specs.declared.FrontRead.the-variants as front
 use Rattle.delta.specs.declared.DeltaRead.{DeltaRead}
 use Rattle.delta.specs.declared.DeltaRead.the-variants as read
-use Rattle.delta.specs.Delta.{deltaOf, isDelta}
+use Rattle.delta.specs.Delta.{deltaOf, sizeDelta, startsDelta, isDelta}
 
--- n good records whose ids rise, and nothing behind them
-unfoldable pub recordsEnd : ℕ → List ℕ → Bool
-recordsEnd n l = eqb (sizeSegments (segmentsOf n l)) (length l) && okFrom 0 (segmentsOf n l)
+-- n good records whose ids rise stand from the place at on: the place behind them
+unfoldable pub recordsTo : List ℕ → ℕ → ℕ → RecordsTo
+recordsTo s at n =
+    cond (leb (at + sizeSegments (segmentsOf n (drop at s))) (length s) && okFrom 0 (segmentsOf n (drop at s)))
+    (to.End (at + sizeSegments (segmentsOf n (drop at s))))
+    to.Malformed
+
+-- how many ids the delta at the front loses, how many records it gains, and its size
+unfoldable pub frontRead : List ℕ → FrontRead
+frontRead l =
+    cond (startsDelta l) (front.Delta (length (deltaOf l .lost)) (length (deltaOf l .gained)) (sizeDelta (deltaOf l))) front.Malformed
 
 -- how many ids a delta loses and how many records it gains
 unfoldable pub deltaRead : List ℕ → DeltaRead

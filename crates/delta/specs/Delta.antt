@@ -57,6 +57,10 @@ idsFrom low (id ∷ ids) = leb low id && idsFrom (suc id) ids
 unfoldable pub okDelta : AssignmentDelta → Bool
 okDelta d = idsFrom 0 (d .lost) && okFrom 0 (d .gained)
 
+-- a delta stands at the front; what follows it is not looked at
+unfoldable pub startsDelta : List ℕ → Bool
+startsDelta l = leb (sizeDelta (deltaOf l)) (length l) && okDelta (deltaOf l)
+
 -- "... or it ends early or late."
 unfoldable pub isDelta : List ℕ → Bool
 isDelta l = eqb (sizeDelta (deltaOf l)) (length l) && okDelta (deltaOf l)

@@ -1,4 +1,4 @@
--- What an exported call gives, from what the call under it gives and its answer in numbers: with an output, with a window, with a record, an opening, a kind.
+-- What an exported call gives, from what the call under it gives and its answer in numbers: with an output, with a window, with a record, an opening, a log, a kind.
 -- Assumes nothing.
 use Prim.Native.Nat.{ℕ}
 use native.Mathlib.Omega.{arith}
@@ -18,6 +18,8 @@ use Rattle.output.specs.declared.WriteAnswer.{WriteAnswer}
 use Rattle.output.specs.Output as output
 use Rattle.churn.specs.declared.ChurnAnswer.{ChurnAnswer}
 use Rattle.churn.specs.Churn as window
+use Rattle.log_entries.specs.declared.LogAnswer.{LogAnswer}
+use Rattle.log_entries.specs.Passes.{Checked}
 use Rattle.session.specs.declared.SessionRecord.{SessionRecord}
 use Rattle.session.specs.declared.Answer.{Answer}
 use Rattle.session.specs.declared.Opened.{Opened}
@@ -30,7 +32,7 @@ use Rattle.reply.specs.declared.Reply.{Reply}
 use Rattle.session_reply.specs.declared.SessionReply.{SessionReply}
 use Rattle.session_reply.specs.Replies.{sessionReply, openReply}
 use Rattle.export.specs.Exports.{Output, Exported, Opening, writeReply, writeOf, nameReply, nameOf, exportOf, openOf}
-use Rattle.export.specs.Exports.{Watched, watchReply, watchOf, earliestReply, EarliestReply}
+use Rattle.export.specs.Exports.{Watched, watchReply, watchOf, earliestReply, EarliestReply, logReply, LogReply}
 use Rattle.export.specs.Exports.{Windowed, churnReply, windowOf}
 
 abbrev pub outputs : Reply → List ℕ → Output
@@ -82,6 +84,9 @@ watch-call {buffer = buffer} {out = out} {o = o} e f =
     ap (λ (y : Reply). watched y buffer out) (e ∙ ap watchReply (f .0))
     ∙ ap (λ (b : List ℕ). watched (watchReply (o .answer)) b out) (f .1)
     ∙ ap (λ (l : List ℕ). watched (watchReply (o .answer)) (o .buffer) l) (f .2)
+
+pub log-call : {deltas entries : List ℕ} {x : Reply} (a : LogAnswer) → Checked deltas entries a → x ≡ logReply a → LogReply deltas entries x
+log-call a h e = record { answer = a; checked = h; reply-is = e }
 
 -- the integer of a kind, as its 32 bits read back
 wire-fits : (k : ScalableConsumerType) → SFits w32 (toWire k)

@@ -32,6 +32,9 @@ use Rattle.hours.specs.declared.OpenAnswer.the-variants as hours
 use Rattle.hours.specs.declared.EarliestAnswer.{EarliestAnswer}
 use Rattle.hours.specs.declared.EarliestAnswer.the-variants as earliest
 use Rattle.hours.specs.Hours.{Earliest}
+use Rattle.log_entries.specs.declared.LogAnswer.{LogAnswer}
+use Rattle.log_entries.specs.declared.LogAnswer.the-variants as log
+use Rattle.log_entries.specs.Passes.{Checked}
 use Rattle.session.specs.declared.Match.{Match}
 use Rattle.session.specs.declared.Match.the-variants as match′
 use Rattle.session.specs.Calls.{Outcome, OpenOutcome}
@@ -100,6 +103,10 @@ earliestReply (earliest.At s) = takenReply found (pos s ∷ [])
 earliestReply earliest.NoneOpen = takenReply no []
 earliestReply (earliest.Refused x) = refusedReply x
 
+unfoldable pub logReply : LogAnswer → Reply
+logReply (log.Told b) = testReply b
+logReply (log.Refused x) = refusedReply x
+
 unfoldable pub matchReply : Match → Reply
 matchReply match′.Same = takenReply yes []
 matchReply match′.Other = takenReply no []
@@ -144,6 +151,12 @@ pub record Windowed : Type 0 where
 
 abbrev pub windowOf : window.Outcome → Windowed
 windowOf o = record { reply = churnReply (o .answer); window = o .window }
+
+-- the reply of the answer that a log gets
+pub record LogReply (deltas entries : List ℕ) (x : Reply) : Type 0 where
+  pub answer : LogAnswer
+  pub checked : Checked deltas entries answer
+  pub reply-is : x ≡ logReply answer
 
 -- reply, the set's buffer, output
 pub record Watched : Type 0 where

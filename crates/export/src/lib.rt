@@ -7,6 +7,7 @@ mod churn_calls;
 mod hours_calls;
 mod key_calls;
 mod list_calls;
+mod log_calls;
 mod name_calls;
 mod range_calls;
 mod session_calls;

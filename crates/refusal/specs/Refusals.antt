@@ -18,7 +18,7 @@ use Rattle.refusal.specs.declared.Refusal.the-variants.{DuplicateSegment
 use Rattle.refusal.specs.declared.Refusal.the-variants.{SegmentIdMismatch, MalformedInput, ResultTooLong, MalformedStore, IncarnationMismatch}
 use Rattle.refusal.specs.declared.Refusal.the-variants.{ConsumerMismatch, NonAdvancingIncarnation, CrossIncarnationEpochRegression, StaleEpoch}
 use Rattle.refusal.specs.declared.Refusal.the-variants.{PreBaselineBufferFull, WatchMismatch, MalformedSet, SetTooLong, KeyTooLong}
-use Rattle.refusal.specs.declared.Refusal.the-variants.{InvalidContract, ChargeTooLarge, InvalidWindow}
+use Rattle.refusal.specs.declared.Refusal.the-variants.{InvalidContract, ChargeTooLarge, InvalidLog, InvalidWindow}
 
 abbrev pub numberOf : Refusal → ℕ
 numberOf StoreTooShort = 1
@@ -57,6 +57,7 @@ numberOf SetTooLong = 31
 numberOf KeyTooLong = 32
 numberOf InvalidContract = 35
 numberOf ChargeTooLarge = 36
+numberOf InvalidLog = 37
 numberOf InvalidWindow = 38
 
 -- the kind of an invalid range, then that kind's numbers
@@ -106,4 +107,5 @@ valuesOf SetTooLong = []
 valuesOf KeyTooLong = []
 valuesOf InvalidContract = []
 valuesOf ChargeTooLarge = []
+valuesOf InvalidLog = []
 valuesOf InvalidWindow = []

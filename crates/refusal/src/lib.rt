@@ -127,6 +127,8 @@ pub enum Refusal {
     InvalidContract,
     // 36: the holding's product and remainder reach 2^64 together, or the remainder lent in is not below the divisor.
     ChargeTooLarge,
+    // 37: the log's length is no multiple of 9, or one of its filling bits is set.
+    InvalidLog,
     // 38: a lost count is above 65,535, or the window's own numbers point beyond its 256 places.
     InvalidWindow,
 }
@@ -192,6 +194,7 @@ pub fn number(refusal: Refusal) -> u8
         Refusal::KeyTooLong => 32,
         Refusal::InvalidContract => 35,
         Refusal::ChargeTooLarge => 36,
+        Refusal::InvalidLog => 37,
         Refusal::InvalidWindow => 38,
     }
 }

@@ -68,7 +68,7 @@ bucket-reply {x = x} {n = n} {index = index} {id = id} {start = start} {end = en
 
 -- the tags of the variants without values
 abbrev bare : List ℕ
-bare = 0 ∷ 1 ∷ 2 ∷ 3 ∷ 4 ∷ 5 ∷ 6 ∷ 7 ∷ 12 ∷ 15 ∷ 19 ∷ 21 ∷ 22 ∷ 23 ∷ 31 ∷ 32 ∷ 33 ∷ 34 ∷ 35 ∷ 36 ∷ []
+bare = 0 ∷ 1 ∷ 2 ∷ 3 ∷ 4 ∷ 5 ∷ 6 ∷ 7 ∷ 12 ∷ 15 ∷ 19 ∷ 21 ∷ 22 ∷ 23 ∷ 31 ∷ 32 ∷ 33 ∷ 34 ∷ 35 ∷ 36 ∷ 37 ∷ []
 
 pub no-values : (x : Refusal) → OneOf bare (tagOf the-type x) → valuesOf x ≡ []
 no-values refusal.StoreTooShort h = refl
@@ -107,4 +107,5 @@ no-values refusal.SetTooLong h = refl
 no-values refusal.KeyTooLong h = refl
 no-values refusal.InvalidContract h = refl
 no-values refusal.ChargeTooLarge h = refl
+no-values refusal.InvalidLog h = refl
 no-values refusal.InvalidWindow h = refl

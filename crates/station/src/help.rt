@@ -28,16 +28,19 @@ with # are passed over, but counted.
   churn                                                     the lost counts; needs no session
   is_open CONTRACT SECOND                                   whether a second is open; likewise
   earliest_open CONTRACT SECOND                             the earliest open second from it on
+  check_log DELTAS LOG                                      whether a log passes; needs no session
 
 CONSUMER, INCARNATION, ID, SECONDS, RATE, REMAINDER and SECOND are decimal numbers below 2^64.
-TOPIC, SUBSCRIPTION, NAME, MESSAGE, KEY, SEGMENT and CONTRACT are bytes, at most 65536: in
-hexadecimal behind 0x, or as they stand. A MESSAGE is what the controller sends, in Protocol
+TOPIC, SUBSCRIPTION, NAME, MESSAGE, KEY, SEGMENT, CONTRACT, DELTAS and LOG are bytes, at most 65536:
+in hexadecimal behind 0x, or as they stand. A MESSAGE is what the controller sends, in Protocol
 Buffers; a SEGMENT is one record, packed as in a list. RATE is in millionths of a euro per full key
 space and hour; REMAINDER is that of the segment's last charge, 0 before the first. A SECOND is
 counted from 2000-01-01 00:00 UTC, a Saturday. A CONTRACT is the count of terms and that of weekly
 windows, 16 bits each, then start and end of each, 64 bits each, most significant bit first; those
-of windows are in seconds from Saturday 00:00. A log may have any number of lines, each of at most
-524287 bytes. The session has a store of full size, with a queue of 1024 pushes.
+of windows are in seconds from Saturday 00:00. DELTAS are packed one behind another; an entry of the
+LOG has 9 bytes: a bit (0 detach, 1 attach), the id, seven zero bits. A log of calls may have any
+number of lines, each of at most 524287 bytes. The session has a store of full size, with a queue of
+1024 pushes.
 
 For each call a line LINE CALL ANSWER, where LINE is its number in the log and ANSWER one of
 
@@ -48,7 +51,7 @@ For each call a line LINE CALL ANSWER, where LINE is its number in the log and A
   charged N remainder M                      N millionths of a euro; M goes into the next charge
   lost S largest M                           of the latest 256 deltas since the last open, begin or
                                              invalidate: the sum of their lost counts, and the largest
-  yes, no                                    whether the second is open
+  yes, no                                    whether the second is open; whether the log passes
   SECOND                                     the earliest open second
   delta epoch E lost L gained G              what the push changed, in numbers
   replay at PLACE epoch E lost L gained G    the same of a push of the queue, and its place

@@ -16,6 +16,7 @@
 //     churn
 //     is_open CONTRACT SECOND
 //     earliest_open CONTRACT SECOND
+//     check_log DELTAS LOG
 //
 // Each call is answered by a line `LINE CALL ANSWER`; a line that is none by `LINE damaged: REASON`, and the run goes on. The whole page is `help`.
 //

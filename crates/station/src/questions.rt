@@ -2,6 +2,7 @@
 use charge::ChargeAnswer;
 use hours::EarliestAnswer;
 use hours::OpenAnswer;
+use log_entries::LogAnswer;
 
 // charge SEGMENT SECONDS RATE REMAINDER
 pub fn charge(line: &[u8]) -> ChargeAnswer {
@@ -27,4 +28,13 @@ pub fn earliest_open(line: &[u8]) -> EarliestAnswer {
     let mut contract = io::large_buffer();
     let n = lines::bytes_at(line, 1, &mut contract);
     hours::earliest_open(&contract[..n], lines::number_at(line, 2))
+}
+
+// check_log DELTAS LOG
+pub fn check_log(line: &[u8]) -> LogAnswer {
+    let mut deltas = io::large_buffer();
+    let mut log = io::large_buffer();
+    let n = lines::bytes_at(line, 1, &mut deltas);
+    let m = lines::bytes_at(line, 2, &mut log);
+    attach_log::check(&deltas[..n], &log[..m])
 }

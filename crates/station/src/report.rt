@@ -10,6 +10,7 @@ use charge::ChargeAnswer;
 use churn::ChurnAnswer;
 use hours::EarliestAnswer;
 use hours::OpenAnswer;
+use log_entries::LogAnswer;
 use lookup::SegmentAnswer;
 use packed::SLOT;
 use refusal::Refusal;
@@ -99,8 +100,7 @@ pub fn show_earliest(answer: EarliestAnswer) {
     }
 }
 
-fn show_flag(label: &[u8], b: bool) {
-    text(label);
+fn show_yes(b: bool) {
     if b {
         text(b"yes");
     } else {
@@ -111,9 +111,22 @@ fn show_flag(label: &[u8], b: bool) {
 // Whether a second is open.
 pub fn show_open(answer: OpenAnswer) {
     match answer {
-        OpenAnswer::Told(b) => show_flag(b"", b),
+        OpenAnswer::Told(b) => show_yes(b),
         OpenAnswer::Refused(x) => call_text::refused(x),
     }
+}
+
+// Whether a log passes.
+pub fn show_log(answer: LogAnswer) {
+    match answer {
+        LogAnswer::Told(b) => show_yes(b),
+        LogAnswer::Refused(x) => call_text::refused(x),
+    }
+}
+
+fn show_flag(label: &[u8], b: bool) {
+    text(label);
+    show_yes(b);
 }
 
 fn show_floor(floor: Floor) {

@@ -19,6 +19,7 @@ use churn::ChurnAnswer;
 use hours::EarliestAnswer;
 use hours::OpenAnswer;
 use libc::STDOUT_FILENO;
+use log_entries::LogAnswer;
 use lookup::SegmentAnswer;
 use segment_key::KeyAnswer;
 use session::Answer;
@@ -233,6 +234,19 @@ fn run_earliest_open(run: Run, line: &[u8]) -> Run {
     }
 }
 
+// Shows whether the log of a line is what its deltas ask for. Nothing is changed but the counts.
+fn run_check_log(run: Run, line: &[u8]) -> Run {
+    let answer = questions::check_log(line);
+    show_name(run.line, line);
+    report::show_log(answer);
+    newline();
+    if let LogAnswer::Refused(_) = answer {
+        counted(run, true)
+    } else {
+        counted(run, false)
+    }
+}
+
 // The run behind a damaged line.
 fn with_damaged(options: Options, run: Run) -> Run {
     let mut next = run;
@@ -292,6 +306,7 @@ fn run_tested(
         Line::Churn => run_churn(run, line, window),
         Line::IsOpen => run_is_open(run, line),
         Line::EarliestOpen => run_earliest_open(run, line),
+        Line::CheckLog => run_check_log(run, line),
         Line::Call(name) => run_call(options, run, name, line, store, window),
     }
 }

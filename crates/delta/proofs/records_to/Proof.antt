@@ -1,5 +1,5 @@
--- `delta::records_end` meets its contract.
--- The invariant is `Records` of proofs/ReadLaws: the records that are left, from the place p on, decide the whole.
+-- `delta::records_to` meets its contract.
+-- The invariant is `Records` of proofs/ReadLaws: the records that are left, from the place p on, decide the whole, and end where all end.
 -- The measure is how many are left. Assumes nothing.
 use native.Mathlib.Omega.{arith}
 use mathlib.Core.Path.{sym, _∙_}
@@ -9,8 +9,8 @@ use borrow.Author.Needs.{needs}
 use Rattle.packed.proofs.AssignmentLaws.{Got, got}
 use Rattle.delta.proofs.ReadLaws.{lowest-first, lowest-above, lowest-stale}
 use Rattle.delta.proofs.ReadLaws.{Records, records-start, records-cut, records-stale, records-next, records-end}
-use Rattle.delta.proofs.records_end.Statement.{statement}
-use Rattle.delta.proofs.records_end.Tie as tie
+use Rattle.delta.proofs.records_to.Statement.{statement}
+use Rattle.delta.proofs.records_to.Tie as tie
 
 abbrev Inv-loop : tie.InvT-loop
 Inv-loop s at n end first₀ prev₀ p₀ left₀ first prev p left = Records s at n p left first prev
@@ -82,8 +82,8 @@ loop-again c =
 returns-3 : tie.Need-returns-3 Inv-loop μ-loop
 returns-3 c = records-end (c .before .loop .inv) (c .loop-test .left)
 
-pub records-end-spec : {M : Type 1} → statement M
-records-end-spec =
+pub records-to-spec : {M : Type 1} → statement M
+records-to-spec =
     tie.close
     (tie.spec
     Inv-loop

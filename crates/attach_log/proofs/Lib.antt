@@ -1,0 +1,3 @@
+mod WalkLaws
+mod EntryLaws
+mod FollowLaws

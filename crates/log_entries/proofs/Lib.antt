@@ -1,0 +1,2 @@
+pub mod PassLaws
+mod RowLaws

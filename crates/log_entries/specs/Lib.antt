@@ -1,0 +1,4 @@
+pub mod Log
+pub mod Passes
+pub mod Follows
+pub mod Rows
