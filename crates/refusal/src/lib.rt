@@ -46,7 +46,7 @@ pub enum Refusal {
     OverlappingBucketRanges {
         segment_id: SegmentId,
     },
-    // 12: the parent is no `topic://` with tenant, namespace and rest.
+    // 12: the parent is no `topic://` with tenant, namespace and rest, or has `?` or `#` in one of them.
     InvalidParent,
     // 13: the segment's topic is not the name of its parent, range and id.
     AttachmentMismatch {
@@ -77,7 +77,7 @@ pub enum Refusal {
         segment_id: SegmentId,
         topic_id: SegmentId,
     },
-    // 20: an assignment or a delta that was lent is malformed.
+    // 20: an assignment, a delta or a segment's record that was lent is malformed.
     MalformedInput,
     // 21: the result does not fit the output, or has no packed form.
     ResultTooLong,
