@@ -206,12 +206,12 @@ def writes(pairs):
         yield line("to_pb", sheet(), parent, 2)
     yield line("to_pb", sheet(), PARENT, 1)
     yield line("to_pb", sheet(epoch=HIGHEST), b"", 11)
-    limits = [Segment(0, 0, 0, ()), Segment(127, 0x7F, 0x80, ((0, 0x7F), (0x80, 0x3FFF), (0x4000, 0xFFFF))), Segment(HIGHEST, 0xABCD, 0xFFFF, ())]
-    yield line("to_pb", sheet(*limits, epoch=HIGHEST), b"topic://t/n//m", 300)
+    limits = [Segment(0, 0, 0, ()), Segment(127, 0x7F, 0x80, ()), Segment(128, 0, 0xFFFF, ((0, 0x7F), (0x80, 0x3FFF), (0x4000, 0xFFFF)))]
+    yield line("to_pb", sheet(*limits, Segment(HIGHEST, 0xABCD, 0xFFFF, ()), epoch=HIGHEST), b"topic://t/n//m", 300)
     yield line("to_pb", sheet(*BARE[:145]), PARENT, 16384)
     yield line("to_pb", sheet(half(0, *points(506))), PARENT, 16384)
     for old, _ in pairs[:3]:
-        yield line("to_pb", sheet(*old), PARENT, 1000)
+        yield line("to_pb", sheet(*map(cut_to_range, old)), PARENT, 1000)
     yield "# parents: not UTF-8, also where the form is wrong too; no parents; both before the room, malformed before all"
     for parent in (
         b"topic://t/n/\xff", b"\xff", b"topic://t//m", b"topic://t/n", b"topic://t/n/", b"topic://t/n/m/", b"topic://t/n/m?", b"topic://t/n/a#b", b"",
@@ -221,6 +221,16 @@ def writes(pairs):
     yield line("to_pb", row_a, "topic://t-/n_/é".encode(), 80)
     for a in (row_a[:-1], row_a + b"\0", b"", sheet(*BARE), sheet(half(1, (0, 5), (5, 9)))):
         yield line("to_pb", a, b"\xff", 0)
+    yield "# buckets at the ends of their range, and outside it: the first of the lowest id, whatever the parent and the room are; random ones"
+    for buckets in ([(10, 20)], [(20, 20), (10, 19)]):
+        yield line("to_pb", sheet(Segment(7, 10, 20, buckets)), PARENT, 100)
+    for parent in (PARENT, b"\xff", b""):
+        for buckets in ([(9, 9)], [(9, 10)], [(20, 21)], [(21, 21)], [(9, 21)], [(20, 20), (10, 19), (21, 22), (0, 5)]):
+            yield line("to_pb", sheet(half(6, (0, 0x7FFF)), Segment(7, 10, 20, buckets), Segment(8, 1, 1, ((0, 0),))), parent, 0)
+    yield line("to_pb", sheet(half(0, *points(506)[::-1], (0x7FFF, 0x8000)))[:-1], PARENT, 0)
+    yield line("to_pb", sheet(half(0, *points(505)[::-1], (0x7FFF, 0x8000))), PARENT, 0)
+    for old, _ in pairs[:2]:
+        yield line("to_pb", sheet(*old), PARENT, 1000)
 
 
 # ---- messages taken in
@@ -255,13 +265,13 @@ def good_messages():
     yield update(epoch=HIGHEST, parent=b"no parent")
     yield update(*bare(5, 1, 4, 2, 3))
     yield update(*bare(HIGHEST, 0, 1 << 63))
-    yield update(wire(3, 0, 9, (6, 9), (0, 5)), wire(1, 5, 5, (7, 7)), wire(2, 0xFFFF, 0xFFFF, (0, 0xFFFF)), wire(0))
+    yield update(wire(3, 0, 9, (6, 9), (0, 5)), wire(1, 5, 7, (7, 7)), wire(2, 0, 0xFFFF, (0, 0xFFFF)), wire(0))
     yield update(wire(1, path=b"t/n//m"), parent=b"topic://t/n//m")
-    yield update(wire(1, (1 << 32) + 5, (7 << 32) + 6, ((9 << 32) + 1, (1 << 40) + 2)))
+    yield update(wire(1, (1 << 32) + 5, (7 << 32) + 6, ((9 << 32) + 5, (1 << 40) + 6)))
     yield "# unknown fields between; fields that come twice: the last number and name, the buckets of all; two assignments: the segments of both"
     fixed = number_field(9, 1) + b"\x51" + bytes(8) + b"\x55" + bytes(4)
     bucket = number_field(2, 8) + number_field(1, 99) + fixed + number_field(1, 7)
-    yield update(number_field(1, 9) + wire(2, 1, 2, (1, 2)) + fixed + part_field(5, bucket))
+    yield update(number_field(1, 9) + wire(2, 1, 8, (1, 2)) + fixed + part_field(5, bucket))
     twice = part_field(4, b"no name") + wire(2)
     yield update(twice, number_field(2, 70000) + wire(1))
     again = number_field(1, 8) + part_field(2, wire(6))
@@ -283,8 +293,8 @@ def long_messages():
     yield update(wire(0, 0, 0x7FFF, *points(507)))
     yield "# 145 falling; three segments of 2,048 bytes, and with a bucket more"
     yield update(*bare(*numbers[:145][::-1]))
-    yield update(wire(9, 0, 9, *points(250)), wire(4, 0, 9, *points(249)), wire(7))
-    yield update(wire(9, 0, 9, *points(250)), wire(4, 0, 9, *points(250)), wire(7))
+    yield update(wire(9, 0, 249, *points(250)), wire(4, 0, 249, *points(249)), wire(7))
+    yield update(wire(9, 0, 249, *points(250)), wire(4, 0, 249, *points(250)), wire(7))
     yield "# beyond a slot every segment is still tested: a bad name in the 147th; a repeated id; a reversed range before a repeat, and behind it"
     yield update(*bare(*numbers), wire(147, name=b"segment://a/b/c/0000-7fff-148"))
     yield update(*bare(*numbers), wire(1))
@@ -297,6 +307,10 @@ def long_messages():
     yield "# an overlap of buckets 0 and 550, and of 505 and 506"
     yield update(wire(1, 0, 9, (550, 560), *row[1:550], (555, 555)))
     yield update(wire(1, 0, 9, *row[:506], (505, 505), *row[507:510]))
+    yield "# a bucket outside the range behind 505 and 506 others, rising and falling; before 15"
+    yield update(wire(1, 0, 504, *row[:506]))
+    yield update(wire(1, 1, 599, *row[1:507][::-1], (0, 0)))
+    yield update(wire(1, 0, 598, *row))
 
 
 def refused_messages():
@@ -312,6 +326,18 @@ def refused_messages():
     ):
         yield update(wire(HIGHEST, 0, 9, *buckets))
     yield update(wire(4) + part_field(5, b""), wire(5) + part_field(5, number_field(1, 1)))
+    yield "# buckets at the ends of the range, and outside it: the first of them, behind 10 and 11, before 12, 13 and 14; fields in another order"
+    for buckets in (
+        [(10, 20)], [(20, 20), (10, 19)], [(9, 9)], [(9, 10)], [(20, 21)], [(21, 21)], [(9, 21)], [(20, 20), (10, 19), (21, 22), (0, 5)],
+        [(0, 5), (20, 20), (10, 19)], [(0, 0xFFFF)], [(21, 22), (5, 4)], [(21, 22), (22, 23)], [(0, 0), (9, 9), (0, 0)],
+    ):
+        yield update(wire(HIGHEST, 10, 20, *buckets))
+    yield update(wire(1, 10, 20, (9, 9), name=b""), parent=b"")
+    yield update(wire(1, 10, 20, (9, 9), name=b""))
+    yield update(wire(1, 10, 20), wire(1, 10, 20, (9, 9)))
+    yield update(wire(1, 10, 20), wire(1, 10, 20), wire(2, 10, 20, (9, 9)))
+    yield update(part_field(5, number_field(1, 9) + number_field(2, 9)) + wire(1, 10, 20))
+    yield update(part_field(5, number_field(1, 10) + number_field(2, 20)) + wire(1, 10, 20))
     yield "# no parent: behind a segment's own ranges, before its name; not looked at where there is no segment"
     for parent in (b"", b"topic://t//m", b"topic://a/b", b"segment://a/b/c", b"topic://a/b/c/"):
         yield update(wire(1), parent=parent)
@@ -319,6 +345,7 @@ def refused_messages():
         yield update(wire(1, path=path), parent=b"topic://" + path)
         yield update(wire(1, 9, 3, path=path), parent=b"topic://" + path)
         yield update(wire(1, 0, 9, (1, 2), (2, 3), path=path), parent=b"topic://" + path)
+        yield update(wire(1, 0, 9, (1, 2), (9, 10), path=path), parent=b"topic://" + path)
         yield update(parent=b"topic://" + path)
     yield update(wire(1, 0, 9, (1, 2), (2, 3)), parent=b"")
     yield update(wire(1, name=b""), parent=b"")
@@ -350,6 +377,12 @@ def some_buckets(rng):
 def some_segment(rng, number):
     start, end = sorted(rng.sample(range(65536), 2))
     return Segment(number, start, end, some_buckets(rng))
+
+
+def cut_to_range(segment):
+    """What of its buckets lies inside its range."""
+    cut = ((max(low, segment.start), min(high, segment.end)) for low, high in segment.buckets)
+    return segment._replace(buckets=tuple((low, high) for low, high in cut if low <= high))
 
 
 def altered(rng, segment):

@@ -173,7 +173,16 @@ def segment_message(number, start, end, topic, buckets):
     return number_field(1, number) + number_field(2, start) + number_field(3, end) + part_field(4, topic) + rows
 
 
+def test_inside(number, start, end, buckets):
+    """Every value of every bucket is one of the segment's (02 e)."""
+    for index, (low, high) in enumerate(buckets):
+        if not {low, high} <= set(range(start, end + 1)):
+            raise Refused(34, number, index)
+
+
 def to_pb(assignment, parent):
+    for segment in assignment.segments:
+        test_inside(*segment)
     if assignment.segments and not utf8(parent):
         raise Refused(7)
     path = parent_path(parent) if assignment.segments else None
@@ -205,6 +214,7 @@ def taken_segment(part, parent):
             raise Refused(10, number, index, low, high)
     if shared(buckets):
         raise Refused(11, number)
+    test_inside(number, start, end, buckets)
     if last(contents(4, (2,), part), b"") != name_of(parent_path(parent), number, start, end):
         raise Refused(13, number)
     return Segment(number, start, end, buckets)

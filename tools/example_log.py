@@ -67,6 +67,7 @@ def hostile():
     yield "no epoch", number_field(1, CONSUMER) + part_field(2, part_field(2, named(NORTH, name_of(PATH, 0, 0, 0x3FFF))))
     yield "segment 0 under the name of segment 1", of_segment(named(NORTH, name_of(PATH, 1, 0, 0x3FFF)))
     yield "buckets that share a value", of_segment(ranged(1, 0x4000, 0x7FFF, (0x4000, 0x5FFF), (0x5FFF, 0x7FFF)))
+    yield "a bucket beyond its segment's range", of_segment(ranged(1, 0x4000, 0x7FFF, (0x4000, 0x5FFF), (0x6000, 0x8000)))
     yield "a range that is reversed", of_segment(ranged(2, 0xBFFF, 0x8000))
     yield "a bucket that is negative", of_segment(ranged(2, 0x8000, 0xBFFF, (below, 3)))
 

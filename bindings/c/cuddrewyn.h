@@ -97,12 +97,13 @@ cuddrewyn_session_reply cuddrewyn_invalidate(cuddrewyn_record r);
 
 /* A push of the controller (CommandScalableTopicAssignmentUpdate). Lend an output of at least 3,210 bytes.
  * DELTA: first is the delta's length in out; the list held stands in the store at CUDDREWYN_LIST. UNCHANGED: it was queued, or is the list held.
- * Refuses 1, 2, 22, 3 to 7, 23, 24, 9 to 15, then 26, 28 or 27. */
+ * Refuses 1, 2, 22, 3 to 7, 23, 24, 9 to 11, 34, 12 to 15, then 26, 28 or 27. */
 cuddrewyn_session_reply cuddrewyn_update(cuddrewyn_record r, uint8_t *store, size_t store_len, const uint8_t *message, size_t message_len,
                                          uint64_t incarnation, uint8_t *out, size_t out_len);
 
 /* The answer to a registration (CommandScalableTopicSubscribeResponse).
- * ACCEPTED: the baseline stands in the store at CUDDREWYN_BASELINE; drain until UNCHANGED. Refuses 1, 22, 3 to 7, 23, 16 or 17, 9 to 15, 26, 27. */
+ * ACCEPTED: the baseline stands in the store at CUDDREWYN_BASELINE; drain until UNCHANGED. Refuses 1, 22, 3 to 7, 23, 16 or 17, 9 to 11, 34, 12 to 15,
+ * 26, 27. */
 cuddrewyn_session_reply cuddrewyn_response(cuddrewyn_record r, uint8_t *store, size_t store_len, const uint8_t *message, size_t message_len,
                                            uint64_t incarnation);
 
@@ -124,7 +125,8 @@ cuddrewyn_reply cuddrewyn_apply(const uint8_t *assignment, size_t assignment_len
 /* The delta with the effect of d, then e. WRITTEN: first is its length in out. Refuses 20, 21. */
 cuddrewyn_reply cuddrewyn_join(const uint8_t *d, size_t d_len, const uint8_t *e, size_t e_len, uint8_t *out, size_t out_len);
 
-/* A list as the message ScalableConsumerAssignment. WRITTEN: first is its length in out. Refuses 20; with a segment 7 and 12 (parent); 21. */
+/* A list as the message ScalableConsumerAssignment. WRITTEN: first is its length in out. Refuses 20; 34 (a bucket outside its segment's range); with a segment 7 and 12
+ * (parent); 21. */
 cuddrewyn_reply cuddrewyn_to_pb(const uint8_t *assignment, size_t assignment_len, const uint8_t *parent, size_t parent_len, uint8_t *out, size_t out_len);
 
 /* The segment of a list that takes a key, by the low 16 bits of the key's MurmurHash3_x86_32 with seed 0: the lowest id

@@ -115,16 +115,20 @@ static cuddrewyn_session_reply update(cuddrewyn_record r, const message *m, uint
     return got;
 }
 
-/* A bad bucket attaches four values, two of them negative; a full queue of depth 0, its depth. */
+/* A bad bucket attaches four values, two of them negative; one outside its segment's range, two; a full queue of depth 0, its depth. */
 static void replies(void) {
     message segment = segment_of(0x0102030405060708, 0, 9, "x");
     put_bucket(&segment, 0, 1);
     put_bucket(&segment, -2, INT32_MIN);
-    message bad = update_of(7, 1, &segment), full = update_of(7, 1, NULL);
+    message outside = segment_of(0x0102030405060708, 2, 9, "x");
+    put_bucket(&outside, 2, 9);
+    put_bucket(&outside, 0, 1);
+    message bad = update_of(7, 1, &segment), wide = update_of(7, 1, &outside), full = update_of(7, 1, NULL);
     cuddrewyn_record r = open();
     cuddrewyn_session_reply got = update(r, &bad, 1);
     check_reply(got.reply, refused(10, 4, 0x0102030405060708, 1, (uint64_t)-2, (uint64_t)(int64_t)INT32_MIN));
     check_record(got.state, r);
+    check_reply(update(r, &wide, 1).reply, refused(34, 2, 0x0102030405060708, 1, 0, 0));
     check_reply(update(r, &full, 1).reply, refused(28, 1, 0, 0, 0, 0));
     check_reply(update(r, &full, 8).reply, refused(23, 2, 8, 1, 0, 0));
     got = cuddrewyn_open(7, 1, TOPIC, TOPIC_LEN, TOPIC, 0, TOPIC, 0, 1, store, STORE - 1);
@@ -165,6 +169,8 @@ static void lists(void) {
     check_reply(cuddrewyn_to_pb(list, 24, TOPIC, TOPIC_LEN, out, OUT), one(CUDDREWYN_WRITTEN, expected.length));
     check_bytes(out, expected.bytes, expected.length, "the list written");
     check_reply(cuddrewyn_to_pb(list, 24, TOPIC, 3, out, OUT), refused(12, 0, 0, 0, 0, 0));
+    static const uint8_t outside[28] = {[7] = 1, [9] = 1, [17] = 5, [21] = 9, [23] = 1, [25] = 9, [27] = 10};
+    check_reply(cuddrewyn_to_pb(outside, 28, TOPIC, 3, out, OUT), refused(34, 2, 5, 0, 0, 0));
 }
 
 /* The hash of "test" is d213: it lies in the range of segment 3, and in its bucket or just before it; segment 5 has all. */

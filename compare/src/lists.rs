@@ -27,10 +27,14 @@ const PARENTS: &[&[u8]] = &[
     "topic://ä/ö/ü".as_bytes(),
 ];
 
+/// A segment whose buckets lie inside its range, now and then anywhere.
 pub fn random_segment(id: u64, rng: &mut Rng) -> Segment {
     let (a, b) = (rng.pick(VALUES), rng.pick(VALUES));
     let count = if rng.one_in(2) { 0 } else { rng.below(5) };
     let mut cuts: Vec<u16> = (0..2 * count).map(|_| if rng.one_in(2) { rng.pick(VALUES) } else { rng.word() as u16 }).collect();
+    if !rng.one_in(4) {
+        cuts.iter_mut().for_each(|cut| *cut = (*cut).clamp(a.min(b), a.max(b)));
+    }
     cuts.sort_unstable();
     cuts.dedup();
     let mut buckets: Vec<(u16, u16)> = cuts.chunks_exact(2).map(|pair| (pair[0], pair[1])).collect();
@@ -101,11 +105,14 @@ pub fn room(needed: usize, most: usize, rng: &mut Rng) -> usize {
     rng.pick(&rooms).min(most)
 }
 
-/// What the writer should give: 20, 7, 12, 21; the message is the Rust's own.
+/// What the writer should give: 20, 34, 7, 12, 21; the message is the Rust's own.
 fn written(sheet: &[u8], parent: &[u8], room: usize) -> Written {
     let Some(sheet) = Sheet::whole(sheet) else {
         return (refused(20, &[]), Vec::new());
     };
+    if let Some(place) = sheet.outside() {
+        return (refused(34, &place), Vec::new());
+    }
     let message = if sheet.segments.is_empty() { Ok(encoded(&sheet, "")) } else { std::str::from_utf8(parent).map(|parent| named(&sheet, parent)) };
     match message {
         Err(_) => (refused(7, &[]), Vec::new()),
@@ -230,6 +237,7 @@ pub fn directed(tally: &mut Tally, seed: u64) {
     let mut output = Output::new(3 << 20, &mut rng);
     large_counts(tally, &mut output);
     parents(tally, &mut output);
+    buckets_outside(tally, &mut output);
     let most = output.length();
     for count in 143..148u64 {
         let full = Sheet { epoch: 1, segments: bare(0..count) }.packed();
@@ -279,13 +287,29 @@ fn parents(tally: &mut Tally, output: &mut Output) {
     }
 }
 
-/// A list of one segment with buckets to the list's end and beyond, rising and not.
+/// A bucket at and just beyond each end of its segment's range, in the first segment, the second or both, for parents of every kind: 34 of the
+/// first by id and stored order comes before 7 and 12.
+fn buckets_outside(tally: &mut Tally, output: &mut Output) {
+    let rows: [&[(u16, u16)]; 8] = [&[], &[(10, 20)], &[(10, 10), (20, 20)], &[(9, 9)], &[(12, 13), (20, 21)], &[(10, 11), (0, 9)], &[(21, 21), (0, 0)], &[(0, 65_535)]];
+    for (first, second) in rows.iter().flat_map(|first| rows.map(|second| (first, second))) {
+        let segment = |id, buckets: &[(u16, u16)]| Segment { id, start: 10, end: 20, buckets: buckets.to_vec() };
+        let sheet = Sheet { epoch: 1, segments: vec![segment(3, first), segment(u64::MAX, second)] }.packed();
+        for parent in PARENTS {
+            for room in [output.length(), 0] {
+                check_to_pb(tally, output, &sheet, parent, room);
+            }
+        }
+        check_to_pb(tally, output, &sheet[..sheet.len() - 1], PARENTS[0], 0);
+    }
+}
+
+/// A list of one segment with buckets to the list's end and beyond, rising and not; all of them inside its range, the last outside, all but one.
 fn many_buckets(tally: &mut Tally, output: &mut Output, rng: &mut Rng) {
     let most = output.length();
-    for count in [505, 506, 507, 2000] {
+    for (count, end) in [505, 506, 507, 2000].into_iter().flat_map(|count| [(count, 65_535), (count, 2 * count - 2), (count, 1)]) {
         let mut buckets: Vec<(u16, u16)> = (0..count).map(|value| (value * 2, value * 2 + 1)).collect();
         for turn in 0..3 {
-            let segment = Segment { id: 1, start: 0, end: 1, buckets: buckets.clone() };
+            let segment = Segment { id: 1, start: 0, end, buckets: buckets.clone() };
             let sheet = Sheet { epoch: 1, segments: vec![segment.clone()] }.packed();
             check_to_pb(tally, output, &sheet, PARENTS[0], most);
             check_apply(tally, output, &sheet, &delta_of(2..3, Vec::new()), most);

@@ -2,7 +2,8 @@
 //! the queue's numbers and a replay's place, which the Rust does not keep, are counted here by 01's words, and the lost counts by 02's (request n).
 use crate::generate::{Assignment, Style, refusing_response};
 use crate::model::churn;
-use crate::model::session::SLOT;
+use crate::model::messages;
+use crate::model::session::{SLOT, content};
 use crate::oracle;
 use crate::rng::Rng;
 use crate::scalable_consumer::{
@@ -220,13 +221,15 @@ impl Twin {
     }
 }
 
-/// A list of few and short segments, now and then with a fault, its epoch near the floor.
+/// A list of few and short segments, now and then with a fault, its epoch near the floor, on which 34 is not due.
 fn list(world: &mut World, twin: &Twin, rng: &mut Rng) -> Assignment {
     let floor = twin.session.epoch_floor().unwrap_or(3);
     let epoch = (floor + rng.pick(&[0, 0, 1, 1, 2])).saturating_sub(rng.pick(&[0, 0, 0, 1]));
     loop {
         let list = if rng.one_in(6) { world.faulty(epoch, rng) } else { world.list(epoch, rng) };
-        if list.parts.len() <= 4 && list.parts.iter().all(|part| part.buckets.len() <= 3) {
+        let read = messages::update(&list.update(CONSUMER, Style::Plain, rng));
+        let due = read.is_ok_and(|read| content(&read.assignment, twin.session.topic()).is_err_and(|reply| reply.number == 34));
+        if !due && list.parts.len() <= 4 && list.parts.iter().all(|part| part.buckets.len() <= 3) {
             return list;
         }
     }

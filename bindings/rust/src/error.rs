@@ -1,7 +1,7 @@
 //! Why a call is refused. A refusal changes nothing: record, store and output are as they were.
 //!
 //! The enums and their variants have the original's names and fields. Texts are left out, but for the broker's, which is a part of the message.
-//! The others are refusals of this port's own, and have no fields. Later requests add more, so a `match` needs a last arm.
+//! The others are refusals of this port's own, and have no fields, but for 34. Later requests add more, so a `match` needs a last arm.
 
 use core::error::Error;
 use core::fmt;
@@ -201,6 +201,13 @@ pub enum AssignmentError<'m> {
         /// The segment.
         segment_id: SegmentId,
     },
+    /// 34: a bucket lies not wholly inside the segment's range.
+    BucketOutsideSegment {
+        /// The segment.
+        segment_id: SegmentId,
+        /// The bucket's place among the segment's, from 0: the first such bucket.
+        index: usize,
+    },
     /// 13: the segment's topic is not the name of its parent, range and id.
     AttachmentMismatch {
         /// The segment.
@@ -291,6 +298,7 @@ impl<'m> AssignmentError<'m> {
             Self::StaleEpoch { .. } => 27,
             Self::PreBaselineBufferFull { .. } => 28,
             Self::KeyTooLong => 32,
+            Self::BucketOutsideSegment { .. } => 34,
             Self::InvalidContract => 35,
             Self::ChargeTooLarge => 36,
             Self::InvalidLog => 37,
@@ -311,7 +319,7 @@ impl<'m> AssignmentError<'m> {
             6 => Self::MissingField,
             7 => Self::InvalidUtf8,
             8 => Self::IdentityTooLong,
-            9..=14 => Self::of_segment(reply),
+            9..=14 | 34 => Self::of_segment(reply),
             15 => Self::AssignmentTooLong,
             16 => Self::Broker { code: signed(first), message },
             17 => Self::Empty { request_id: first },
@@ -327,7 +335,7 @@ impl<'m> AssignmentError<'m> {
         }
     }
 
-    /// 9 to 14.
+    /// 9 to 14 and 34.
     fn of_segment(reply: Reply) -> Self {
         let Reply { number, first, second, third, fourth, .. } = reply;
         let segment_id = SegmentId(first);
@@ -340,6 +348,7 @@ impl<'m> AssignmentError<'m> {
             12 => Self::SegmentTopic(SegmentTopicError::InvalidParent),
             13 => Self::AttachmentMismatch { segment_id },
             14 => Self::DuplicateSegment { segment_id },
+            34 => Self::BucketOutsideSegment { segment_id, index: second as usize },
             _ => Self::Unknown(reply),
         }
     }
@@ -371,6 +380,9 @@ impl<'m> AssignmentError<'m> {
             }
             Self::OverlappingBucketRanges { segment_id } => {
                 write!(f, "assignment segment {segment_id} has overlapping bucket ranges")
+            }
+            Self::BucketOutsideSegment { segment_id, index } => {
+                write!(f, "assignment segment {segment_id} has bucket range {index} outside its own range")
             }
             Self::AttachmentMismatch { segment_id } => {
                 write!(f, "assignment segment {segment_id} names another topic than expected")

@@ -40,8 +40,8 @@ pub fn join<'o>(
 ///
 /// # Errors
 ///
-/// Where the list has a segment, [`AssignmentError::SegmentTopic`] (12) for a bad parent; then [`AssignmentError::ResultTooLong`] (21).
-/// `out` is then as it was.
+/// [`AssignmentError::BucketOutsideSegment`] (34), so that what is written can be read; where the list has a segment,
+/// [`AssignmentError::SegmentTopic`] (12) for a bad parent; then [`AssignmentError::ResultTooLong`] (21). `out` is then as it was.
 pub fn to_pb<'o>(
     assignment: ConsumerAssignment<'_>,
     parent: &str,

@@ -5,13 +5,25 @@ mod messages;
 use cuddrewyn::*;
 use messages::*;
 
-/// Reads all of a list.
+/// Whether each bucket of a segment lies in its range; a store that was damaged may hold others.
+fn buckets_inside(segment: AssignedSegment<'_>) -> bool {
+    let range = segment.key_range();
+    segment.bucket_ranges().all(|bucket| range.contains_range(bucket))
+}
+
+/// Reads all of a list. It can be written where no bucket lies outside its segment.
 fn read_list(list: ConsumerAssignment<'_>) {
     assert_eq!(list.segments().len(), list.segments().count());
     list.segments().for_each(read_segment);
     let _ = format!("{list:?}");
     let mut out = vec![0; list.to_pb_room(TOPIC)];
-    assert!(list.to_pb(TOPIC, &mut out).is_ok());
+    match list.to_pb(TOPIC, &mut out) {
+        Ok(_) => assert!(list.segments().all(buckets_inside)),
+        Err(error) => {
+            assert_eq!(error.number(), 34, "{error}");
+            assert!(!list.segments().all(buckets_inside));
+        }
+    }
 }
 
 fn read_segment(segment: AssignedSegment<'_>) {

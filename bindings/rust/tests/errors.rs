@@ -68,6 +68,11 @@ fn texts_and_numbers_of_our_own() {
         (E::ResultTooLong, 21, "the result does not fit the output"),
         (E::MalformedStore, 22, "the record or a slot of the store is malformed"),
         (E::KeyTooLong, 32, "the key is longer than 65535 bytes"),
+        (
+            E::BucketOutsideSegment { segment_id: SEVEN, index: 2 },
+            34,
+            "assignment segment 7 has bucket range 2 outside its own range",
+        ),
         (E::InvalidContract, 35, "the contract has a span that ends before it starts, a window beyond the week or a count too large"),
         (E::ChargeTooLarge, 36, "the charge is beyond 64 bits, or the remainder is not below 235929600"),
         (E::InvalidLog, 37, "the length of the log is no multiple of 9, or a filling bit is set"),
@@ -161,6 +166,13 @@ fn lists_that_are_not_taken() {
         assert_eq!(bucket(start, end), E::InvalidBucketRange { segment_id: SEVEN, index: 1, start, end });
     }
     assert_eq!(bucket(1, 2), E::OverlappingBucketRanges { segment_id: SEVEN });
+    // Directly behind 11, and before 13.
+    assert_eq!(bucket(1, 10), E::OverlappingBucketRanges { segment_id: SEVEN });
+    for (start, end) in [(9, 10), (10, 10), (2, 65_535)] {
+        assert_eq!(bucket(start, end), E::BucketOutsideSegment { segment_id: SEVEN, index: 1 });
+    }
+    assert_eq!(push(&[segment(7, 3, 9, &[(2, 3)])]), E::BucketOutsideSegment { segment_id: SEVEN, index: 0 });
+    assert_eq!(push(&[segment_named(7, 3, 9, "x", &[(2, 3)])]), E::BucketOutsideSegment { segment_id: SEVEN, index: 0 });
     assert_eq!(push(&[segment_named(7, 0, 9, &name(8, 0, 9), &[])]), E::AttachmentMismatch { segment_id: SEVEN });
     assert_eq!(push(&[segment(7, 0, 9, &[]), segment(7, 0, 8, &[])]), E::DuplicateSegment { segment_id: SEVEN });
     let long = (0..146).map(|id| segment(id, 0, 9, &[])).collect::<Vec<_>>();

@@ -210,6 +210,13 @@ fn the_writer_writes_what_the_messages_have() {
     assert_eq!(list.to_pb(TOPIC, &mut [0; 20]), Err(AssignmentError::ResultTooLong));
     assert_eq!(list.to_pb("topic://t//m", &mut out), Err(SegmentTopicError::InvalidParent.into()));
     assert_eq!(list.to_pb("topic://t?/n/m", &mut out), Err(SegmentTopicError::InvalidParent.into()));
+    // A bucket outside its segment's range: the lowest id, whatever the parent is. The other calls read such a list.
+    let bytes = packed(1, &[record(3, 0, 9, &[(0, 9)]), record(4, 2, 9, &[(2, 3), (0, 1)]), record(5, 2, 9, &[(9, 10)])]);
+    let outside = AssignmentError::BucketOutsideSegment { segment_id: SegmentId(4), index: 1 };
+    for parent in [TOPIC, "topic://t//m"] {
+        assert_eq!(list_of(&bytes).to_pb(parent, &mut out), Err(outside));
+    }
+    assert_eq!(apply(list_of(&bytes), delta_of(&delta(1, &[], &[])), &mut out).unwrap().as_bytes(), bytes);
     // Without a segment the parent is not looked at.
     assert_eq!(ConsumerAssignment::default().to_pb("", &mut out).unwrap(), [8, 0]);
 }
@@ -220,7 +227,7 @@ fn the_room_of_the_writer_suffices() {
     let far = u64::MAX - 1_000;
     let bare: Vec<_> = (0..145).map(|id| record(far + id, 0xfffe, 0xffff, &[])).collect();
     let buckets: Vec<_> = (0..506).map(|i| (0xf000 + i, 0xf000 + i)).collect();
-    for bytes in [packed(u64::MAX, &bare), packed(u64::MAX, &[record(far, 0xfffe, 0xffff, &buckets)]), packed(0, &[])] {
+    for bytes in [packed(u64::MAX, &bare), packed(u64::MAX, &[record(far, 0xf000, 0xffff, &buckets)]), packed(0, &[])] {
         for parent in [TOPIC, &parent[..]] {
             let list = list_of(&bytes);
             let mut out = vec![0; list.to_pb_room(parent)];

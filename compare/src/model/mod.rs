@@ -1,7 +1,7 @@
 //! What 01 and 02 say, read independently of the port: its reader of messages, its packed forms, its store and its calls. Slow and plain.
 //!
-//! Refusals 9 to 14 of a message's segments are the Rust's (`oracle::intake`), which is told of no parent where `names::is_parent` finds none;
-//! the rest of a call's answer is reckoned here.
+//! Refusals 9 to 14 of a message's segments are the Rust's (`oracle::intake`), which is told of no parent where `names::is_parent` finds none,
+//! and of no segment from one with a bucket outside its range on (34); the rest of a call's answer is reckoned here.
 pub mod attach_log;
 pub mod charge;
 pub mod churn;

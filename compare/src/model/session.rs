@@ -1,6 +1,7 @@
 //! The session's calls: what each answers and writes, for any record, store, message and output.
 use super::delta::Delta;
-use super::sheet::{SHEET_MOST, Sheet};
+use super::messages::{WireAssignment, WireSegment};
+use super::sheet::{SHEET_MOST, Sheet, outside};
 use super::{identity, messages, names};
 use crate::oracle;
 use crate::raw::{self, Record, Reply};
@@ -86,11 +87,30 @@ fn in_use<'a>(record: &Record, store: &'a [u8]) -> Option<Slots<'a>> {
     Some(Slots { topic, held, queue })
 }
 
-/// 9 to 15 of an assignment. What is no parent by 02 h is 12 where the Rust finds that the empty text is none.
-fn content(assignment: &messages::WireAssignment, topic: &str) -> Result<Sheet, Reply> {
+/// 9 to 15 and 34 of an assignment. What is no parent by 02 h is 12 where the Rust finds that the empty text is none.
+pub fn content(assignment: &WireAssignment, topic: &str) -> Result<Sheet, Reply> {
     let parent = if names::is_parent(topic) { topic } else { "" };
-    let sheet = oracle::intake(assignment, parent)?;
+    let sheet = inside(assignment, parent)?;
     if sheet.size() > SHEET_MOST { Err(refused(15, &[])) } else { Ok(sheet) }
+}
+
+/// 9 to 14 and 34. The segments before the first with a bucket outside its range are the Rust's; of that one it is told with no parent, so that
+/// it finds 9, 10, 11 or else 12, directly before which 34 is due.
+fn inside(assignment: &WireAssignment, parent: &str) -> Result<Sheet, Reply> {
+    let bucket = |segment: &WireSegment| {
+        let buckets = segment.buckets.iter().map(|(start, end)| (i64::from(*start), i64::from(*end)));
+        outside((segment.start.into(), segment.end.into()), buckets)
+    };
+    let found = assignment.segments.iter().enumerate().find_map(|(at, segment)| bucket(segment).map(|index| (at, index)));
+    let Some((at, index)) = found else {
+        return oracle::intake(assignment, parent);
+    };
+    let of = |segments: &[WireSegment]| WireAssignment { epoch: assignment.epoch, segments: segments.to_vec() };
+    oracle::intake(&of(&assignment.segments[..at]), parent)?;
+    match oracle::intake(&of(&assignment.segments[at..=at]), "") {
+        Err(reply) if reply.number != 12 => Err(reply),
+        _ => Err(refused(34, &[assignment.segments[at].id, index as u64])),
+    }
 }
 
 fn same_incarnation(record: &Record, incarnation: u64) -> Result<(), Reply> {

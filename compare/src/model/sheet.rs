@@ -11,6 +11,11 @@ pub struct Segment {
     pub buckets: Vec<(u16, u16)>,
 }
 
+/// "A bucket not wholly inside": the index of the first, counted from 0 (02 e).
+pub fn outside(range: (i64, i64), mut buckets: impl Iterator<Item = (i64, i64)>) -> Option<usize> {
+    buckets.position(|(start, end)| [start, end].iter().any(|value| !(range.0..=range.1).contains(value)))
+}
+
 #[derive(Clone, Debug, PartialEq, Eq)]
 pub struct Sheet {
     pub epoch: u64,
@@ -90,6 +95,14 @@ pub fn put_record(packed: &mut Vec<u8>, segment: &Segment) {
 }
 
 impl Sheet {
+    /// 34's numbers: the first segment with a bucket outside its range, and which bucket.
+    pub fn outside(&self) -> Option<[u64; 2]> {
+        self.segments.iter().find_map(|segment| {
+            let buckets = segment.buckets.iter().map(|(start, end)| (i64::from(*start), i64::from(*end)));
+            outside((segment.start.into(), segment.end.into()), buckets).map(|index| [segment.id, index as u64])
+        })
+    }
+
     pub fn size(&self) -> usize {
         10 + self.segments.iter().map(|segment| 14 + 4 * segment.buckets.len()).sum::<usize>()
     }

@@ -2,7 +2,8 @@
 use super::script::{Script, TOPIC, bare, bucketed, list};
 use super::stage::{Ask, ROOM};
 use crate::generate::{Assignment, Field, Part, Style, message};
-use crate::model::session::{SLOT, STORE_FULL, queue_place};
+use crate::model::session::{LIST, SLOT, STORE_FULL, queue_place};
+use crate::model::sheet::{Segment, Sheet};
 use crate::raw::{ACCEPTED, DELTA, REPLAY, UNCHANGED};
 use crate::reply::{refused, taken};
 use crate::tally::{Call, Tally};
@@ -18,6 +19,7 @@ pub fn run(tally: &mut Tally, seed: u64) {
     drain_traps(tally, seed);
     order_in_a_segment(tally, seed);
     marked_parents(tally, seed);
+    stored_outside(tally, seed);
     high_bits(tally, seed);
     broker_codes(tally, seed);
 }
@@ -184,21 +186,29 @@ fn drain_traps(tally: &mut Tally, seed: u64) {
     s.expect("an accepted response drops replays", Call::Drain, given, taken(UNCHANGED, &[]));
 }
 
-/// Two faults in one segment: 9, 10, 11, 12, 13, then 14. The same list as update and as response.
+/// Two faults in one segment: 9, 10, 11, 34, 12, 13, then 14. The same list as update and as response.
 fn order_in_a_segment(tally: &mut Tally, seed: u64) {
     let bad = |start: u32, buckets: Vec<(i32, i32)>| Assignment { epoch: 1, parts: vec![Part::new("x", 4, start, 9, buckets)] };
     for topic in [TOPIC, "topic://a"] {
         let mut s = Script::open(tally, seed, 4 * SLOT, topic);
         let valid = topic == TOPIC;
         let twice = list(1, &[(1, 0, 1), (1, 0, 1)]);
+        let mut again_outside = twice.clone();
+        again_outside.parts[1].buckets = vec![(2, 2)];
         let misnamed = Assignment { epoch: 1, parts: [list(1, &[(4, 0, 1)]).parts, bad(0, vec![]).parts].concat() };
         let faults = [
             (bad(10, vec![(-1, 5)]), refused(9, &[4, 3, 10, 9])),
             (bad(65_536, vec![]), refused(9, &[4, 1, 65_536])),
             (bad(0, vec![(0, 5), (5, 5), (5, -1)]), refused(10, &[4, 2, 5, u64::MAX])),
             (bad(0, vec![(0, 5), (5, 5)]), refused(11, &[4])),
+            (bad(0, vec![(3, 10), (5, -1)]), refused(10, &[4, 1, 5, u64::MAX])),
+            (bad(0, vec![(3, 10), (10, 10)]), refused(11, &[4])),
+            (bad(0, vec![(3, 10)]), refused(34, &[4, 0])),
+            (bad(2, vec![(2, 9), (0, 1), (20, 30)]), refused(34, &[4, 1])),
+            (bad(2, vec![(9, 9), (2, 3), (65_535, 65_535)]), refused(34, &[4, 2])),
             (bad(0, vec![(0, 5)]), if valid { refused(13, &[4]) } else { refused(12, &[]) }),
             (twice, if valid { refused(14, &[1]) } else { refused(12, &[]) }),
+            (again_outside, if valid { refused(34, &[1, 0]) } else { refused(12, &[]) }),
             (misnamed, if valid { refused(13, &[4]) } else { refused(12, &[]) }),
         ];
         for (list, expected) in faults {
@@ -220,6 +230,7 @@ fn marked_parents(tally: &mut Tally, seed: u64) {
             (named(10, vec![]), refused(9, &[4, 3, 10, 9])),
             (named(0, vec![(5, -1)]), refused(10, &[4, 0, 5, u64::MAX])),
             (named(0, vec![(0, 5), (5, 5)]), refused(11, &[4])),
+            (named(0, vec![(0, 5), (9, 10)]), refused(34, &[4, 1])),
         ];
         for (list, expected) in faults {
             let given = s.update(&list);
@@ -230,6 +241,29 @@ fn marked_parents(tally: &mut Tally, seed: u64) {
         let given = s.response(&list(1, &[]));
         s.expect("marked parent, no segment", Call::Response, given, taken(ACCEPTED, &[]));
     }
+}
+
+/// A list with a bucket outside its segment's range is turned down in a message; where it stands in the store, it is read as before.
+fn stored_outside(tally: &mut Tally, seed: u64) {
+    let mut s = Script::open(tally, seed, 4 * SLOT, TOPIC);
+    let outside = Sheet { epoch: 5, segments: vec![Segment { id: 4, start: 2, end: 9, buckets: vec![(2, 3), (9, 10)] }] };
+    let message = |list: &Assignment, s: &mut Script| list.update(7, Style::Plain, &mut s.rng);
+    let (same, other) = (Assignment::of_sheet(&outside, "a/b/c"), list(5, &[(4, 2, 9)]));
+    let (same, other) = (message(&same, &mut s), message(&other, &mut s));
+    s.response(&list(5, &[]));
+    let mut stage = s.stage.clone();
+    stage.poke(LIST, &outside.packed());
+    for (message, expected) in [(same, refused(34, &[4, 1])), (other, taken(DELTA, &[12 + 8 + 14]))] {
+        let given = stage.ask(s.tally, &Ask::Update { message, incarnation: 1, room: ROOM }, None).reply;
+        s.expect("a stored bucket outside", Call::Update, given, expected);
+    }
+    s.invalidate();
+    s.update(&list(5, &[]));
+    s.response(&list(5, &[]));
+    let mut stage = s.stage.clone();
+    stage.poke(queue_place(0), &outside.packed());
+    let given = stage.ask(s.tally, &Ask::Drain { room: ROOM }, None).reply;
+    s.expect("a queued bucket outside", Call::Drain, given, taken(REPLAY, &[queue_place(0) as u64, 12 + 22]));
 }
 
 /// Ends of a range keep their low 32 bits: (5, 9) here.

@@ -99,7 +99,7 @@ fn sizes(tally: &mut Tally, seed: u64) {
             let count = left / 4;
             let parts = (0..segments).map(|k| {
                 let buckets = (0..count / segments + i32::from(k < count % segments)).map(|value| (value * 3, value * 3 + 1));
-                Part::new("a/b/c", 1000 - k as u64, 0, 9, buckets.collect())
+                Part::new("a/b/c", 1000 - k as u64, 0, 65_535, buckets.collect())
             });
             let list = Assignment { epoch: 1, parts: parts.collect() };
             s.update(&list);
@@ -110,7 +110,7 @@ fn sizes(tally: &mut Tally, seed: u64) {
     }
 }
 
-/// More than 506 buckets: faults and overlaps anywhere, rising and not.
+/// More than 506 buckets: faults, overlaps and buckets outside the range anywhere, rising and not.
 fn bucket_rows(tally: &mut Tally, seed: u64) {
     let mut s = Script::open(tally, seed, 4 * SLOT, TOPIC);
     for count in [505, 506, 507, 600, 1011, 1012, 1013, 1100] {
@@ -121,6 +121,17 @@ fn bucket_rows(tally: &mut Tally, seed: u64) {
         for buckets in [rising, shuffled, falling] {
             s.update(&bucketed(1, 5, buckets.clone()));
             let last = buckets.len() - 1;
+            for at in [0, 505.min(last), 506.min(last), last] {
+                let mut part = Part::new("a/b/c", 5, 1, 60_000, buckets.clone());
+                part.buckets.iter_mut().for_each(|bucket| bucket.0 = bucket.0.max(1));
+                part.buckets[at] = (60_000, 60_001);
+                s.update(&Assignment { epoch: 1, parts: vec![part.clone()] });
+                part.buckets[at] = (0, 0);
+                s.response(&Assignment { epoch: 1, parts: vec![part.clone()] });
+                part.buckets.swap(0, at);
+                part.buckets[last] = part.buckets[1];
+                s.update(&Assignment { epoch: 1, parts: vec![part] });
+            }
             for (from, to) in [(0, last), (last, 0), (0, 1), (last - 1, last), (0, 506), (505, 506), (506, 505)] {
                 let mut shared = buckets.clone();
                 if from <= last && to <= last {

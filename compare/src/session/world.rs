@@ -44,14 +44,14 @@ impl World {
         (a.min(b), a.max(b))
     }
 
-    /// Buckets that share no value, in any order.
-    fn buckets(rng: &mut Rng) -> Vec<(i32, i32)> {
+    /// Buckets inside the range that share no value, in any order.
+    fn buckets(start: u32, end: u32, rng: &mut Rng) -> Vec<(i32, i32)> {
         let count = match rng.below(24) {
             0..12 => 0,
             12..23 => rng.between(1, 3),
             _ => rng.between(4, 40),
         };
-        let mut cuts: Vec<i32> = (0..2 * count).map(|_| rng.below(65_536) as i32).collect();
+        let mut cuts: Vec<i32> = (0..2 * count).map(|_| rng.between(start as usize, end as usize) as i32).collect();
         cuts.sort_unstable();
         cuts.dedup();
         let mut buckets: Vec<(i32, i32)> = cuts.chunks_exact(2).map(|pair| (pair[0], pair[1])).collect();
@@ -61,7 +61,7 @@ impl World {
 
     fn part(&self, id: u64, rng: &mut Rng) -> Part {
         let (start, end) = Self::range(rng);
-        Part::new(self.path(), id, start, end, Self::buckets(rng))
+        Part::new(self.path(), id, start, end, Self::buckets(start, end, rng))
     }
 
     /// Another list at this epoch: a new one, or the last with a change or without.
@@ -104,7 +104,7 @@ impl World {
         ids.iter().map(|id| part(*id, rng)).collect()
     }
 
-    /// The list with one fault: of a range, a bucket, buckets, a name or an id.
+    /// The list with one fault: of a range, a bucket, buckets, a bucket beyond its range, a name or an id.
     pub fn faulty(&mut self, epoch: u64, rng: &mut Rng) -> Assignment {
         let kept = self.last.clone();
         let mut list = self.list(epoch, rng);
@@ -119,11 +119,12 @@ impl World {
     /// Puts a fault into a list that has a segment.
     pub fn put_fault(&self, list: &mut Assignment, rng: &mut Rng) {
         let at = rng.below(list.parts.len());
-        match rng.below(5) {
+        match rng.below(6) {
             0 => self.bad_range(&mut list.parts[at], rng),
             1 => bad_bucket(&mut list.parts[at], rng),
             2 => sharing_buckets(&mut list.parts[at], rng),
             3 => bad_name(&mut list.parts[at], rng),
+            4 => outer_bucket(&mut list.parts[at], rng),
             _ => {
                 let again = if rng.one_in(2) { list.parts[at].clone() } else { self.part(list.parts[at].id, rng) };
                 list.parts.push(again);
@@ -164,6 +165,18 @@ fn sharing_buckets(part: &mut Part, rng: &mut Rng) {
     }
     let at = rng.below(part.buckets.len() + 1);
     part.buckets.insert(at, (value, value));
+}
+
+/// A bucket beyond an end of the range, or over it. Of the whole key space there is none, nor of a range that is bad already.
+fn outer_bucket(part: &mut Part, rng: &mut Rng) {
+    let (start, end) = (i64::from(part.start), i64::from(part.end));
+    let mut outer = vec![(start - 1, start - 1), (start - 1, start), (0, start - 1), (end + 1, end + 1), (end, end + 1), (end + 1, 65_535), (0, 65_535)];
+    outer.retain(|(low, high)| 0 <= *low && low <= high && *high <= 65_535 && (*low < start || end < *high));
+    if !outer.is_empty() {
+        let at = rng.below(part.buckets.len() + 1);
+        let (low, high) = rng.pick(&outer);
+        part.buckets.insert(at, (low as i32, high as i32));
+    }
 }
 
 /// A name that is cut to nothing is bad already: a second fault leaves it.

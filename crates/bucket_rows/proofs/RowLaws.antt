@@ -2,7 +2,8 @@
 --
 -- In order: a row that is being loaded (`Loading`): at its start, with one more range, where no range is left, and full; what a loaded row
 -- says of the ranges from its place on: fewer are left behind it (`fewer`); they against another row (`cross-none`, `cross-found`,
--- `cross-goes`); they against one another (`any-none`, `any-found`, `later-found`, `any-goes`).
+-- `cross-goes`); they against one another (`any-none`, `any-found`, `later-found`, `any-goes`); the ranges one by one against the segment's
+-- (`Within`): at the start, one that is outside, one that is inside, and the end.
 -- Assumes nothing.
 use Prim.Native.Nat.{ℕ, _+_, _-_, _≤_, _<_}
 use native.Mathlib.Nat.{add-sub-cancel-left}
@@ -20,7 +21,9 @@ use Rattle.values.specs.declared.PartStep.the-variants as step
 use Rattle.values.specs.Places.{NextPart}
 use Rattle.readers.specs.declared.IntRange.{IntRange}
 use Rattle.readers.specs.Messages.{intRangeOf}
-use Rattle.content.specs.Content.{bucketOf}
+use Rattle.content.specs.declared.Outside.the-variants.{At, Nothing}
+use Rattle.content.specs.Content.{bucketOf, firstOutside, outsideOf}
+use Rattle.content.proofs.OutsideLaws.{outside-low, outside-high, outside-next}
 use Rattle.bucket_rows.specs.declared.Loaded.{Loaded}
 use Rattle.bucket_rows.specs.Rows.{bucketsFrom, LoadedIs}
 
@@ -109,3 +112,36 @@ module _ {p : List ℕ} {at : ℕ} {l : Loaded} (L : LoadedIs p at l) where
 
       pub any-goes : u ≡ false → anyOverlap (bucketsFrom p at) ≡ anyOverlap behind
       any-goes z = any-opened ∙ rw (y, ← says, z)
+
+-- ---- the ranges one by one against the segment's
+
+-- the first index buckets are inside, and the others stand from the place at on
+pub record Within (p : List ℕ) (range : KeyRange) (index at : ℕ) : Type 0 where
+  pub few : index ≤ at
+  pub left : firstOutside range 0 (bucketsFrom p 0) ≡ firstOutside range index (bucketsFrom p at)
+
+pub within-start : (p : List ℕ) (range : KeyRange) → Within p range 0 0
+within-start p range = record { few = omega arith; left = refl }
+
+module _ {p : List ℕ} {range : KeyRange} {index at : ℕ} (W : Within p range index at) where
+  pub within-end : NextPart 5 p at step.Absent → Nothing ≡ outsideOf (firstOutside range 0 (bucketsFrom p 0))
+  unfolding firstOutside
+  within-end q = sym (ap outsideOf (W .left) ∙ rw q)
+
+  module _ (start len after : ℕ) {r : IntRange} {k : KeyRange} (q : NextPart 5 p at (step.Found start len after))
+      (e : r ≡ intRangeOf (take (start + len - start) (drop start p))) (f : k ≡ bucketOf r) where
+    next-is : bucketsFrom p at ≡ k ∷ bucketsFrom p after
+    next-is = rw (q .3, f, e, add-sub-cancel-left start len)
+
+    opened : firstOutside range 0 (bucketsFrom p 0) ≡ firstOutside range index (k ∷ bucketsFrom p after)
+    opened = W .left ∙ ap (firstOutside range index) next-is
+
+    pub within-low : k .start < range .start → At index ≡ outsideOf (firstOutside range 0 (bucketsFrom p 0))
+    within-low h = sym (ap outsideOf (opened ∙ outside-low range index k _ h))
+
+    module _ (h : range .start ≤ k .start) where
+      pub within-high : range .end < k .end → At index ≡ outsideOf (firstOutside range 0 (bucketsFrom p 0))
+      within-high i = sym (ap outsideOf (opened ∙ outside-high range index k _ h i))
+
+      pub within-next : k .end ≤ range .end → Within p range (index + 1) after
+      within-next i = record { few = omega (arith, W .few, q .0, q .1); left = opened ∙ outside-next range index k _ h i }

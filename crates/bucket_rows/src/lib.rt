@@ -1,11 +1,14 @@
-// Whether two bucket ranges of a segment share a value: "handed to this test as a row of ranges, more than 506 of them row against row".
+// Tests over all bucket ranges of a segment: whether two share a value, "handed to this test as a row of ranges, more than 506 of them row
+// against row", and which lies outside the segment's range first.
 //
-// Only buckets that do not rise come here. The ranges are read from the message row by row, so any number of them takes two rows of memory.
+// Only buckets that do not rise are tested row against row. They are read from the message row by row, so any number takes two rows of memory.
 ghost use mathlib.Core.Path.{_≡_};
 ghost use Prim.Native.Nat.{_≤_};
 ghost use lib.ListN.{take};
 ghost use Rattle.ranges.specs.Overlap.{anyOverlap, crossOverlap};
+ghost use Rattle.content.specs.Content.{firstOutside, outsideOf};
 ghost use Rattle.bucket_rows.specs.Rows.{bucketsFrom, LoadedIs};
+use content::Outside;
 use types::KeyRange;
 use values::PartStep;
 
@@ -79,5 +82,32 @@ pub fn buckets_overlap(p: &[u8]) -> bool
             return true;
         }
         at = next;
+    }
+}
+
+// The first bucket of the segment p that lies not wholly inside the range.
+pub fn first_outside(p: &[u8], range: KeyRange) -> Outside
+    ensures { λ r. ⌜ r ≡ outsideOf (firstOutside range 0 (bucketsFrom (now (p .entry)) 0)) ⌝ }
+{
+    let mut index: usize = 0;
+    let mut at: usize = 0;
+    loop {
+        match values::next_part(p, at, 5) {
+            PartStep::Absent => {
+                return Outside::Nothing;
+            }
+            PartStep::Found(start, len, after) => {
+                let r = readers::read_range(&p[start..start + len]);
+                let bucket = segment_scan::key_range_of(r);
+                if bucket.start < range.start {
+                    return Outside::At(index);
+                }
+                if range.end < bucket.end {
+                    return Outside::At(index);
+                }
+                index = index + 1;
+                at = after;
+            }
+        }
     }
 }

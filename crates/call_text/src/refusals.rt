@@ -15,7 +15,7 @@ fn named(number: usize) {
               SegmentIdMismatch MalformedInput ResultTooLong MalformedStore IncarnationMismatch \
               ConsumerMismatch NonAdvancingIncarnation CrossIncarnationEpochRegression StaleEpoch \
               PreBaselineBufferFull WatchMismatch MalformedSet SetTooLong \
-              KeyTooLong - - InvalidContract ChargeTooLarge InvalidLog InvalidWindow",
+              KeyTooLong - BucketOutsideSegment InvalidContract ChargeTooLarge InvalidLog InvalidWindow",
         number,
     ));
 }

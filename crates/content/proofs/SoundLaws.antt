@@ -31,7 +31,8 @@ use Rattle.keyed.specs.Keyed.{orElse}
 use Rattle.packed.specs.Assignment.{allInOrder, okBuckets, okSegment}
 use Rattle.packed.proofs.RoundLaws.{FitRange, FitRanges, FitSegment}
 use Rattle.content.specs.Content.{wireId, rangeFaultBy, rangeFault, isValid, isBucket, bucketOk, bucketFault, magnitude, bucketOf}
-use Rattle.content.specs.Content.{bucketsOf, overlapFault, expectedTopic, nameFault, segmentFault, assignedSegment}
+use Rattle.content.specs.Content.{bucketsOf, overlapFault, firstOutside, outsideFaultBy, outsideFault, expectedTopic, nameFault}
+use Rattle.content.specs.Content.{segmentFault, assignedSegment}
 
 -- ---- no refusal
 
@@ -57,16 +58,24 @@ pub record Passed (parent : List ℕ) (w : WireSegment) : Type 0 where
   pub range : rangeFault w ≡ none
   pub buckets : bucketFault (wireId w) 0 (w .bucketRanges) ≡ none
   pub apart : anyOverlap (bucketsOf w) ≡ false
+  pub inside : firstOutside (keyRange (w .hashStart) (w .hashEnd)) 0 (bucketsOf w) ≡ none
   pub parent-ok : isParent parent ≡ true
   pub topic : sameBytes (w .segmentTopic) (expectedTopic parent w) ≡ true
 
+pub no-outside : (id : SegmentId) (o : Option ℕ) → outsideFaultBy id o ≡ none → o ≡ none
+no-outside id none e = refl
+no-outside id (some i) e = no-some e
+
 module _ (parent : List ℕ) (w : WireSegment) where
-  -- what is tested behind the range, behind the buckets, and behind the parent
-  abbrev afterRange : Option Refusal
-  afterRange = orElse (bucketFault (wireId w) 0 (w .bucketRanges)) (orElse (overlapFault w) (nameFault parent w))
+  -- what is tested behind 11, behind the buckets, behind the range, and behind the parent
+  abbrev afterOverlap : Option Refusal
+  afterOverlap = orElse (outsideFault w) (nameFault parent w)
 
   abbrev afterBuckets : Option Refusal
-  afterBuckets = orElse (overlapFault w) (nameFault parent w)
+  afterBuckets = orElse (overlapFault w) afterOverlap
+
+  abbrev afterRange : Option Refusal
+  afterRange = orElse (bucketFault (wireId w) 0 (w .bucketRanges)) afterBuckets
 
   abbrev sameTopic : Bool
   sameTopic = sameBytes (w .segmentTopic) (expectedTopic parent w)
@@ -79,15 +88,23 @@ module _ (parent : List ℕ) (w : WireSegment) where
   passed e =
       let nine = or-both (rangeFault w) afterRange e in
       let ten = or-both (bucketFault (wireId w) 0 (w .bucketRanges)) afterBuckets (nine .1) in
-      let others = or-both (overlapFault w) (nameFault parent w) (ten .1) in
+      let others = or-both (overlapFault w) afterOverlap (ten .1) in
       let eleven = if-none (anyOverlap (bucketsOf w)) (OverlappingBucketRanges (wireId w)) none (others .0) in
-      let twelve = unless-none (isParent parent) InvalidParent afterParent (others .1) in
+      let named = or-both (outsideFault w) (nameFault parent w) (others .1) in
+      let twelve = unless-none (isParent parent) InvalidParent afterParent (named .1) in
       let thirteen = unless-none sameTopic (AttachmentMismatch (wireId w)) none (twelve .1) in
-      record { range = nine .0; buckets = ten .0; apart = eleven .0; parent-ok = twelve .0; topic = thirteen .0 }
+      record {
+        range = nine .0;
+        buckets = ten .0;
+        apart = eleven .0;
+        inside = no-outside (wireId w) _ (named .0);
+        parent-ok = twelve .0;
+        topic = thirteen .0;
+      }
 
   pub passes : Passed parent w → segmentFault parent w ≡ none
   unfolding segmentFault nameFault
-  passes p = simp (p .range, p .buckets, p .apart, p .parent-ok, p .topic)
+  passes p = simp (p .range, p .buckets, p .apart, p .inside, p .parent-ok, p .topic)
 
 -- ---- ranges
 

@@ -1,11 +1,12 @@
--- From the assignment of a read message to the assignment that a station holds, or to a refusal, 9 to 15: `ConsumerAssignment::try_from_pb`.
+-- From the assignment of a read message to the assignment that a station holds, or to a refusal, 9 to 15 and 34:
+-- `ConsumerAssignment::try_from_pb`, and 34, which the Rust does not know.
 --
--- "per segment in wire order 9 to 14, 15": each segment is tested by itself (9 to 13), then its id against those before it (14). When all segments have passed, the
--- packed assignment has to fit a slot (15).
+-- "per segment in wire order 9 to 14, 15" (01); 34 "directly after 11" (02 e): each segment is tested by itself (9, 10, 11, 34, 12, 13), then
+-- its id against those before it (14). When all segments have passed, the packed assignment has to fit a slot (15).
 -- Assumes nothing.
 use Prim.Native.Nat.{ℕ, _+_}
 use lib.IntN.{ℤ, pos, negsuc}
-use mathlib.Core.Bool.{Bool, true, false, cond}
+use mathlib.Core.Bool.{Bool, true, false, cond, _&&_}
 use mathlib.Core.List.{List, [], _∷_, map}
 use mathlib.Core.Option.{Option, some, none}
 use lib.Dec.{leb}
@@ -17,6 +18,7 @@ use Rattle.types.specs.KeyRanges.{keyRange, newKeyRange}
 use Rattle.refusal.specs.declared.Refusal.{Refusal}
 use Rattle.refusal.specs.declared.Refusal.the-variants.{InvalidRange, InvalidBucketRange, OverlappingBucketRanges}
 use Rattle.refusal.specs.declared.Refusal.the-variants.{InvalidParent, AttachmentMismatch, DuplicateSegment, AssignmentTooLong}
+use Rattle.refusal.specs.declared.Refusal.the-variants.{BucketOutsideSegment}
 use Rattle.parts.specs.Same.{sameBytes}
 use Rattle.ranges.specs.Overlap.{anyOverlap}
 use Rattle.parents.specs.Parents.{isParent, pathOf}
@@ -25,11 +27,13 @@ use Rattle.readers.specs.declared.IntRange.{IntRange}
 use Rattle.readers.specs.Messages.{WireSegment, WireAssignment}
 use Rattle.keyed.specs.Keyed.{orElse, self, holds, insert}
 use Rattle.packed.specs.Assignment.{AssignedSegment, idOf, ConsumerAssignment, sizeAssignment, slotSize}
+use Rattle.content.specs.declared.Outside.{Outside}
+use Rattle.content.specs.declared.Outside.the-variants.{At, Nothing}
 
 abbrev pub wireId : WireSegment → SegmentId
 wireId w = record { 0 = w .segmentId }
 
--- ---- one segment: 9 to 13, `AssignedSegment::try_from_pb`
+-- ---- one segment: 9, 10, 11, 34, 12, 13, `AssignedSegment::try_from_pb`
 
 -- 9: "start above 65,535, then end above 65,535, then end below start"
 abbrev pub rangeFaultBy : SegmentId → RangeResult → Option Refusal
@@ -73,6 +77,33 @@ bucketsOf w = map bucketOf (w .bucketRanges)
 abbrev pub overlapFault : WireSegment → Option Refusal
 overlapFault w = cond (anyOverlap (bucketsOf w)) (some (OverlappingBucketRanges (wireId w))) none
 
+-- 34: "A bucket not wholly inside is to be turned down" (02 e); the bucket lies wholly inside the segment's range
+abbrev pub isInside : KeyRange → KeyRange → Bool
+isInside range bucket = leb (range .start) (bucket .start) && leb (bucket .end) (range .end)
+
+-- "the first such bucket": its place, counted from index on
+unfoldable pub firstOutside : KeyRange → ℕ → List KeyRange → Option ℕ
+firstOutside range index [] = none
+firstOutside range index (b ∷ bs) = cond (isInside range b) (firstOutside range (index + 1) bs) (some index)
+
+-- "34 with segment id and bucket index (from 0)"
+abbrev pub outsideFaultBy : SegmentId → Option ℕ → Option Refusal
+outsideFaultBy id none = none
+outsideFaultBy id (some index) = some (BucketOutsideSegment id index)
+
+abbrev pub outsideFault : WireSegment → Option Refusal
+outsideFault w = outsideFaultBy (wireId w) (firstOutside (keyRange (w .hashStart) (w .hashEnd)) 0 (bucketsOf w))
+
+-- the first such bucket of a stored list, in stored order, which rises by id
+unfoldable pub outsideIn : List AssignedSegment → Option Refusal
+outsideIn [] = none
+outsideIn (g ∷ gs) = orElse (outsideFaultBy (record { 0 = g .segmentId }) (firstOutside (g .range) 0 (g .buckets))) (outsideIn gs)
+
+-- as the walks over buckets answer it
+abbrev pub outsideOf : Option ℕ → Outside
+outsideOf none = Nothing
+outsideOf (some index) = At index
+
 -- the name that the segment has to have
 abbrev pub expectedTopic : List ℕ → WireSegment → List ℕ
 expectedTopic parent w = segmentTopic (pathOf parent) (keyRange (w .hashStart) (w .hashEnd)) (wireId w)
@@ -86,7 +117,8 @@ nameFault parent w =
 
 unfoldable pub segmentFault : List ℕ → WireSegment → Option Refusal
 segmentFault parent w =
-    orElse (rangeFault w) (orElse (bucketFault (wireId w) 0 (w .bucketRanges)) (orElse (overlapFault w) (nameFault parent w)))
+    orElse (rangeFault w) (orElse (bucketFault (wireId w) 0 (w .bucketRanges))
+    (orElse (overlapFault w) (orElse (outsideFault w) (nameFault parent w))))
 
 -- ---- all segments
 

@@ -1,7 +1,8 @@
 -- The number and the attached numbers of each refusal (01, Refused for the input, Refused for the state).
 --
 -- `numberOf` is 01's number. `valuesOf` are the attached numbers, "those of the Rust's variant, else none", in the order of the Rust's fields,
--- as integers: bucket ends and broker codes may be negative. Of an invalid range the kind comes before that kind's own numbers.
+-- as integers: bucket ends and broker codes may be negative. Of an invalid range the kind comes before that kind's own numbers. 34 (02 e) has
+-- "segment id and bucket index (from 0)".
 -- Assumes nothing.
 use Prim.Native.Nat.{ℕ}
 use mathlib.Core.List.{List, [], _∷_, map}
@@ -18,7 +19,7 @@ use Rattle.refusal.specs.declared.Refusal.the-variants.{DuplicateSegment
 use Rattle.refusal.specs.declared.Refusal.the-variants.{SegmentIdMismatch, MalformedInput, ResultTooLong, MalformedStore, IncarnationMismatch}
 use Rattle.refusal.specs.declared.Refusal.the-variants.{ConsumerMismatch, NonAdvancingIncarnation, CrossIncarnationEpochRegression, StaleEpoch}
 use Rattle.refusal.specs.declared.Refusal.the-variants.{PreBaselineBufferFull, WatchMismatch, MalformedSet, SetTooLong, KeyTooLong}
-use Rattle.refusal.specs.declared.Refusal.the-variants.{InvalidContract, ChargeTooLarge, InvalidLog, InvalidWindow}
+use Rattle.refusal.specs.declared.Refusal.the-variants.{BucketOutsideSegment, InvalidContract, ChargeTooLarge, InvalidLog, InvalidWindow}
 
 abbrev pub numberOf : Refusal → ℕ
 numberOf StoreTooShort = 1
@@ -55,6 +56,7 @@ numberOf (WatchMismatch got expected) = 29
 numberOf MalformedSet = 30
 numberOf SetTooLong = 31
 numberOf KeyTooLong = 32
+numberOf (BucketOutsideSegment id index) = 34
 numberOf InvalidContract = 35
 numberOf ChargeTooLarge = 36
 numberOf InvalidLog = 37
@@ -105,6 +107,7 @@ valuesOf (WatchMismatch got expected) = pos got ∷ pos expected ∷ []
 valuesOf MalformedSet = []
 valuesOf SetTooLong = []
 valuesOf KeyTooLong = []
+valuesOf (BucketOutsideSegment id index) = idValue id ∷ pos index ∷ []
 valuesOf InvalidContract = []
 valuesOf ChargeTooLarge = []
 valuesOf InvalidLog = []

@@ -1,8 +1,8 @@
 // Why a call is refused: one enum for every call.
 //
 // The variants that come from the Rust have its names and those of its fields that are numbers; texts are left out. The others are refusals of
-// this port's own and have no fields. The number before each variant is the one that the specification gives it; `numberOf` and `valuesOf` of
-// specs/ say the same formally, and every promise about a refusal goes through those two.
+// this port's own and have no fields, but for 34. The number before each variant is the one that the specification gives it; `numberOf` and
+// `valuesOf` of specs/ say the same formally, and every promise about a refusal goes through those two.
 ghost use mathlib.Core.Path.{_≡_};
 ghost use Rattle.refusal.specs.Refusals.{numberOf};
 use types::ControllerIncarnation;
@@ -123,6 +123,11 @@ pub enum Refusal {
     SetTooLong,
     // 32: a key is longer than 65,535 bytes.
     KeyTooLong,
+    // 34: a bucket range lies not wholly inside its segment's range; its place among the segment's buckets.
+    BucketOutsideSegment {
+        segment_id: SegmentId,
+        index: usize,
+    },
     // 35: a contract has an end not after its start, a window beyond the week or a count too large.
     InvalidContract,
     // 36: the holding's product and remainder reach 2^64 together, or the remainder lent in is not below the divisor.
@@ -192,6 +197,10 @@ pub fn number(refusal: Refusal) -> u8
         Refusal::MalformedSet => 30,
         Refusal::SetTooLong => 31,
         Refusal::KeyTooLong => 32,
+        Refusal::BucketOutsideSegment {
+            segment_id: _,
+            index: _,
+        } => 34,
         Refusal::InvalidContract => 35,
         Refusal::ChargeTooLarge => 36,
         Refusal::InvalidLog => 37,

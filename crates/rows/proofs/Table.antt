@@ -20,7 +20,7 @@ use Rattle.packed.specs.Rows as packed
 use Rattle.packed.specs.Equal.{sameRanges, sameSegment, sameSegments, sameAssignment}
 use Rattle.delta.specs.Change.{hasSame, without, deltaBetween}
 use Rattle.delta.specs.Rows as delta
-use Rattle.content.specs.Content.{bucketFault, nameFault, segmentFault, firstRefusal}
+use Rattle.content.specs.Content.{bucketFault, firstOutside, nameFault, segmentFault, firstRefusal}
 use Rattle.content.specs.Content.{assignedSegment, inIdOrder, consumerAssignment, contentOf}
 use Rattle.content.specs.Rows as content
 use Rattle.session.specs.Store.{depthOf}
@@ -30,7 +30,7 @@ use Rattle.rows.specs.Rows.{Rows}
 use Rattle.rows.proofs.BucketLaws.{buckets-taken, buckets-long}
 
 pub rows : Rows
-unfolding newKeyRange anyOverlap sameBytes startsWith table fits sequenceIn sequenceOf textAfter isUtf8 classOf beforeSlash behindSlash clean hasThreeParts frontClean isPath isParent hex4 decimalWithin decimal descriptor segmentTopic varintOf keyOf numberOf partOf fieldsOf ruleFor complete firstFault segmentOf assignmentOf updateOf sizeSegment sizeSegments sizeAssignment sameRanges sameSegment sameSegments sameAssignment hasSame without deltaBetween bucketFault nameFault segmentFault firstRefusal assignedSegment inIdOrder consumerAssignment contentOf depthOf damaged updateUnregistered updateRegistered updateContent updateValid updateCall
+unfolding newKeyRange anyOverlap sameBytes startsWith table fits sequenceIn sequenceOf textAfter isUtf8 classOf beforeSlash behindSlash clean hasThreeParts frontClean isPath isParent hex4 decimalWithin decimal descriptor segmentTopic varintOf keyOf numberOf partOf fieldsOf ruleFor complete firstFault segmentOf assignmentOf updateOf sizeSegment sizeSegments sizeAssignment sameRanges sameSegment sameSegments sameAssignment hasSame without deltaBetween bucketFault firstOutside nameFault segmentFault firstRefusal assignedSegment inIdOrder consumerAssignment contentOf depthOf damaged updateUnregistered updateRegistered updateContent updateValid updateCall
 rows =
     record {
       a-valid = refl;

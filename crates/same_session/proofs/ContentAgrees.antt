@@ -6,7 +6,7 @@
 -- Assumes nothing.
 use Prim.Native.Nat.{ℕ}
 use native.Mathlib.Omega.{arith}
-use mathlib.Core.Path.{_≡_, refl, ap, sym, _∙_}
+use mathlib.Core.Path.{_≡_, refl, ap, sym, _∙_, subst}
 use mathlib.Core.Bool.{Bool, true, false, cond, not, true≢false, Bool·not-not}
 use mathlib.Core.List.{List, [], _∷_, _++_, map, append-assoc, append-nil}
 use mathlib.Core.Option.{Option, some, none}
@@ -21,7 +21,6 @@ use Rattle.packed.specs.Assignment as port
 use Rattle.packed.specs.Assignment.{idOf}
 use Rattle.content.specs.Content.{wireId, segmentFault, duplicateFault, firstRefusal, assignedSegment, inIdOrder, consumerAssignment}
 use Rattle.content.proofs.OrderLaws.{First, refusal-none, SeenIds, seen-start, seen-next, seen-held}
-use Rattle.magnetar.specs.Result.{map-err}
 use Rattle.magnetar.specs.Text.{Text}
 use Rattle.magnetar.specs.Collections.{insert-by, sort-by, id-key, is-new, with-id}
 use Rattle.magnetar.specs.Assignment.{DuplicateSegment, AssignedSegment, AssignedSegment-try-from-pb, segments-loop, id-le}
@@ -30,7 +29,8 @@ use Rattle.magnetar.specs.Session.{segment-key}
 use Rattle.same_names.specs.Agree.{isMarked}
 use Rattle.same_session.specs.Paper.{paper}
 use Rattle.same_session.specs.Values.{asSegment, asAssignment}
-use Rattle.same_session.proofs.Verdicts.{verdict, seq, test, or-none}
+use Rattle.same_session.proofs.Verdicts.{verdict, Agreed, seq-agreed, test-agreed, or-none}
+use Rattle.same_session.proofs.OursLaws.{Ours}
 use Rattle.same_session.proofs.SegmentAgrees.{segment-agrees}
 
 -- ---- the loop
@@ -53,17 +53,18 @@ asTheyCame parent (w ∷ ws) = asSegment parent (assignedSegment w) ∷ asTheyCa
 
 module _ (parent : Text) (m : isMarked parent ≡ false) where
   segments-agree : (ws : List WireSegment) (segments : List AssignedSegment) (ids : List SegmentId) (seen : List ℕ) → SameIds ids seen
-      → map-err paper (segments-loop parent ws segments ids) ≡ verdict (firstRefusal parent seen ws) (segments ++ asTheyCame parent ws)
+      → Agreed Ours paper (segments-loop parent ws segments ids) (firstRefusal parent seen ws) (segments ++ asTheyCame parent ws)
   unfolding firstRefusal assignedSegment
-  segments-agree [] segments ids seen h = ap (λ l. verdict none l) (sym (append-nil segments))
+  segments-agree [] segments ids seen h = Agreed.agree (ap (λ l. verdict none l) (sym (append-nil segments)))
   segments-agree (w ∷ ws) segments ids seen h =
-      seq paper (AssignedSegment-try-from-pb w parent) (segmentFault parent w) x (segment-agrees parent m w) _
+      seq-agreed Ours paper (AssignedSegment-try-from-pb w parent) (segmentFault parent w) x (segment-agrees parent m w) _
       (orElse (duplicateFault seen w) later) (segments ++ (x ∷ asTheyCame parent ws)) (λ n.
-      test paper (not (is-new (wireId w) ids)) (holds self (w .segmentId) seen)
+      test-agreed Ours paper (not (is-new (wireId w) ids)) (holds self (w .segmentId) seen)
       (Bool·not-not (holds id-key (w .segmentId) ids) ∙ h (w .segmentId)) (DuplicateSegment (wireId w))
       (segments-loop parent ws (segments ++ (x ∷ [])) (with-id (wireId w) ids)) later (segments ++ (x ∷ asTheyCame parent ws)) (λ u.
-      segments-agree ws (segments ++ (x ∷ [])) (with-id (wireId w) ids) (w .segmentId ∷ seen) (same-ids ids seen (wireId w) h)
-      ∙ ap (verdict later) (append-assoc segments (x ∷ []) (asTheyCame parent ws))))
+      subst (Agreed Ours paper (segments-loop parent ws (segments ++ (x ∷ [])) (with-id (wireId w) ids)) later)
+      (append-assoc segments (x ∷ []) (asTheyCame parent ws))
+      (segments-agree ws (segments ++ (x ∷ [])) (with-id (wireId w) ids) (w .segmentId ∷ seen) (same-ids ids seen (wireId w) h))))
     where
       x : AssignedSegment
       x = asSegment parent (assignedSegment w)
@@ -205,13 +206,14 @@ module _ (parent : Text) where
 -- ---- the assignment
 
 pub content-agrees : (parent : Text) (a : WireAssignment) → isMarked parent ≡ false
-    → map-err paper (ConsumerAssignment-try-from-pb a parent)
-    ≡ verdict (firstRefusal parent [] (a .segments)) (asAssignment parent (consumerAssignment a))
+    → Agreed Ours paper (ConsumerAssignment-try-from-pb a parent) (firstRefusal parent [] (a .segments))
+    (asAssignment parent (consumerAssignment a))
 unfolding consumerAssignment
 content-agrees parent a m =
-    seq paper (segments-loop parent (a .segments) [] []) (firstRefusal parent [] (a .segments)) (asTheyCame parent (a .segments))
+    subst (λ o. Agreed Ours paper (ConsumerAssignment-try-from-pb a parent) o (asAssignment parent (consumerAssignment a)))
+    (or-none (firstRefusal parent [] (a .segments)))
+    (seq-agreed Ours paper (segments-loop parent (a .segments) [] []) (firstRefusal parent [] (a .segments)) (asTheyCame parent (a .segments))
     (segments-agree parent m (a .segments) [] [] [] (λ k. refl)) _ none (asAssignment parent (consumerAssignment a))
     (λ n.
-    ap (λ l. verdict none (record { layout-epoch = a .layoutEpoch; segments = l }))
-    (order-agrees parent (a .segments) [] [] [] refl seen-start n))
-    ∙ ap (λ o. verdict o (asAssignment parent (consumerAssignment a))) (or-none (firstRefusal parent [] (a .segments)))
+    Agreed.agree (ap (λ l. verdict none (record { layout-epoch = a .layoutEpoch; segments = l }))
+    (order-agrees parent (a .segments) [] [] [] refl seen-start n))))

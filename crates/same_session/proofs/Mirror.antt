@@ -8,7 +8,7 @@ use Prim.Native.Nat.{ℕ, _-_, _/_}
 use mathlib.Core.Path.{_≡_, refl, ap, ap₂, sym, _∙_, subst}
 use mathlib.Core.Bool.{Bool, true, false, cond, false≢true, true≢false}
 use mathlib.Core.List.{List, [], _++_, map}
-use mathlib.Core.Logic.{_⊎_}
+use mathlib.Core.Logic.{_⊎_, inl, inr}
 use mathlib.Core.Option.{Option, some, none, Option·map}
 use lib.ListN.{length, getD}
 use lib.Seq.{take-at}
@@ -42,9 +42,9 @@ use Rattle.same_session.specs.Paper.{paper, textOf}
 use Rattle.same_session.specs.Values.{asAssignment, asDelta, asReplay, asFloor, replays}
 use Rattle.same_session.specs.Demand.{fullSize, Told, refuses, baseline, done, no-change, delta, replay, Shown, textBeside, Caller}
 use Rattle.same_session.specs.Demand.{Turn, refusing, ours}
-use Rattle.same_session.proofs.Verdicts.{verdict, ok-err}
+use Rattle.same_session.proofs.Verdicts.{verdict, ok-err, Agreed}
 use Rattle.same_session.proofs.ReplayAgrees.{Registration, sess, Plain}
-use Rattle.same_session.proofs.OursLaws.{Theirs}
+use Rattle.same_session.proofs.OursLaws.{Ours, Theirs, OursOrTheirs}
 
 -- ---- what a session in values shows, behind a call with that reply
 
@@ -242,19 +242,28 @@ floors P epoch (At f) s S p k h g = go (ltb epoch f) g
     go true g = h fault (CrossIncarnationEpochRegression epoch f) (record { is = refl; text = refl; number = refl })
     go false g = g refl
 
--- the assignment of the message
-pub contents : {B : Type 0} (P : session.Result → Did B → Type 0) (t : Text) (answer : Content → session.Result)
-    (S : ScalableConsumerSession) (k : ConsumerAssignment → Run B)
-    (m : Result ConsumerAssignment AssignmentError) (v : Option Refusal) (a : port.ConsumerAssignment)
-    → map-err paper m ≡ verdict v (asAssignment t a) → Theirs v
-    → ((x : Refusal) (y : AssignmentError) → Plain y x → P (answer (content.refused x)) (record { after = S; result = Err y }))
-    → ((d : Did B) → P (answer (content.refused refusal.AssignmentTooLong)) d)
-    → P (answer (content.taken a)) (k (asAssignment t a) S)
-    → P (answer (contentBy v a)) (go-on S m k)
-contents P t answer S k (Ok x) none a e u bad long good =
-    let p : x ≡ asAssignment t a = cc in
-    choose (λ c. P (answer c) (k x S)) (leb (sizeAssignment a) slotSize)
-    (λ u. subst (λ y. P (answer (content.taken a)) (k y S)) (sym p) good) (λ u. long (k x S))
-contents P t answer S k (Ok x) (some r) a e u bad long good = ok-err e
-contents P t answer S k (Err x) none a e u bad long good = ok-err (sym e)
-contents P t answer S k (Err x) (some r) a e u bad long good = let p : paper x ≡ r = cc in bad r x (plain-of x r p u)
+-- the assignment of the message; what this port refuses for a reason of its own, the Rust may answer as it likes
+module _ {B : Type 0} (P : session.Result → Did B → Type 0) (t : Text) (answer : Content → session.Result)
+    (S : ScalableConsumerSession) (k : ConsumerAssignment → Run B) (a : port.ConsumerAssignment)
+    (bad : (x : Refusal) (y : AssignmentError) → Plain y x → P (answer (content.refused x)) (record { after = S; result = Err y }))
+    (own : (x : Refusal) → Ours x → (d : Did B) → P (answer (content.refused x)) d)
+    (good : P (answer (content.taken a)) (k (asAssignment t a) S)) where
+  refused-same : (r : Refusal) (x : AssignmentError) → paper x ≡ r → OursOrTheirs (some r)
+      → P (answer (content.refused r)) (record { after = S; result = Err x })
+  refused-same r x p (inl o) = own r o (record { after = S; result = Err x })
+  refused-same r x p (inr u) = bad r x (plain-of x r p u)
+
+  contents-same : (m : Result ConsumerAssignment AssignmentError) (v : Option Refusal) → map-err paper m ≡ verdict v (asAssignment t a)
+      → OursOrTheirs v → P (answer (contentBy v a)) (go-on S m k)
+  contents-same (Ok x) none e u =
+      let p : x ≡ asAssignment t a = cc in
+      choose (λ c. P (answer c) (k x S)) (leb (sizeAssignment a) slotSize)
+      (λ u. subst (λ y. P (answer (content.taken a)) (k y S)) (sym p) good) (λ u. own refusal.AssignmentTooLong refl (k x S))
+  contents-same (Ok x) (some r) e u = ok-err e
+  contents-same (Err x) none e u = ok-err (sym e)
+  contents-same (Err x) (some r) e u = let p : paper x ≡ r = cc in refused-same r x p u
+
+  pub contents : (m : Result ConsumerAssignment AssignmentError) (v : Option Refusal)
+      → Agreed Ours paper m v (asAssignment t a) → OursOrTheirs v → P (answer (contentBy v a)) (go-on S m k)
+  contents m v (Agreed.agree e) u = contents-same m v e u
+  contents m v (Agreed.mine x p q) u = subst (λ o. P (answer (contentBy o a)) (go-on S m k)) (sym p) (own x q (go-on S m k))

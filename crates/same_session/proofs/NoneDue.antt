@@ -8,7 +8,7 @@ use mathlib.Core.List.{List, [], _∷_}
 use mathlib.Core.Option.{Option, some, none}
 use lib.ListN.{length}
 use lib.Dec.{eqb, ltb, leb}
-use borrow.Author.Tests.{leb-true, le-ltb}
+use borrow.Author.Tests.{not-true, leb-true, le-ltb}
 use Rattle.types.specs.declared.ControllerIncarnation.{ControllerIncarnation}
 use Rattle.refusal.specs.declared.Refusal.{Refusal}
 use Rattle.refusal.specs.Refusals.{numberOf}
@@ -20,7 +20,6 @@ use Rattle.readers.specs.declared.ErrorCode.{ErrorCode}
 use Rattle.readers.specs.declared.ErrorCode.the-variants.{Given, Absent}
 use Rattle.readers.specs.Messages.{WireAssignment, WireResponse, updateOf, responseOf}
 use Rattle.ranges.specs.Meaning.{both-true}
-use Rattle.keyed.specs.Keyed.{isSome}
 use Rattle.keyed.proofs.KeyedLaws.{choose}
 use Rattle.packed.specs.Assignment.{ConsumerAssignment, slotSize, sizeAssignment}
 use Rattle.packed.specs.Equal.{sameAssignment}
@@ -40,8 +39,8 @@ use Rattle.session.specs.DemandThree.{Fresh, AllOfBytes}
 use Rattle.session.proofs.Model.{resultOf}
 use Rattle.session.proofs.ViewLaws.{Kept, kept-fresh, sound-is, damaged-is, Follows}
 use Rattle.session.proofs.TraceLaws.{follow-call, step-is}
-use Rattle.same_session.specs.Demand.{fullSize, topicIn, ours, isOurs, noneOurs, fits, isTaken, roomy, allRoomy, DemandTwoOfInputs}
-use Rattle.same_session.proofs.OursLaws.{Theirs, theirs-content, theirs-floor, theirs-stale}
+use Rattle.same_session.specs.Demand.{fullSize, topicIn, ours, isOurs, noneOurs, fitsBy, fits, isTaken, roomy, allRoomy, DemandTwoOfInputs}
+use Rattle.same_session.proofs.OursLaws.{Theirs, theirs-floor, theirs-stale}
 use Rattle.same_session.proofs.Mirror.{oursIn}
 use Rattle.same_session.proofs.Demanded.{ours-is, demand-two}
 
@@ -66,11 +65,11 @@ clean-denied : (w : WireResponse) (e : ErrorCode) → ours (numberOf (denied w e
 clean-denied w (Given code) = refl
 clean-denied w Absent = refl
 
-clean-content : (answer : Content → session.Result) (v : Option Refusal) (a : ConsumerAssignment) → Theirs v
-    → (isSome v || leb (sizeAssignment a) slotSize) ≡ true → ((x : Refusal) → ours (numberOf x) ≡ false → Clean (answer (refused x)))
+clean-content : (answer : Content → session.Result) (v : Option Refusal) (a : ConsumerAssignment)
+    → fitsBy v (leb (sizeAssignment a) slotSize) ≡ true → ((x : Refusal) → ours (numberOf x) ≡ false → Clean (answer (refused x)))
     → Clean (answer (taken a)) → Clean (answer (contentBy v a))
-clean-content answer (some x) a t h f g = f x (t .0)
-clean-content answer none a t h f g =
+clean-content answer (some x) a h f g = f x (not-true (ours (numberOf x)) h)
+clean-content answer none a h f g =
     choose (λ c. Clean (answer c)) (leb (sizeAssignment a) slotSize) (λ u. g) (λ u. absurd (false≢true (sym u ∙ h)))
 
 module _ (s : Session) (full : s .size ≡ fullSize) (sound : damaged s ≡ false) where
@@ -107,7 +106,7 @@ module _ (s : Session) (full : s .size ≡ fullSize) (sound : damaged s ≡ fals
         choose Clean (not (eqb (link .0) (s .state .incarnation .0))) (λ t. refl) (λ t.
         choose Clean (not (eqb (updateOf message .consumerId) (s .state .«consumer_id»))) (λ t. refl) (λ t.
         clean-content (updateContent s) (firstRefusal (s .topic) [] (a .segments)) (consumerAssignment a)
-        (theirs-content (s .topic) [] (a .segments)) f (λ x p. p) (clean-pushed (consumerAssignment a))))
+        f (λ x p. p) (clean-pushed (consumerAssignment a))))
 
     clean-response : (k : Checked) → isTaken k ≡ true
         → (not (responseOf message .hasAssignment) || fits (s .topic) (responseOf message .assignment)) ≡ true
@@ -120,7 +119,7 @@ module _ (s : Session) (full : s .size ≡ fullSize) (sound : damaged s ≡ fals
         choose Clean (responseOf message .hasAssignment)
         (λ u.
         clean-content (responseContent s) (firstRefusal (s .topic) [] (a .segments)) (consumerAssignment a)
-        (theirs-content (s .topic) [] (a .segments)) (rw u at f) (λ x p. p) (clean-own (consumerAssignment a)))
+        (rw u at f) (λ x p. p) (clean-own (consumerAssignment a)))
         (λ u. clean-denied (responseOf message) (responseOf message .error)))
 
   clean-call : (w : Call) → roomy (s .topic) w ≡ true → Clean (resultOf s w)

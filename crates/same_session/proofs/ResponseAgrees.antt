@@ -46,7 +46,7 @@ use Rattle.same_session.specs.Values.{asAssignment, asFloor, replays}
 use Rattle.same_session.specs.Demand.{textBeside, Caller, afterResponse, rustResponse, rustStep}
 use Rattle.same_session.proofs.ContentAgrees.{content-agrees}
 use Rattle.same_session.proofs.ReplayAgrees.{Registration, sess, raise-agrees, Replayed, loop-agrees}
-use Rattle.same_session.proofs.OursLaws.{OursIf, theirs-content, fault-ours}
+use Rattle.same_session.proofs.OursLaws.{OursIf, either-content, fault-ours}
 use Rattle.same_session.proofs.Mirror.{rust, caller, holding, Idle, Live, Mirror, Fair, withQueue, refuse-fair, plain-fair, through}
 use Rattle.same_session.proofs.Mirror.{floors, contents}
 
@@ -203,13 +203,12 @@ module _ (n : Registration) (message : List ℕ) (link : ControllerIncarnation) 
         refuse-fair n call s (denied own (own .error)) (without-assignment own (resp-error (own .error))) (caller n s o q r t)
         (denial (own .error)) (denial-text (own .error)) h
     response-reply true =
-        contents (Responds t) (s .topic) (responseContent s) from (floorRest (own .requestId))
-        (ConsumerAssignment-try-from-pb (own .assignment) (s .topic)) (firstRefusal (s .topic) [] (own .assignment .segments))
-        (consumerAssignment (own .assignment)) (content-agrees (s .topic) (own .assignment) (h .unmarked))
-        (theirs-content (s .topic) [] (own .assignment .segments))
+        contents (Responds t) (s .topic) (responseContent s) from (floorRest (own .requestId)) (consumerAssignment (own .assignment))
         (λ x y p. plain-fair n call s x y (caller n s o q r t) p h)
-        (λ d f. absurd (true≢false f))
+        (λ x p d f. absurd (true≢false (sym p ∙ f)))
         (response-assignment (consumerAssignment (own .assignment)) (read-proper (own .assignment)))
+        (ConsumerAssignment-try-from-pb (own .assignment) (s .topic)) (firstRefusal (s .topic) [] (own .assignment .segments))
+        (content-agrees (s .topic) (own .assignment) (h .unmarked)) (either-content (s .topic) [] (own .assignment .segments))
 
     -- 23
     response-valid : Responds t (responseValid s link own) (handle-subscribe-response-for link own from)

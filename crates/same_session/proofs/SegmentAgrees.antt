@@ -24,7 +24,8 @@ use Rattle.readers.specs.declared.IntRange.{IntRange}
 use Rattle.readers.specs.Messages.{WireSegment}
 use Rattle.keyed.specs.Keyed.{orElse}
 use Rattle.content.specs.Content.{wireId, rangeFaultBy, rangeFault, isValid, isBucket, bucketOk, bucketFault, magnitude, bucketOf}
-use Rattle.content.specs.Content.{bucketsOf, overlapFault, expectedTopic, nameFault, segmentFault, assignedSegment}
+use Rattle.content.specs.Content.{bucketsOf, overlapFault, firstOutside, outsideFaultBy, outsideFault, expectedTopic, nameFault}
+use Rattle.content.specs.Content.{segmentFault, assignedSegment}
 use Rattle.content.proofs.SoundLaws.{unless-none, bucket-sound}
 use Rattle.magnetar.specs.Result.{Result, Ok, Err, _>>=_, map-err}
 use Rattle.magnetar.specs.Text.{Text, text-eq}
@@ -39,8 +40,9 @@ use Rattle.same_names.specs.Agree.{isMarked}
 use Rattle.same_names.proofs.ParentAgrees.{segment-topic-agrees}
 use Rattle.same_session.specs.Paper.{paper}
 use Rattle.same_session.specs.Values.{asSegment}
-use Rattle.same_session.proofs.Verdicts.{verdict, seq, test, or-none, or-unless}
+use Rattle.same_session.proofs.Verdicts.{verdict, seq, Agreed, seq-agreed, test-agreed, or-none, or-unless}
 use Rattle.same_session.proofs.OverlapAgrees.{Ordered, windows-agree}
+use Rattle.same_session.proofs.OursLaws.{Ours}
 
 -- ---- ranges
 
@@ -170,19 +172,32 @@ module _ (parent : Text) (unmarked : isMarked parent ≡ false) (w : WireSegment
       go true = attach-agrees (sameBytes (w .segmentTopic) (expectedTopic parent w)) refl
       go false = refl
 
-  pub segment-agrees : map-err paper (AssignedSegment-try-from-pb w parent)
-      ≡ verdict (segmentFault parent w) (asSegment parent (assignedSegment w))
+  -- 34: the Rust does not ask
+  inside-agrees : Agreed Ours paper (named parent w range (bucketsOf w)) (orElse (outsideFault w) (nameFault parent w))
+      (asSegment parent (assignedSegment w))
+  inside-agrees = go (firstOutside range 0 (bucketsOf w))
+    where
+      go : (o : Option ℕ)
+          → Agreed Ours paper (named parent w range (bucketsOf w)) (orElse (outsideFaultBy (wireId w) o) (nameFault parent w))
+          (asSegment parent (assignedSegment w))
+      go none = Agreed.agree names-agree
+      go (some i) = Agreed.mine (refusal.BucketOutsideSegment (wireId w) i) refl refl
+
+  pub segment-agrees : Agreed Ours paper (AssignedSegment-try-from-pb w parent) (segmentFault parent w) (asSegment parent (assignedSegment w))
   unfolding segmentFault
   segment-agrees =
-      seq paper (map-err (λ source. InvalidRange (wireId w) source) (KeyRange-new (w .hashStart) (w .hashEnd))) (rangeFault w) range
-      (range-agrees (wireId w) (w .hashStart) (w .hashEnd)) (bucketed parent w)
-      (orElse (bucketFault (wireId w) 0 (w .bucketRanges)) (orElse (overlapFault w) (nameFault parent w))) x (λ n.
-      seq paper (collect-results (enumerate-map (bucket-range (wireId w)) 0 (w .bucketRanges)))
+      seq-agreed Ours paper (map-err (λ source. InvalidRange (wireId w) source) (KeyRange-new (w .hashStart) (w .hashEnd))) (rangeFault w) range
+      (Agreed.agree (range-agrees (wireId w) (w .hashStart) (w .hashEnd))) (bucketed parent w)
+      (orElse (bucketFault (wireId w) 0 (w .bucketRanges)) (orElse (overlapFault w) others)) x (λ n.
+      seq-agreed Ours paper (collect-results (enumerate-map (bucket-range (wireId w)) 0 (w .bucketRanges)))
       (bucketFault (wireId w) 0 (w .bucketRanges)) (bucketsOf w)
-      (buckets-agree (wireId w) 0 (w .bucketRanges)) (apart parent w range) (orElse (overlapFault w) (nameFault parent w)) x (λ m.
-      test paper (windows-any (λ a b. leb (b .start) (a .end)) (sort-by KeyRange-le (bucketsOf w))) (anyOverlap (bucketsOf w))
+      (Agreed.agree (buckets-agree (wireId w) 0 (w .bucketRanges))) (apart parent w range) (orElse (overlapFault w) others) x (λ m.
+      test-agreed Ours paper (windows-any (λ a b. leb (b .start) (a .end)) (sort-by KeyRange-le (bucketsOf w))) (anyOverlap (bucketsOf w))
       (windows-agree (bucketsOf w) (buckets-ordered (wireId w) 0 (w .bucketRanges) m)) (OverlappingBucketRanges (wireId w))
-      (named parent w range (bucketsOf w)) (nameFault parent w) x (λ u. names-agree)))
+      (named parent w range (bucketsOf w)) others x (λ u. inside-agrees)))
     where
       x : AssignedSegment
       x = asSegment parent (assignedSegment w)
+
+      others : Option Refusal
+      others = orElse (outsideFault w) (nameFault parent w)

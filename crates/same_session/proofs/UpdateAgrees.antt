@@ -45,7 +45,7 @@ use Rattle.same_session.specs.Values.{asAssignment, asFloor, replays}
 use Rattle.same_session.specs.Demand.{fullSize, Caller, afterUpdate, rustUpdate, rustStep}
 use Rattle.same_session.proofs.ContentAgrees.{content-agrees}
 use Rattle.same_session.proofs.ReplayAgrees.{Registration, sess, apply-stale, apply-same, apply-new}
-use Rattle.same_session.proofs.OursLaws.{OursIf, theirs-content, fault-ours}
+use Rattle.same_session.proofs.OursLaws.{OursIf, either-content, fault-ours}
 use Rattle.same_session.proofs.Mirror.{rust, caller, holding, Idle, Live, Mirror, Fair, mirror-still, withQueue, mirror-same}
 use Rattle.same_session.proofs.Mirror.{refuse-fair, plain-fair, both, through, floors, contents}
 
@@ -234,13 +234,12 @@ module _ (n : Registration) (message : List ℕ) (link : ControllerIncarnation) 
         (fail (ConsumerMismatch (pushed .consumerId) id)) (messageRest pushed from) from
         (λ u. refuse-fair n call s (refusal.ConsumerMismatch (pushed .consumerId) id) (ConsumerMismatch (pushed .consumerId) id)
         (caller n s o q r t) refl refl h) (λ u.
-        contents (Updates t) (s .topic) (updateContent s) from (incomingRest from)
-        (ConsumerAssignment-try-from-pb (pushed .assignment) (s .topic)) (firstRefusal (s .topic) [] (pushed .assignment .segments))
-        (consumerAssignment (pushed .assignment)) (content-agrees (s .topic) (pushed .assignment) (h .unmarked))
-        (theirs-content (s .topic) [] (pushed .assignment .segments))
+        contents (Updates t) (s .topic) (updateContent s) from (incomingRest from) (consumerAssignment (pushed .assignment))
         (λ x y p. plain-fair n call s x y (caller n s o q r t) p h)
-        (λ d f. absurd (true≢false f))
-        (good (consumerAssignment (pushed .assignment)) (read-proper (pushed .assignment)))))
+        (λ x p d f. absurd (true≢false (sym p ∙ f)))
+        (good (consumerAssignment (pushed .assignment)) (read-proper (pushed .assignment)))
+        (ConsumerAssignment-try-from-pb (pushed .assignment) (s .topic)) (firstRefusal (s .topic) [] (pushed .assignment .segments))
+        (content-agrees (s .topic) (pushed .assignment) (h .unmarked)) (either-content (s .topic) [] (pushed .assignment .segments))))
 
   module _ (c : Caller) (h : Mirror n s c) where
     -- from either state

@@ -1,5 +1,5 @@
--- A `Result` of the Rust beside a first refusal and a value: `verdict` joins the two, and `?` and an early return are `orElse` (`seq`,
--- `test`).
+-- A `Result` of the Rust beside a first refusal and a value: `verdict` joins the two, and `?` is `orElse` (`seq`). Where the port may refuse
+-- for a reason of its own (`Agreed`), so are `?` (`seq-agreed`) and an early return (`test-agreed`).
 -- Assumes nothing.
 use Prim.Native.Nat.{ℕ}
 use native.Mathlib.Omega.{arith}
@@ -26,13 +26,33 @@ seq g (Ok x) (some r) a e f w b h = ok-err e
 seq g (Err x) none a e f w b h = ok-err (sym e)
 seq g (Err x) (some r) a e f w b h = let p : g x ≡ r = cc in ap Err p
 
--- `if test { return Err(e); }`
-pub test : {A E R : Type 0} (g : E → R) (b c : Bool) → b ≡ c → (e : E) (m : Result A E) (w : Option R) (a : A)
-    → (c ≡ false → map-err g m ≡ verdict w a) → map-err g (cond b (Err e) m) ≡ verdict (orElse (cond c (some (g e)) none) w) a
-test g true true p e m w a h = refl
-test g true false p e m w a h = absurd (true≢false p)
-test g false true p e m w a h = absurd (false≢true p)
-test g false false p e m w a h = h refl
+-- ---- the same, where the port may refuse what the Rust takes
+
+module _ {R : Type 0} (Mine : R → Type 0) where
+  -- the two say the same, or the port refuses for a reason of its own
+  pub data Agreed {A E : Type 0} (g : E → R) (m : Result A E) (v : Option R) (a : A) : Type 0 where
+    agree : map-err g m ≡ verdict v a → Agreed g m v a
+    mine : (x : R) → v ≡ some x → Mine x → Agreed g m v a
+
+  seq-same : {A B E : Type 0} (g : E → R) (m : Result A E) (v : Option R) (a : A) → map-err g m ≡ verdict v a
+      → (f : A → Result B E) (w : Option R) (b : B) → (v ≡ none → Agreed g (f a) w b) → Agreed g (m >>= f) (orElse v w) b
+  seq-same g (Ok x) none a e f w b h = let p : x ≡ a = cc in subst (λ y. Agreed g (f y) w b) (sym p) (h refl)
+  seq-same g (Ok x) (some r) a e f w b h = ok-err e
+  seq-same g (Err x) none a e f w b h = ok-err (sym e)
+  seq-same g (Err x) (some r) a e f w b h = let p : g x ≡ r = cc in Agreed.agree (ap Err p)
+
+  pub seq-agreed : {A B E : Type 0} (g : E → R) (m : Result A E) (v : Option R) (a : A) → Agreed g m v a
+      → (f : A → Result B E) (w : Option R) (b : B) → (v ≡ none → Agreed g (f a) w b) → Agreed g (m >>= f) (orElse v w) b
+  seq-agreed g m v a (Agreed.agree e) f w b h = seq-same g m v a e f w b h
+  seq-agreed g m v a (Agreed.mine x p q) f w b h = Agreed.mine x (rw p) q
+
+  -- `if test { return Err(e); }`
+  pub test-agreed : {A E : Type 0} (g : E → R) (b c : Bool) → b ≡ c → (e : E) (m : Result A E) (w : Option R) (a : A)
+      → (c ≡ false → Agreed g m w a) → Agreed g (cond b (Err e) m) (orElse (cond c (some (g e)) none) w) a
+  test-agreed g true true p e m w a h = Agreed.agree refl
+  test-agreed g true false p e m w a h = absurd (true≢false p)
+  test-agreed g false true p e m w a h = absurd (false≢true p)
+  test-agreed g false false p e m w a h = h refl
 
 -- ---- refusals
 

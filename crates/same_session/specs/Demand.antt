@@ -211,10 +211,11 @@ opened r store =
       taken = [];
     }
 
--- ---- "Ours, due in these cases only: 1 to 8, 15, 20 to 22, 30, 31."
+-- ---- "Ours, due in these cases only: 1 to 8, 15, 20 to 22, 30, 31."; and 34 (02 e: "The Rust accepts it, so runs in which 34 is due are not
+-- compared with it")
 
 abbrev pub ours : ℕ → Bool
-ours n = (leb 1 n && leb n 8) || (eqb n 15 || ((leb 20 n && leb n 22) || (eqb n 30 || eqb n 31)))
+ours n = (leb 1 n && leb n 8) || (eqb n 15 || ((leb 20 n && leb n 22) || (eqb n 30 || (eqb n 31 || eqb n 34))))
 
 abbrev pub isOurs : Answer → Bool
 isOurs (Refused x) = ours (numberOf x)
@@ -244,8 +245,12 @@ fedShown r store (c ∷ cs) =
 -- ---- the inputs of a call on which none of ours is due
 
 -- an assignment that is refused for its content, by one of 9 to 14, or fits a slot
+abbrev pub fitsBy : Option Refusal → Bool → Bool
+fitsBy none room = room
+fitsBy (some x) room = not (ours (numberOf x))
+
 abbrev pub fits : Text → WireAssignment → Bool
-fits parent a = isSome (firstRefusal parent [] (a .segments)) || leb (sizeAssignment (consumerAssignment a)) slotSize
+fits parent a = fitsBy (firstRefusal parent [] (a .segments)) (leb (sizeAssignment (consumerAssignment a)) slotSize)
 
 abbrev pub isTaken : Checked → Bool
 isTaken checked.Valid = true

@@ -1,4 +1,5 @@
--- Laws of the verdict on a segment, one for each way through its tests: the name (12, 13), the buckets (10, 11), the range (9).
+-- Laws of the verdict on a segment, one for each way through its tests: the name (12, 13), the buckets inside the range (34), the buckets
+-- (10, 11), the range (9).
 --
 -- What a test has said stands as an equation; the segment's numbers and buckets are those of the walk over it (`SegmentIs`, `ScanOf`).
 -- Assumes nothing.
@@ -19,7 +20,7 @@ use Rattle.types.specs.declared.RangeResult.the-variants.{Valid, Invalid}
 use Rattle.types.specs.KeyRanges.{keyRange, newKeyRange}
 use Rattle.refusal.specs.declared.Refusal.{Refusal}
 use Rattle.refusal.specs.declared.Refusal.the-variants.{InvalidRange, InvalidBucketRange, OverlappingBucketRanges}
-use Rattle.refusal.specs.declared.Refusal.the-variants.{InvalidParent, AttachmentMismatch}
+use Rattle.refusal.specs.declared.Refusal.the-variants.{InvalidParent, AttachmentMismatch, BucketOutsideSegment}
 use Rattle.ranges.specs.Overlap.{anyOverlap}
 use Rattle.parents.specs.Parents.{isParent}
 use Rattle.topic.specs.Names.{segmentTopic}
@@ -27,7 +28,10 @@ use Rattle.keyed.specs.Keyed.{orElse}
 use Rattle.readers.specs.declared.SegmentHead.{SegmentHead}
 use Rattle.readers.specs.Messages.{segmentOf}
 use Rattle.readers.specs.Places.{SegmentIs}
-use Rattle.content.specs.Content.{wireId, bucketFault, bucketsOf, overlapFault, nameFault, segmentFault}
+use Rattle.content.specs.declared.Outside.{Outside}
+use Rattle.content.specs.declared.Outside.the-variants.{At, Nothing}
+use Rattle.content.specs.Content.{wireId, bucketFault, bucketsOf, overlapFault, firstOutside, outsideOf, outsideFault, nameFault, segmentFault}
+use Rattle.content.proofs.OutsideLaws.{place-found, place-none}
 use Rattle.segment_scan.specs.declared.SegmentScan.{SegmentScan}
 use Rattle.segment_scan.proofs.RunLaws.{run-bad, run-good, run-rising}
 use Rattle.bucket_rows.specs.Rows.{bucketsFrom}
@@ -65,17 +69,38 @@ module _ (parent : List ℕ) {p : List ℕ} {head : SegmentHead} (S : SegmentIs 
     pub name-other : t ≡ false → Refused (AttachmentMismatch (idOf head)) ≡ verdictOf (nameFault parent (segmentOf p))
     name-other y = sym (ap verdictOf opened ∙ rw y)
 
--- ---- the buckets, then the name
+-- ---- the buckets inside the range, then the name
 
 buckets-are : (p : List ℕ) → bucketsOf (segmentOf p) ≡ bucketsFrom p 0
 unfolding segmentOf
 buckets-are p = refl
 
+-- what is left of the tests behind 11
+abbrev pub insideFault : List ℕ → List ℕ → Option Refusal
+insideFault parent p = orElse (outsideFault (segmentOf p)) (nameFault parent (segmentOf p))
+
+module _ (parent : List ℕ) {p : List ℕ} {head : SegmentHead} (S : SegmentIs p head) {r : Outside}
+    (said : r ≡ outsideOf (firstOutside (keyRange (head .«hash_start») (head .«hash_end»)) 0 (bucketsFrom p 0))) where
+  -- the place that the walk found, in the segment's terms
+  abbrev place : Option ℕ
+  place = firstOutside (keyRange (segmentOf p .hashStart) (segmentOf p .hashEnd)) 0 (bucketsOf (segmentOf p))
+
+  place-is : r ≡ outsideOf place
+  place-is = rw (← S .start, ← S .end, buckets-are p) said
+
+  pub outside-found : {i : ℕ} → r ≡ At i → Refused (BucketOutsideSegment (idOf head) i) ≡ verdictOf (insideFault parent p)
+  outside-found {i} e = rw (place-found place i (sym e ∙ place-is), S .id)
+
+  pub outside-none : r ≡ Nothing → {v : Verdict} → v ≡ verdictOf (nameFault parent (segmentOf p)) → v ≡ verdictOf (insideFault parent p)
+  outside-none e f = rw (place-none place (sym e ∙ place-is)) f
+
+-- ---- the buckets, then the others
+
 -- what is left of the tests behind the range
 abbrev pub bucketsFault : List ℕ → List ℕ → Option Refusal
 bucketsFault parent p =
     let w = segmentOf p in
-    orElse (bucketFault (wireId w) 0 (w .bucketRanges)) (orElse (overlapFault w) (nameFault parent w))
+    orElse (bucketFault (wireId w) 0 (w .bucketRanges)) (orElse (overlapFault w) (insideFault parent p))
 
 module _ (parent : List ℕ) {p : List ℕ} {scan : SegmentScan} (S : ScanOf p scan) where
   pub bucket-bad : scan .run .good ≡ false
@@ -90,16 +115,16 @@ module _ (parent : List ℕ) {p : List ℕ} {scan : SegmentScan} (S : ScanOf p s
     good = run-good (segmentOf p .bucketRanges) (rw (S .run) at g)
 
     -- no two share a value
-    apart : anyOverlap (bucketsOf (segmentOf p)) ≡ false → {r : Verdict} → r ≡ verdictOf (nameFault parent (segmentOf p))
+    apart : anyOverlap (bucketsOf (segmentOf p)) ≡ false → {r : Verdict} → r ≡ verdictOf (insideFault parent p)
         → r ≡ verdictOf (bucketsFault parent p)
     apart a e = rw (good (wireId (segmentOf p)), a) e
 
-    pub buckets-rise : scan .run .rising ≡ true → {r : Verdict} → r ≡ verdictOf (nameFault parent (segmentOf p))
+    pub buckets-rise : scan .run .rising ≡ true → {r : Verdict} → r ≡ verdictOf (insideFault parent p)
         → r ≡ verdictOf (bucketsFault parent p)
     buckets-rise h e = apart (run-rising (segmentOf p .bucketRanges) (rw (S .run) at g) (rw (S .run) at h)) e
 
     module _ {t : Bool} (said : t ≡ anyOverlap (bucketsFrom p 0)) where
-      pub buckets-apart : t ≡ false → {r : Verdict} → r ≡ verdictOf (nameFault parent (segmentOf p)) → r ≡ verdictOf (bucketsFault parent p)
+      pub buckets-apart : t ≡ false → {r : Verdict} → r ≡ verdictOf (insideFault parent p) → r ≡ verdictOf (bucketsFault parent p)
       buckets-apart y e = apart (ap anyOverlap (buckets-are p) ∙ sym said ∙ y) e
 
       pub buckets-overlap : t ≡ true → Refused (OverlappingBucketRanges (idOf (scan .head))) ≡ verdictOf (bucketsFault parent p)

@@ -1,4 +1,4 @@
-// The tests of one segment of a message, 9 to 13: `AssignedSegment::try_from_pb`.
+// The tests of one segment of a message, 9 to 11, 34, 12, 13: `AssignedSegment::try_from_pb`.
 //
 // The segment comes with the walk over it (segment_scan), which has tested its buckets one by one; `good` says that the parent is one.
 ghost use mathlib.Core.Path.{_≡_};
@@ -6,8 +6,9 @@ ghost use Rattle.parents.specs.Parents.{isParent};
 ghost use Rattle.keyed.specs.Keyed.{orElse};
 ghost use Rattle.readers.specs.Messages.{segmentOf};
 ghost use Rattle.readers.specs.Places.{SegmentIs};
-ghost use Rattle.content.specs.Content.{wireId, bucketFault, overlapFault, nameFault, segmentFault};
+ghost use Rattle.content.specs.Content.{wireId, bucketFault, overlapFault, outsideFault, nameFault, segmentFault};
 ghost use Rattle.segment_check.specs.Verdicts.{verdictOf, ScanOf};
+use content::Outside;
 use readers::SegmentHead;
 use refusal::Refusal;
 use segment_scan::SegmentScan;
@@ -43,12 +44,32 @@ fn check_name(p: &[u8], parent: &[u8], good: bool, head: SegmentHead) -> Verdict
     }
 }
 
-// Each bucket (10), then all of them (11), unless they rise; then the name.
+// Each bucket against the segment's range (34), then the name.
+fn check_inside(p: &[u8], parent: &[u8], good: bool, head: SegmentHead) -> Verdict
+    requires { ⌜ good ≡ isParent (now parent) ⌝ }
+    requires { ⌜ SegmentIs (now p) head ⌝ }
+    ensures { λ r. ⌜ r ≡ verdictOf (orElse (outsideFault (segmentOf (now (p .entry)))) (nameFault (now (parent .entry)) (segmentOf (now (p .entry))))) ⌝ }
+{
+    let range = KeyRange {
+        start: head.hash_start,
+        end: head.hash_end,
+    };
+    match bucket_rows::first_outside(p, range) {
+        Outside::At(index) => {
+            let segment_id = SegmentId(head.segment_id);
+            Verdict::Refused(Refusal::BucketOutsideSegment { segment_id, index })
+        }
+        Outside::Nothing => check_name(p, parent, good, head),
+    }
+}
+
+// Each bucket (10), then all of them (11), unless they rise; then the segment's range (34) and the name.
 fn check_buckets(p: &[u8], parent: &[u8], good: bool, scan: SegmentScan) -> Verdict
     requires { ⌜ good ≡ isParent (now parent) ⌝ }
     requires { ⌜ ScanOf (now p) scan ⌝ }
     ensures { λ r. ⌜ r ≡ verdictOf (orElse (bucketFault (wireId (segmentOf (now (p .entry)))) 0 (segmentOf (now (p .entry)) .bucketRanges))
-        (orElse (overlapFault (segmentOf (now (p .entry)))) (nameFault (now (parent .entry)) (segmentOf (now (p .entry)))))) ⌝ }
+        (orElse (overlapFault (segmentOf (now (p .entry))))
+        (orElse (outsideFault (segmentOf (now (p .entry)))) (nameFault (now (parent .entry)) (segmentOf (now (p .entry))))))) ⌝ }
 {
     let head = scan.head;
     let run = scan.run;
@@ -63,12 +84,12 @@ fn check_buckets(p: &[u8], parent: &[u8], good: bool, scan: SegmentScan) -> Verd
         });
     }
     if run.rising {
-        return check_name(p, parent, good, head);
+        return check_inside(p, parent, good, head);
     }
     if bucket_rows::buckets_overlap(p) {
         return Verdict::Refused(Refusal::OverlappingBucketRanges { segment_id });
     }
-    check_name(p, parent, good, head)
+    check_inside(p, parent, good, head)
 }
 
 // The segment in the part p: its range (9), then buckets and name.

@@ -2,7 +2,7 @@
 --
 -- "an assignment outranks an error code. The queue is replayed over the baseline; one stale push refuses the whole response. Then baseline, last list and floor are
 -- set, the queue stays to be drained from position 0. For a registered session the queue counts as empty, and acceptance empties it."
--- Refused in order: 1, 22, 3 to 7, 23, 16 or 17, 9 to 15, 26, 27.
+-- Refused in order: 1, 22, 3 to 7, 23, 16 or 17, 9 to 11, 34, 12 to 15, 26, 27.
 -- Assumes nothing.
 use Prim.Native.Nat.{ℕ}
 use mathlib.Core.Bool.{true, cond, not}
@@ -70,7 +70,7 @@ responseAssignment s baseline =
     (unless (staleFault baseline (replayable s)) s
     (register s baseline (lastList baseline (replayable s))))
 
--- 9 to 15
+-- 9 to 11, 34, 12 to 15
 unfoldable pub responseContent : Session → Content → Result
 responseContent s (refused x) = refuse x s
 responseContent s (taken baseline) = responseAssignment s baseline

@@ -1,7 +1,7 @@
 -- Update: `handle_assignment_update_for`.
 --
 -- "unregistered, it joins the queue and answers none. Registered, a list equal in every field answers none; any other list with epoch not below is held, raises the
--- floor, and answers the delta." Refused in order: 1, 2, 22, 3 to 7, 23, 24, 9 to 15, then 26, 28 or 27.
+-- floor, and answers the delta." Refused in order: 1, 2, 22, 3 to 7, 23, 24, 9 to 11, 34, 12 to 15, then 26, 28 or 27.
 -- Assumes nothing.
 use Prim.Native.Nat.{ℕ, _+_}
 use mathlib.Core.Bool.{cond, not}
@@ -82,7 +82,7 @@ updateRegistered s a =
     (cond (ltb (a .layoutEpoch) (s .list .layoutEpoch)) (refuse (StaleEpoch (a .layoutEpoch) (s .list .layoutEpoch)) s)
     (hold s a))
 
--- 9 to 15
+-- 9 to 11, 34, 12 to 15
 unfoldable pub updateContent : Session → Content → Result
 updateContent s (refused x) = refuse x s
 updateContent s (taken a) = cond (s .state .registered) (updateRegistered s a) (updateUnregistered s a)

@@ -169,7 +169,7 @@ fn take_response(store: &[u8], message: &[u8], b: &mut [u8]) -> Intake
     Intake::Refused(denial(error, head.request_id))
 }
 
-// A valid response, whose assignment is in the buffer, or that is refused. Refused in order: 23, 16 or 17 or 9 to 15, 26, 27.
+// A valid response, whose assignment is in the buffer, or that is refused. Refused in order: 23, 16 or 17 or 9 to 11, 34, 12 to 15, 26, 27.
 fn answered(
     r: SessionRecord,
     store: &mut [u8],
@@ -221,7 +221,7 @@ fn scanned(
     }
 }
 
-// The response. Refused in order: 1, 22, 3 to 7, 23, 16 or 17, 9 to 15, 26, 27. The broker's text of a 16 is `broker_text`.
+// The response. Refused in order: 1, 22, 3 to 7, 23, 16 or 17, 9 to 11, 34, 12 to 15, 26, 27. The broker's text of a 16 is `broker_text`.
 pub fn responded(
     r: SessionRecord,
     store: &mut [u8],

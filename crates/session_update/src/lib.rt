@@ -88,7 +88,7 @@ fn held(r: SessionRecord, store: &mut [u8], b: &[u8], n: usize, out: &mut [u8]) 
     }
 }
 
-// A valid update of a consumer, whose assignment the intake took into the buffer, or refused. Refused in order: 23, 24, 9 to 15, then 26, 28 or 27.
+// A valid update of a consumer, whose assignment the intake took into the buffer, or refused. Refused in order: 23, 24, 9 to 11, 34, 12 to 15, then 26, 28 or 27.
 fn addressed(
     r: SessionRecord,
     store: &mut [u8],
@@ -161,7 +161,7 @@ fn scanned(
     }
 }
 
-// The update. Refused in order: 1, 2, 22, 3 to 7, 23, 24, 9 to 15, then 26, 28 or 27.
+// The update. Refused in order: 1, 2, 22, 3 to 7, 23, 24, 9 to 11, 34, 12 to 15, then 26, 28 or 27.
 pub fn updated(
     r: SessionRecord,
     store: &mut [u8],

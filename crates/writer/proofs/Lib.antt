@@ -1,4 +1,6 @@
 mod SizeLaws
 mod WritingLaws
 mod FieldLaws
+mod OutsideLaws
 mod OutcomeLaws
+pub mod WrittenReads

@@ -10,6 +10,7 @@ use native.Mathlib.Omega.{arith}
 use mathlib.Core.Path.{_≡_, refl, sym, ap, _∙_}
 use mathlib.Core.Bool.{Bool, true, false, cond}
 use mathlib.Core.List.{List, [], _∷_, _++_}
+use mathlib.Core.Option.{Option, some, none}
 use lib.ListN.{length, drop, length-append}
 use lib.Dec.{leb}
 use borrow.Author.Tests.{le-leb, lt-leb, leb-true, leb-false}
@@ -29,7 +30,9 @@ use Rattle.packed.specs.Answers.{wholeRead}
 use Rattle.packed.specs.Assignment.{AssignedSegment, num, segmentsOf, assignmentOf}
 use Rattle.packed.proofs.WholeLaws.{Whole, not-assignment}
 use Rattle.assignment_message.specs.Message.{segmentFields, assignmentMessage}
-use Rattle.writer.specs.Write.{withParent, writeOutcome, roomOf}
+use Rattle.content.specs.Content.{outsideIn}
+use Rattle.writer.specs.declared.Held.the-variants as held
+use Rattle.writer.specs.Write.{withParent, writeOutcome, heldOf, roomOf}
 use Rattle.writer.specs.declared.Room.the-variants.{Size, Beyond}
 
 -- ---- a name that fits into o
@@ -129,18 +132,38 @@ module _ (s parent o : List ℕ) where
   module _ (n : ℕ) (w : Whole s n) where
     -- without a segment the parent is not looked at
     pub write-empty : n ≡ 0 → written (numberField 1 (num 8 s) ++ segmentFields parent (segmentsOf 0 (drop 10 s))) o ≡ writeOutcome s parent o
-    unfolding writeOutcome assignmentMessage segmentFields segmentsOf assignmentOf
+    unfolding writeOutcome assignmentMessage segmentFields segmentsOf assignmentOf outsideIn
     write-empty e =
-        let none : assignmentOf s .segments ≡ [] = w .segments-are ∙ ap (λ (k : ℕ). segmentsOf k (drop 10 s)) e in
-        simp (w .is-assignment, none)
+        let empty : assignmentOf s .segments ≡ [] = w .segments-are ∙ ap (λ (k : ℕ). segmentsOf k (drop 10 s)) e in
+        simp (w .is-assignment, empty)
 
-    module _ (h : 0 < n) where
+    outside-is : outsideIn (assignmentOf s .segments) ≡ outsideIn (segmentsOf n (drop 10 s))
+    outside-is = ap outsideIn (w .segments-are)
+
+    pub write-outside : (x : Refusal) → held.Refused x ≡ heldOf (outsideIn (segmentsOf n (drop 10 s))) → refuse x o ≡ writeOutcome s parent o
+    unfolding writeOutcome
+    write-outside x e =
+        let q : outsideIn (assignmentOf s .segments) ≡ some x = outside-is ∙ found (outsideIn (segmentsOf n (drop 10 s))) e in
+        sym (rw (w .is-assignment, q))
+      where
+        found : (v : Option Refusal) → held.Refused x ≡ heldOf v → v ≡ some x
+        found none f = cc
+        found (some y) f = cc
+
+    module _ (h : 0 < n) (i : held.Inside ≡ heldOf (outsideIn (segmentsOf n (drop 10 s)))) where
+      none-outside : outsideIn (assignmentOf s .segments) ≡ none
+      none-outside = outside-is ∙ go (outsideIn (segmentsOf n (drop 10 s))) i
+        where
+          go : (v : Option Refusal) → held.Inside ≡ heldOf v → v ≡ none
+          go none f = refl
+          go (some y) f = cc
+
       behind : writeOutcome s parent o
           ≡ cond (isUtf8 parent)
           (cond (isParent parent) (written (assignmentMessage (pathOf parent) (assignmentOf s)) o) (refuse InvalidParent o))
           (refuse InvalidUtf8 o)
       unfolding writeOutcome
-      behind = rw (w .is-assignment) (with-parent parent (assignmentOf s .segments) _ o (omega (arith, w .count)))
+      behind = rw (w .is-assignment, none-outside) (with-parent parent (assignmentOf s .segments) _ o (omega (arith, w .count)))
 
       pub write-not-utf8 : isUtf8 parent ≡ false → refuse InvalidUtf8 o ≡ writeOutcome s parent o
       write-not-utf8 u = sym (behind ∙ rw u)

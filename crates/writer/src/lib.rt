@@ -13,7 +13,9 @@ ghost use Rattle.packed.specs.Assignment.{num, rangesOf, segmentOf, segmentsOf,
 ghost use Rattle.packed.proofs.AssignmentLaws.{Rest};
 ghost use Rattle.wire_writer.specs.Encode.{numberField};
 ghost use Rattle.assignment_message.specs.Message.{rangeMessage, bucketFields, segmentMessage, segmentFields};
-ghost use Rattle.writer.specs.Write.{roomOf, writeOutcome};
+ghost use Rattle.content.specs.Content.{firstOutside, outsideIn, outsideOf};
+ghost use Rattle.writer.specs.Write.{outsideAt, heldOf, roomOf, writeOutcome};
+use content::Outside;
 use output::WriteAnswer;
 use packed::Packed;
 use refusal::Refusal;
@@ -26,6 +28,62 @@ enum Room {
     Size(usize),
     // More than the limit.
     Beyond,
+}
+
+// Whether every bucket lies wholly inside its segment's range.
+enum Held {
+    Inside,
+    // 34, of the first that does not.
+    Refused(Refusal),
+}
+
+// The first of the n buckets from a place on that lies not wholly inside the range.
+fn bucket_outside(s: &[u8], at: usize, n: usize, range: KeyRange) -> Outside
+    requires { ⌜ at + 4 * n ≤ length (now s) ⌝ }
+    ensures { λ r. ⌜ r ≡ outsideOf (firstOutside range 0 (rangesOf n (drop at (now (s .entry))))) ⌝ }
+{
+    let mut index: usize = 0;
+    let mut p = at;
+    while index < n {
+        let bucket = packed::range_at(s, p);
+        if bucket.start < range.start {
+            return Outside::At(index);
+        }
+        if range.end < bucket.end {
+            return Outside::At(index);
+        }
+        p = p + 4;
+        index = index + 1;
+    }
+    Outside::Nothing
+}
+
+// The same of the segment whose record stands at the place p.
+fn segment_outside(s: &[u8], p: usize) -> Outside
+    requires { ⌜ p + sizeSegment (segmentOf (drop p (now s))) ≤ length (now s) ⌝ }
+    ensures { λ r. ⌜ r ≡ outsideAt (segmentOf (drop p (now (s .entry)))) ⌝ }
+{
+    let range = packed::range_at(s, p + 8);
+    let count = packed_int::read_u16(s, p + 12) as usize;
+    bucket_outside(s, p + 14, count, range)
+}
+
+// The same of the m segments from a place on, the lowest id first.
+fn segments_outside(s: &[u8], at: usize, m: usize) -> Held
+    requires { ⌜ Rest (now s) at m ⌝ }
+    ensures { λ r. ⌜ r ≡ heldOf (outsideIn (segmentsOf m (drop at (now (s .entry))))) ⌝ }
+{
+    let mut p = at;
+    let mut left = m;
+    while 0 < left {
+        if let Outside::At(index) = segment_outside(s, p) {
+            let segment_id = SegmentId(records::id_at(s, p));
+            return Held::Refused(Refusal::BucketOutsideSegment { segment_id, index });
+        }
+        p = p + records::size_at(s, p);
+        left = left - 1;
+    }
+    Held::Inside
 }
 
 // How many digits v has in decimal.
@@ -199,8 +257,8 @@ fn write_message(s: &[u8], m: usize, path: &[u8], out: &mut [u8]) -> WriteAnswer
     WriteAnswer::Written(head + size)
 }
 
-// Writes the packed assignment, whose segments lie below the parent, as a message. Tested in order: the lent form (20), where it has a segment the parent's UTF-8 (7) and
-// form (12), the room (21). A refusal leaves the output as it was.
+// Writes the packed assignment, whose segments lie below the parent, as a message. Tested in order: the lent form (20), each bucket inside its
+// segment's range (34), where it has a segment the parent's UTF-8 (7) and form (12), the room (21). A refusal leaves the output as it was.
 pub fn to_pb(assignment: &[u8], parent: &[u8], out: &mut [u8]) -> WriteAnswer
     ensures { λ r. ⌜ outcome r (now (out .exit)) ≡ writeOutcome (now (assignment .entry)) (now (parent .entry)) (now (out .entry)) ⌝ }
 {
@@ -209,6 +267,9 @@ pub fn to_pb(assignment: &[u8], parent: &[u8], out: &mut [u8]) -> WriteAnswer
     };
     if count == 0 {
         return write_message(assignment, 0, parent, out);
+    }
+    if let Held::Refused(x) = segments_outside(assignment, 10, count) {
+        return WriteAnswer::Refused(x);
     }
     if !utf8::is_utf8(parent) {
         return WriteAnswer::Refused(Refusal::InvalidUtf8);

@@ -3,21 +3,29 @@ use Prim.Native.Nat.{_<_}
 use native.Mathlib.Omega.{arith}
 use mathlib.Core.Path.{_≡_, sym, _∙_, subst}
 use mathlib.Core.Bool.{true}
+use lib.ListN.{drop}
 use borrow.Author.Needs.{needs}
 use borrow.Author.Tests.{not-true, not-false}
 use Rattle.parts.proofs.PartLaws.{rest}
 use Rattle.utf8.specs.Table.{isUtf8}
 use Rattle.parents.specs.Parents.{isParent}
 use Rattle.parents.proofs.PathLaws.{parent-long}
+use Rattle.packed.specs.Assignment.{segmentsOf}
 use Rattle.packed.proofs.AssignmentLaws.{Rest}
 use Rattle.packed.proofs.WholeLaws.{Whole, whole-read}
-use Rattle.writer.proofs.OutcomeLaws.{write-malformed, write-empty, write-not-utf8, write-no-parent, write-below}
+use Rattle.content.specs.Content.{outsideIn}
+use Rattle.writer.specs.declared.Held.the-variants as held
+use Rattle.writer.specs.Write.{heldOf}
+use Rattle.writer.proofs.OutcomeLaws.{write-malformed, write-empty, write-outside, write-not-utf8, write-no-parent, write-below}
 use Rattle.writer.proofs.to_pb.Statement.{statement}
 use Rattle.writer.proofs.to_pb.Tie as tie
 
 -- where the packed assignment was read, from the tests behind it
+abbrev from-inside : tie.After-enum-told2 → tie.Else1
+from-inside c = c .before .before .before
+
 abbrev from-text : tie.Else2 → tie.After-known-told
-from-text c = c .before .before .before
+from-text c = from-inside (c .before .before) .before
 
 abbrev from-parent : tie.Else3 → tie.After-known-told
 from-parent c = from-text (c .before .before)
@@ -30,6 +38,12 @@ whole c = whole-read _ _ _ (sym (c .before .count .given .1) ∙ c .before .befo
 
 some : (c : tie.Else1) → 0 < c .before .before .count .given .0 .1 .0
 some c = let ne : c .before .before .count .given .0 .1 .0 ≡ 0 → ⊥ = c .if1 .left in omega arith
+
+-- past the test of the buckets, none lies outside
+all-inside : (c : tie.After-enum-told2)
+    → held.Inside ≡ heldOf (outsideIn (segmentsOf (from-inside c .before .before .count .given .0 .1 .0)
+    (drop 10 (entry (from-inside c .before) .args .assignment .now))))
+all-inside c = sym (c .enum-told2 .given .1) ∙ c .before .before .segments-outside .ensures
 
 is-text : (c : tie.Else2) → isUtf8 (entry (from-text c) .args .parent .now) ≡ true
 is-text c = sym (c .before .is-utf8 .ensures) ∙ not-false _ (c .if2 .left)
@@ -68,27 +82,45 @@ returns-2 c =
     let a = entry k .args in
     w .write-message .ensures ∙ write-empty (a .assignment .now) (a .parent .now) (a .out .now) _ (whole k) (w .before .before .if1 .taken)
 
-is-utf8-requires : tie.Need-is-utf8-requires
-is-utf8-requires c κs = search needs
+segments-outside-requires : tie.Need-segments-outside-requires
+segments-outside-requires c κs = whole (c .before) .records
+
+enum-known-x : tie.Need-enum-known-x
+enum-known-x c = search needs
 
 returns-3 : tie.Need-returns-3
 returns-3 c =
-    let e = c .before .before in
+    let q = c .before .before .before in
+    let k = q .before .before in
+    let a = entry k .args in
+    write-outside (a .assignment .now) (a .parent .now) (a .out .now) _ (whole k) _ (sym (c .before .x .given .1) ∙ q .segments-outside .ensures)
+
+enum-told-2 : tie.Need-enum-told-2
+enum-told-2 c = search needs
+
+is-utf8-requires : tie.Need-is-utf8-requires
+is-utf8-requires c κs = search needs
+
+returns-4 : tie.Need-returns-4
+returns-4 c =
+    let i = c .before .before in
+    let e = from-inside i in
     let k = e .before in
     let a = entry k .args in
-    write-not-utf8 (a .assignment .now) (a .parent .now) (a .out .now) _ (whole k) (some e)
+    write-not-utf8 (a .assignment .now) (a .parent .now) (a .out .now) _ (whole k) (some e) (all-inside i)
     (sym (c .before .is-utf8 .ensures) ∙ not-true _ (c .if2 .taken))
 
 is-parent-requires : tie.Need-is-parent-requires
 is-parent-requires c κs = search needs
 
-returns-4 : tie.Need-returns-4
-returns-4 c =
+returns-5 : tie.Need-returns-5
+returns-5 c =
     let t = c .before .before in
-    let e = t .before .before in
+    let i = t .before .before in
+    let e = from-inside i in
     let k = e .before in
     let a = entry k .args in
-    write-no-parent (a .assignment .now) (a .parent .now) (a .out .now) _ (whole k) (some e) (is-text t)
+    write-no-parent (a .assignment .now) (a .parent .now) (a .out .now) _ (whole k) (some e) (all-inside i) (is-text t)
     (sym (c .before .is-parent .ensures) ∙ not-true _ (c .if3 .taken))
 
 sub-write-message : tie.Need-sub-write-message
@@ -106,15 +138,16 @@ write-message-requires-2 c κs = whole (from-parent (c .before .before)) .record
 same-length-2 : tie.Need-same-length-2
 same-length-2 c = search needs
 
-returns-5 : tie.Need-returns-5
-returns-5 c =
+returns-6 : tie.Need-returns-6
+returns-6 c =
     let w = c .before .before in
     let b = w .before .before .before in
     let t = b .before .before in
     let k = from-text t in
     let a = entry k .args in
     (rw (rest (a .parent .now) 8) at (w .write-message2 .ensures))
-    ∙ write-below (a .assignment .now) (a .parent .now) (a .out .now) _ (whole k) (some (t .before .before)) (is-text t) (is-below b)
+    ∙ write-below (a .assignment .now) (a .parent .now) (a .out .now) _ (whole k) (some (from-inside (t .before .before)))
+    (all-inside (t .before .before)) (is-text t) (is-below b)
 
 pub to-pb-spec : {M : Type 1} → statement M
 to-pb-spec =
@@ -127,13 +160,17 @@ to-pb-spec =
     write-message-requires
     same-length
     returns-2
-    is-utf8-requires
+    segments-outside-requires
+    enum-known-x
     returns-3
-    is-parent-requires
+    enum-told-2
+    is-utf8-requires
     returns-4
+    is-parent-requires
+    returns-5
     sub-write-message
     part-write-message-start
     part-write-message-end
     write-message-requires-2
     same-length-2
-    returns-5)
+    returns-6)
