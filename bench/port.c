@@ -3,10 +3,12 @@
 //   port update FIRST SECOND REGISTERED QUEUED TIMES    updates by two messages in turn
 //   port reconnect FIRST SECOND RESPONSE QUEUED TIMES   a new link, QUEUED updates that wait, the response, drains until none is left
 //   port watch SET FIRST SECOND TIMES                   updates of a watch by two messages in turn
+//   port queue push|response|first|last FIRST SECOND RESPONSE QUEUED TIMES   one call over QUEUED updates that wait: an update more, the response,
+//                                                       the first drain or the last
 //   port stack update|response|drain|watch ..           the deepest stack of one such call; the words are those of update, reconnect or watch
 //
 // An update's session is registered (1) with no segments, or not (0), and QUEUED pushes of FIRST stand in its queue, all drained: one is made, the others
-// are copies of its slot. A watch's set is made by the snapshot SET. An update by SECOND comes before those that are counted.
+// are copies of it. A watch's set is made by the snapshot SET. An update by SECOND comes before those that are counted.
 // Prints how many calls were refused, then how many segments, or topics, the last change lost and gained, or added and removed.
 #include <pthread.h>
 #include <stdio.h>
@@ -23,7 +25,7 @@ typedef struct {
 } message;
 
 static message messages[3];
-static uint8_t store[CUDDREWYN_FULL_STORE], set[ROOM], out[ROOM];
+static uint8_t store[CUDDREWYN_MAX_STORE], set[ROOM], out[ROOM];
 static size_t used, written;
 static cuddrewyn_record record;
 static int refused;
@@ -68,7 +70,9 @@ static const message EMPTY = {{0x08, 0x01, 0x22, 0x02, 0x08, 0x00}, 6};
 static void prepare_updates(bool registered, size_t queued) {
     open_session();
     if (queued) update(&messages[0]);
-    for (size_t slot = 4; slot < 3 + queued; slot++) memcpy(store + CUDDREWYN_SLOT * slot, store + CUDDREWYN_SLOT * 3, CUDDREWYN_SLOT);
+    uint8_t *queue = store + CUDDREWYN_QUEUE;
+    size_t entry = CUDDREWYN_QUEUE_LENGTH + ((size_t)queue[0] << 8 | queue[1]);
+    for (size_t push = 1; push < queued; push++) memcpy(queue + entry * push, queue, entry);
     record.queue_count = queued;
     if (registered) {
         respond(&EMPTY);
@@ -98,6 +102,22 @@ static void reconnects(size_t queued, int times) {
         respond(&messages[2]);
         while (drain()) {
         }
+    }
+}
+
+// One call, from the same record each time.
+static void queue_calls(const char *call, size_t queued, int times) {
+    bool push = !strcmp(call, "push"), response = !strcmp(call, "response");
+    open_session();
+    queue_updates(queued);
+    if (!push && !response) respond(&messages[2]);
+    if (!strcmp(call, "last")) record.drain_position = queued - 1;
+    cuddrewyn_record before = record;
+    for (int turn = 0; turn < times; turn++) {
+        record = before;
+        if (push) update(&messages[queued % 2]);
+        else if (response) respond(&messages[2]);
+        else drain();
     }
 }
 
@@ -154,9 +174,9 @@ static size_t deepest(const char *call, size_t queued) {
 }
 
 int main(int count, char **words) {
-    bool stack = count > 1 && !strcmp(words[1], "stack");
-    char **word = words + 1 + stack;
-    if (count < 6 + stack) return 2;
+    bool stack = count > 1 && !strcmp(words[1], "stack"), queue = count > 1 && !strcmp(words[1], "queue");
+    char **word = words + 1 + (stack || queue);
+    if (count < 6 + (stack || queue)) return 2;
     bool is_update = !strcmp(word[0], "update"), is_watch = !strcmp(word[0], "watch");
     for (int which = 0; which < (is_update ? 2 : 3); which++) read_message(&messages[which], word[1 + which]);
     int times = atoi(words[count - 1]);
@@ -164,6 +184,9 @@ int main(int count, char **words) {
     if (stack) {
         size_t idle = stack_of(nothing, NULL), bytes = deepest(word[0], queued) - idle;
         printf("%d %zu\n", refused, bytes);
+    } else if (queue) {
+        queue_calls(word[0], queued, times);
+        print_delta();
     } else if (is_watch) {
         prepare_watch();
         for (int turn = 0; turn < times; turn++) watch(&messages[1 + turn % 2]);

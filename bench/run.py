@@ -1,6 +1,6 @@
 #!/usr/bin/env python3
 """Measures the port beside the Rust and prints the tables of docs/BENCHMARKS.md; with --write they replace those in the file. A table's mark as a word (update,
-reconnect, scan, intake, plain, text, watch, keys, logs, memory, sizes) makes that one alone.
+reconnect, queue, scan, intake, plain, text, watch, keys, logs, memory, sizes) makes that one alone.
 
 Instructions are counted by callgrind: a run of some turns less a run of none, by their number. Times are the shortest of five runs of many turns less the shortest of
 five of none. The heap is what valgrind finds. It needs rt, gcc and valgrind. The Rust's side is measured where CUDDREWYN_RUST names the folder of the Rust's sources
@@ -29,6 +29,8 @@ MESSAGES = {
     "c": "one segment, 506 buckets that rise",
     "s": "the same, buckets falling",
 }
+# The bytes of their packed lists.
+PACKED = {"a": 10 + 4 * 14, "b": 10 + 145 * 14, "c": 10 + 14 + 506 * 4}
 TEXTS = {
     "ascii": "plain bytes alone (row 1)",
     "two": "sequences of two bytes (row 2)",
@@ -53,6 +55,17 @@ UPDATES = [
 ]
 # Pushes that wait for the response; turns that are counted.
 RECONNECTS = [(0, TURNS), (16, TURNS), (FULL, 1)]
+# What it is; the call; how many pushes wait; how many segments its delta loses and gains.
+QUEUES = [
+    ("a push, 16 wait", "push", 16, "0 0"),
+    ("a push, 1,023 wait", "push", FULL - 1, "0 0"),
+    ("the response, 16 wait", "response", 16, "0 0"),
+    ("the response, 1,024 wait", "response", FULL, "0 0"),
+    ("the first drain of 16", "first", 16, "0 4"),
+    ("the last drain of 16", "last", 16, "2 2"),
+    ("the first drain of 1,024", "first", FULL, "0 4"),
+    ("the last drain of 1,024", "last", FULL, "2 2"),
+]
 # Topics of a set; turns that are counted.
 SIZES = [(10, TURNS), (1000, TURNS), (20000, 2)]
 # What it is; the two messages that come in turn; how many topics each adds and removes, of n.
@@ -213,6 +226,15 @@ def reconnect_table(bench):
     return rows(["pushes that wait", *MEASURED], lines)
 
 
+def queue_table(bench):
+    """One call of the port while pushes wait, or before they are drained."""
+    lines = []
+    for what, call, queued, changed in QUEUES:
+        words = [bench.port, "queue", call, *(bench.file(name) for name in ("a", "a2", "response")), queued]
+        lines.append([what, f"{instructions(f'0 {changed}', words, TURNS):,}"])
+    return rows(["call", "port, instructions"], lines)
+
+
 def watch_table(bench):
     lines = []
     for size, turns in SIZES:
@@ -264,7 +286,7 @@ def memory_table(bench):
         words = ["update", bench.file(name), bench.file(name)]
         lines.append([f"{name}'s list held", held(*words, 1, 0, 1), f"{3 * SLOT + RECORD:,}"])
         for queued in (16, FULL):
-            lines.append([f"{queued:,} pushes of {name} that wait", held(*words, 0, queued - 1, 0), f"{(3 + queued) * SLOT + RECORD:,}"])
+            lines.append([f"{queued:,} pushes of {name} that wait", held(*words, 0, queued - 1, 0), f"{3 * SLOT + queued * (2 + PACKED[name]) + RECORD:,}"])
     return rows(["a session with", "Rust, on the heap", "port, lent"], lines)
 
 
@@ -291,7 +313,7 @@ def size_table(bench):
 
 
 TABLES = {
-    "update": update_table, "reconnect": reconnect_table, "scan": scan_table, "intake": intake_table, "plain": plain_table, "text": text_table,
+    "update": update_table, "reconnect": reconnect_table, "queue": queue_table, "scan": scan_table, "intake": intake_table, "plain": plain_table, "text": text_table,
     "watch": watch_table, "keys": key_table, "logs": log_table, "memory": memory_table, "sizes": size_table,
 }
 

@@ -8,11 +8,12 @@ each time.
 import random
 
 import logs
-from assignment_vectors import Assignment, Segment, contents, difference, number_field, part_field, taken, to_pb
+from assignment_vectors import Assignment, Segment, contents, difference, number_field, pack_assignment, part_field, taken, to_pb
 from assignment_vectors import whole_assignment
 from name_vectors import Refused
 
-SLOT = 2048
+QUEUE = 6144
+LENGTH = 2
 LATEST = 256
 CHURN = "churn"
 
@@ -83,7 +84,8 @@ class Session:
             place, self.drained = self.drained, self.drained + 1
             old, new = [self.baseline, *self.queue][place], self.queue[place]
             if new != old:
-                return f"replay at {3 * SLOT + place * SLOT} {self.changed(old, new)}"
+                before = sum(LENGTH + len(pack_assignment(earlier)) for earlier in self.queue[:place])
+                return f"replay at {QUEUE + before + LENGTH} {self.changed(old, new)}"
         return "none"
 
     def begin(self, incarnation):

@@ -17,7 +17,10 @@ extern "C" {
 /* Sizes to lend. */
 #define CUDDREWYN_SLOT 2048
 #define CUDDREWYN_MIN_STORE 6144
+/* The full size of 01: 1,024 pushes of up to 2,046 bytes fit. */
 #define CUDDREWYN_FULL_STORE 2103296
+/* 1,024 pushes fit, whatever their lists; more is never used. */
+#define CUDDREWYN_MAX_STORE 2105344
 #define CUDDREWYN_MIN_OUTPUT 3210
 /* The most bytes of a key. */
 #define CUDDREWYN_LONGEST_KEY 65535
@@ -31,9 +34,12 @@ extern "C" {
 #define CUDDREWYN_WEEK 604800
 /* The bytes of an entry of an uploader's log. */
 #define CUDDREWYN_LOG_ENTRY 9
-/* Where the baseline and the list held stand in the store. */
+/* Where the baseline and the list held stand in the store, and where the queue begins: up to the store's end the pushes that wait, each a length of
+ * 2 bytes, most significant first, and its packed list. */
 #define CUDDREWYN_BASELINE 2048
 #define CUDDREWYN_LIST 4096
+#define CUDDREWYN_QUEUE 6144
+#define CUDDREWYN_QUEUE_LENGTH 2
 
 /* Which answer a reply is. */
 enum {

@@ -11,8 +11,11 @@ static const uint8_t LIST[] = {0, 0, 0, 0, 0, 0, 0, 3, 0, 1, 0, 0, 0, 0, 0, 0, 0
 static const uint8_t DELTA[] = {0, 0, 0, 0, 0, 0, 0, 3, 0, 0, 0, 1, 0, 0, 0, 0, 0, 0, 0, 0, 0, 0, 0x7f, 0xff, 0, 0};
 static const uint8_t EMPTY_BASELINE[] = {0, 0, 0, 0, 0, 0, 0, 2, 0, 0};
 
-/* The station's memory, lent to every call: a store with room for two pushes that wait, and an output. */
-static uint8_t store[CUDDREWYN_MIN_STORE + 2 * CUDDREWYN_SLOT];
+/* Where the list of the first push that waits lies. */
+enum { PLACE = CUDDREWYN_QUEUE + CUDDREWYN_QUEUE_LENGTH };
+
+/* The station's memory, lent to every call: a store with room for two pushes that wait, whatever their lists, and an output. */
+static uint8_t store[CUDDREWYN_MIN_STORE + 2 * (CUDDREWYN_QUEUE_LENGTH + CUDDREWYN_SLOT)];
 static uint8_t out[CUDDREWYN_MIN_OUTPUT];
 
 /* Prints the answer of a call, checks reply and record, and gives the record to keep. */
@@ -51,8 +54,8 @@ static cuddrewyn_record attach(void) {
 
     expected.drain_position = 1;
     r = answered("drain", cuddrewyn_drain(r, store, sizeof store, out, sizeof out),
-                 (cuddrewyn_reply){.answer = CUDDREWYN_REPLAY, .count = 2, .first = CUDDREWYN_MIN_STORE, .second = sizeof DELTA}, expected);
-    check_bytes(store + CUDDREWYN_MIN_STORE, LIST, sizeof LIST, "the list replayed");
+                 (cuddrewyn_reply){.answer = CUDDREWYN_REPLAY, .count = 2, .first = PLACE, .second = sizeof DELTA}, expected);
+    check_bytes(store + PLACE, LIST, sizeof LIST, "the list replayed");
     check_bytes(out, DELTA, sizeof DELTA, "the delta replayed");
     return answered("drain", cuddrewyn_drain(r, store, sizeof store, out, sizeof out), (cuddrewyn_reply){.answer = CUDDREWYN_UNCHANGED},
                     expected);

@@ -30,7 +30,8 @@ PLACE(cuddrewyn_session_reply, reply, 48);
 _Static_assert(sizeof(cuddrewyn_part) == 16, "size of a part");
 PLACE(cuddrewyn_part, start, 0);
 PLACE(cuddrewyn_part, length, 8);
-_Static_assert(CUDDREWYN_FULL_STORE == CUDDREWYN_MIN_STORE + 1024 * CUDDREWYN_SLOT, "the full store");
+_Static_assert(CUDDREWYN_FULL_STORE == CUDDREWYN_QUEUE + 1024 * (CUDDREWYN_QUEUE_LENGTH + 2046), "the full store");
+_Static_assert(CUDDREWYN_MAX_STORE == CUDDREWYN_QUEUE + 1024 * (CUDDREWYN_QUEUE_LENGTH + CUDDREWYN_SLOT), "the longest store");
 
 static const uint8_t TOPIC[] = "topic://a/b/c";
 enum { TOPIC_LEN = sizeof TOPIC - 1, STORE = CUDDREWYN_MIN_STORE, OUT = CUDDREWYN_MIN_OUTPUT };
@@ -115,7 +116,7 @@ static cuddrewyn_session_reply update(cuddrewyn_record r, const message *m, uint
     return got;
 }
 
-/* A bad bucket attaches four values, two of them negative; one outside its segment's range, two; a full queue of depth 0, its depth. */
+/* A bad bucket attaches four values, two of them negative; one outside its segment's range, two; a push without room, how many are queued. */
 static void replies(void) {
     message segment = segment_of(0x0102030405060708, 0, 9, "x");
     put_bucket(&segment, 0, 1);

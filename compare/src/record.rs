@@ -3,7 +3,7 @@
 use crate::generate::{Assignment, Style, refusing_response};
 use crate::model::churn;
 use crate::model::messages;
-use crate::model::session::{SLOT, content};
+use crate::model::session::{QUEUE, content};
 use crate::oracle;
 use crate::rng::Rng;
 use crate::scalable_consumer::{
@@ -143,6 +143,12 @@ fn hex(bytes: &[u8]) -> String {
 }
 
 impl Twin {
+    /// Where the sheet of a queue entry lies: behind the entries before it, and its own length.
+    fn place(&self, at: usize) -> usize {
+        let size = |list: &ConsumerAssignment| 2 + 10 + list.segments().iter().map(|segment| 14 + 4 * segment.bucket_ranges().len()).sum::<usize>();
+        QUEUE + self.queue[..at].iter().map(size).sum::<usize>() + 2
+    }
+
     fn unlinked(&mut self) {
         self.queue.clear();
         self.waiting.clear();
@@ -197,7 +203,7 @@ impl Twin {
             Some((at, replay)) => {
                 self.drained = at + 1;
                 self.lost.push(replay.delta.lost.len() as u64);
-                let answer = format!("replay at {} {}", 3 * SLOT + SLOT * at, change(&replay.delta));
+                let answer = format!("replay at {} {}", self.place(at), change(&replay.delta));
                 pages.call("drain", "", &answer, Some(&replay.delta), self);
             }
             None => {

@@ -21,12 +21,12 @@ pub fn word(value: i32) -> u64 {
     i64::from(value) as u64
 }
 
-/// Whether a refusal is one that the Rust does not know: such a call is not fed to it. `depth` is the store's.
-pub fn is_ours(reply: &Reply, depth: usize) -> bool {
+/// Whether a refusal is one that the Rust does not know: such a call is not fed to it. A push that does not fit tells a max below 1,024.
+pub fn is_ours(reply: &Reply) -> bool {
     let number = if reply.answer == raw::REFUSED { reply.number } else { 0 };
     match number {
         1..=8 | 15 | 20..=22 | 30..=32 | 34..=38 => true,
-        28 => depth < 1024,
+        28 => reply.first < 1024,
         _ => false,
     }
 }

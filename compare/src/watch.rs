@@ -85,7 +85,7 @@ impl Bench {
         let expected = model::watch(call.watch_id, lent, call.used, call.message, call.room);
         let mut bytes = call.message.to_vec();
         let given = ours::watch(call.watch_id, &mut self.buffer[..call.length], call.used, &mut bytes, self.output.lent(call.room));
-        let fed = !is_ours(&expected.reply, 0) && !is_ours(&given, 0);
+        let fed = !is_ours(&expected.reply) && !is_ours(&given);
         let theirs = if fed { Some(rust(call.watch_id, &model::topics(lent, call.used).expect("a set"), call.message)) } else { None };
         tally.count(Call::Watch, &given, fed);
         let input = || {

@@ -168,9 +168,9 @@ pub enum AssignmentError<'m> {
         /// The highest epoch accepted.
         floor: u64,
     },
-    /// 28: the queue of pushes that wait for the response is full.
+    /// 28: the queue of pushes that wait for the response is full, or the push does not fit the store's free end.
     PreBaselineBufferFull {
-        /// How many the store can hold: its slots but three, 1,024 at most.
+        /// How many are queued: 1,024 where no more can be.
         max: usize,
     },
     /// 14: the segment's id came before in the same message.

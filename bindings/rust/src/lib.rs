@@ -89,7 +89,7 @@
 //!
 //! | what | bytes |
 //! |---|---|
-//! | store of a session | [`MIN_STORE`] at least; [`store_len`]`(n)` for n pushes that wait; [`FULL_STORE`] for the most, 1,024 |
+//! | store of a session | [`MIN_STORE`], and for each push that waits 2 and its packed list; [`store_len`]`(n)` for n pushes of any lists; [`MAX_STORE`] for the most, 1,024 |
 //! | output of updates and replays | [`MIN_OUTPUT`] at least |
 //! | output of [`apply`] | [`SLOT`] always suffices |
 //! | output of [`join`] | as many as both deltas have |
@@ -160,8 +160,11 @@ pub const SLOT: usize = 2_048;
 /// The least bytes of a store: identity, baseline and list.
 pub const MIN_STORE: usize = 3 * SLOT;
 
-/// The bytes of a store with the longest queue.
-pub const FULL_STORE: usize = store_len(MAX_BUFFERED_ASSIGNMENT_UPDATES);
+/// The full size of 01: 1,024 pushes of up to 2,046 bytes fit.
+pub const FULL_STORE: usize = 2_103_296;
+
+/// The bytes of a store in which 1,024 pushes fit, whatever their lists; more is never used.
+pub const MAX_STORE: usize = store_len(MAX_BUFFERED_ASSIGNMENT_UPDATES);
 
 /// The least bytes of an output for updates and replays: the longest delta of one change.
 pub const MIN_OUTPUT: usize = 3_210;
@@ -181,10 +184,14 @@ const BASELINE: usize = SLOT;
 /// Where the list held stands in the store.
 const LIST: usize = 2 * SLOT;
 
-/// The bytes of a store in which `pushes` can wait for the response; more than [`MAX_BUFFERED_ASSIGNMENT_UPDATES`] never can.
+/// The bytes of a queued push before its packed list: the list's length.
+const LENGTH: usize = 2;
+
+/// The bytes of a store in which `pushes` can wait for the response, whatever their lists; more than [`MAX_BUFFERED_ASSIGNMENT_UPDATES`]
+/// never can.
 #[must_use]
 pub const fn store_len(pushes: usize) -> usize {
     let most = MAX_BUFFERED_ASSIGNMENT_UPDATES;
     let pushes = if pushes < most { pushes } else { most };
-    MIN_STORE + pushes * SLOT
+    MIN_STORE + pushes * (LENGTH + SLOT)
 }

@@ -7,7 +7,7 @@ use crate::error::AssignmentError;
 use crate::raw::{self, Part, Record, SessionReply};
 use crate::types::{ControllerIncarnation, ScalableConsumerType};
 use crate::views::{AssignmentDelta, ConsumerAssignment, front, known};
-use crate::{BASELINE, LIST, SLOT};
+use crate::{BASELINE, LIST};
 
 /// A message that no reader accepts: a varint that ends early. A call that is given it tests store and record, then refuses 3.
 pub(crate) const BROKEN: &[u8] = &[0xff];
@@ -23,8 +23,8 @@ pub struct AssignmentReplay<'a> {
 
 /// A consumer's registration with the controller: what it holds, over a store that the station lends.
 ///
-/// The store needs at least [`MIN_STORE`](crate::MIN_STORE) bytes; [`store_len`](crate::store_len) says how many for a queue of a given
-/// depth. Calls that answer a delta need an output of at least [`MIN_OUTPUT`](crate::MIN_OUTPUT) bytes, whatever they answer.
+/// The store needs at least [`MIN_STORE`](crate::MIN_STORE) bytes; [`store_len`](crate::store_len) says how many so that a given number of
+/// pushes fit, whatever their lists. A push takes 2 bytes and its packed list. Calls that answer a delta need an output of at least [`MIN_OUTPUT`](crate::MIN_OUTPUT) bytes, whatever they answer.
 ///
 /// Every call is either taken whole or refused, and **a refusal leaves session, store and output as they were**.
 pub struct ScalableConsumerSession<'s> {
@@ -318,10 +318,9 @@ impl fmt::Debug for ScalableConsumerSession<'_> {
     }
 }
 
-/// The list at the front of the slot that starts at `place`.
+/// The list that starts at `place`, whatever follows it.
 fn list_at(store: &[u8], place: usize) -> Option<ConsumerAssignment<'_>> {
-    let slot = store.get(place..place.checked_add(SLOT)?)?;
-    ConsumerAssignment::at_front(slot)
+    ConsumerAssignment::at_front(store.get(place..)?)
 }
 
 /// A text of a message, which its reader found to be UTF-8; empty where it is absent.

@@ -108,10 +108,11 @@ fn row_i_a_full_queue() {
     assert_eq!(session.handle_assignment_update(ROW_A, &mut out), full);
 }
 
+/// The free end is a byte short of one more list of 24 bytes behind its length.
 #[test]
-fn row_i_at_other_depths() {
+fn row_i_without_room() {
     for pushes in [0, 1, 3] {
-        let (mut store, mut out) = (vec![0; store_len(pushes) + 100], [0; MIN_OUTPUT]);
+        let (mut store, mut out) = (vec![0; MIN_STORE + pushes * 26 + 25], [0; MIN_OUTPUT]);
         let mut session = open(&mut store);
         for _ in 0..pushes {
             assert_eq!(session.handle_assignment_update(ROW_A, &mut out), Ok(None));

@@ -1,7 +1,7 @@
 //! The session's calls: what each answers and writes, for any record, store, message and output.
 use super::delta::Delta;
 use super::messages::{WireAssignment, WireSegment};
-use super::sheet::{SHEET_MOST, Sheet, outside};
+use super::sheet::{SHEET_MOST, Sheet, Taker, outside};
 use super::{identity, messages, names};
 use crate::oracle;
 use crate::raw::{self, Record, Reply};
@@ -9,11 +9,13 @@ use crate::reply::{refused, taken, word};
 
 pub const SLOT: usize = 2048;
 pub const STORE_LEAST: usize = 3 * SLOT;
-pub const STORE_FULL: usize = (3 + DEPTH_MOST) * SLOT;
-pub const DEPTH_MOST: usize = 1024;
+pub const STORE_FULL: usize = 2_103_296;
+pub const QUEUE_MOST: usize = 1024;
 pub const OUT_LEAST: usize = 3210;
 const BASELINE: usize = SLOT;
 pub const LIST: usize = 2 * SLOT;
+/// Where the queue's entries begin, one behind the other up to the store's end (02 j).
+pub const QUEUE: usize = STORE_LEAST;
 
 /// Bytes and their place in the store.
 pub type Write = (usize, Vec<u8>);
@@ -26,13 +28,32 @@ pub struct Prediction {
     pub out: Vec<u8>,
 }
 
-/// What a slot's place in the queue is, in bytes.
-pub fn queue_place(index: usize) -> usize {
-    STORE_LEAST + SLOT * index
+/// "Sheets one after another, each behind its 16-bit length, most significant bit first".
+pub fn entry(sheet: &Sheet) -> Vec<u8> {
+    let packed = sheet.packed();
+    let length = packed.len() as u16;
+    [&length.to_be_bytes(), &packed[..]].concat()
 }
 
-pub fn depth(store_length: usize) -> usize {
-    (store_length / SLOT).saturating_sub(3).min(DEPTH_MOST)
+/// The queue in a store: each entry's sheet with the place of the sheet, and where the last entry ends.
+pub struct Queue {
+    pub entries: Vec<(usize, Sheet)>,
+    pub end: usize,
+}
+
+impl Queue {
+    /// Nothing where a length or a sheet does not read, or a sheet does not fill just its length.
+    pub fn read(store: &[u8], count: usize) -> Option<Self> {
+        let mut queue = Self { entries: Vec::new(), end: QUEUE };
+        for _ in 0..count {
+            let mut taker = Taker(store.get(queue.end..)?);
+            let length = usize::from(taker.short()?);
+            let sheet = Sheet::whole(taker.bytes(length)?)?;
+            queue.entries.push((queue.end + 2, sheet));
+            queue.end += 2 + length;
+        }
+        Some(queue)
+    }
 }
 
 pub fn fresh(consumer_id: u64, incarnation: u64) -> Record {
@@ -61,7 +82,7 @@ struct Slots<'a> {
     topic: &'a str,
     /// Baseline and list of a registered session.
     held: Option<(Sheet, Sheet)>,
-    queue: Vec<Sheet>,
+    queue: Queue,
 }
 
 /// 1 and 22, with 2 between where an output of `room` bytes is due.
@@ -75,15 +96,15 @@ fn slots<'a>(record: &Record, store: &'a [u8], room: Option<usize>) -> Result<Sl
     in_use(record, store).ok_or_else(|| refused(22, &[]))
 }
 
-/// Nothing where a slot in use is malformed, or a count beyond the depth or the queue.
+/// Nothing where a slot in use or the queue is malformed, or a count beyond 1,024 or the queue.
 fn in_use<'a>(record: &Record, store: &'a [u8]) -> Option<Slots<'a>> {
     let sheet = |place: usize| Sheet::at_front(&store[place..place + SLOT]);
     let ([topic, _, _], _) = identity::read(&store[..SLOT])?;
-    if record.queue_count > depth(store.len()) || record.drain_position > record.queue_count {
+    if record.queue_count > QUEUE_MOST || record.drain_position > record.queue_count {
         return None;
     }
     let held = if record.registered { Some((sheet(BASELINE)?, sheet(LIST)?)) } else { None };
-    let queue = (0..record.queue_count).map(|index| sheet(queue_place(index))).collect::<Option<Vec<_>>>()?;
+    let queue = Queue::read(store, record.queue_count)?;
     Some(Slots { topic, held, queue })
 }
 
@@ -135,7 +156,7 @@ fn updated(record: &Record, store: &[u8], message: &[u8], incarnation: u64, room
     }
     let incoming = content(&update.assignment, slots.topic)?;
     let Some((_, list)) = slots.held else {
-        return queued(record, depth(store.len()), &incoming);
+        return queued(record, store.len() - slots.queue.end, slots.queue.end, &incoming);
     };
     if incoming.epoch < list.epoch {
         return Err(refused(27, &[incoming.epoch, list.epoch]));
@@ -152,16 +173,17 @@ fn updated(record: &Record, store: &[u8], message: &[u8], incarnation: u64, room
     })
 }
 
-/// A push to an unregistered session: 26, 28, or the queue's next slot.
-fn queued(record: &Record, depth: usize, incoming: &Sheet) -> Result<Prediction, Reply> {
+/// A push to an unregistered session: 26, 28, or the queue's next entry, at its end, behind which so many bytes are free.
+fn queued(record: &Record, free: usize, end: usize, incoming: &Sheet) -> Result<Prediction, Reply> {
     above_floor(record, incoming.epoch)?;
-    if record.queue_count == depth {
-        return Err(refused(28, &[depth as u64]));
+    let entry = entry(incoming);
+    if record.queue_count == QUEUE_MOST || entry.len() > free {
+        return Err(refused(28, &[record.queue_count as u64]));
     }
     Ok(Prediction {
         reply: taken(raw::UNCHANGED, &[]),
         state: normal(Record { queue_count: record.queue_count + 1, ..*record }),
-        writes: vec![(queue_place(record.queue_count), incoming.packed())],
+        writes: vec![(end, entry)],
         out: Vec::new(),
     })
 }
@@ -179,9 +201,9 @@ fn responded(record: &Record, store: &[u8], message: &[u8], incarnation: u64) ->
     };
     let baseline = content(&assignment, slots.topic)?;
     above_floor(record, baseline.epoch)?;
-    let replayed = if record.registered { &[][..] } else { &slots.queue[..] };
+    let replayed = if record.registered { &[][..] } else { &slots.queue.entries[..] };
     let mut last = &baseline;
-    for entry in replayed {
+    for (_, entry) in replayed {
         if entry.epoch < last.epoch {
             return Err(refused(27, &[entry.epoch, last.epoch]));
         }
@@ -205,14 +227,16 @@ fn drained(record: &Record, store: &[u8], room: usize) -> Result<Prediction, Rep
     let Some((baseline, _)) = slots.held else {
         return Ok(unchanged(record, taken(raw::UNCHANGED, &[])));
     };
-    let before = |index: usize| if index == 0 { &baseline } else { &slots.queue[index - 1] };
+    let queue = &slots.queue.entries;
+    let before = |index: usize| if index == 0 { &baseline } else { &queue[index - 1].1 };
     let moved = |position| normal(Record { drain_position: position, ..*record });
-    let next = (record.drain_position..slots.queue.len()).find(|index| &slots.queue[*index] != before(*index));
+    let next = (record.drain_position..queue.len()).find(|index| &queue[*index].1 != before(*index));
     let Some(index) = next else {
-        return Ok(Prediction { state: moved(slots.queue.len()), ..unchanged(record, taken(raw::UNCHANGED, &[])) });
+        return Ok(Prediction { state: moved(queue.len()), ..unchanged(record, taken(raw::UNCHANGED, &[])) });
     };
-    let out = Delta::between(before(index), &slots.queue[index]).packed().expect("counts of two sheets");
-    Ok(Prediction { reply: taken(raw::REPLAY, &[queue_place(index) as u64, out.len() as u64]), state: moved(index + 1), writes: Vec::new(), out })
+    let (place, entry) = &queue[index];
+    let out = Delta::between(before(index), entry).packed().expect("counts of two sheets");
+    Ok(Prediction { reply: taken(raw::REPLAY, &[*place as u64, out.len() as u64]), state: moved(index + 1), writes: Vec::new(), out })
 }
 
 fn unregistered(record: &Record, incarnation: u64, invalidated: bool) -> Prediction {

@@ -4,7 +4,7 @@ use super::world::{TOPICS, World};
 use crate::generate::{Assignment, Style, damaged};
 use crate::lists::{random_sheet, spoiled_sheet};
 use crate::model::identity::Texts;
-use crate::model::session::{SLOT, STORE_LEAST};
+use crate::model::session::{QUEUE, SLOT, STORE_LEAST};
 use crate::model::sheet::Sheet;
 use crate::raw::Record;
 use crate::rng::Rng;
@@ -25,8 +25,8 @@ impl Damaged {
             let topics = if rng.one_in(8) { TOPICS } else { &TOPICS[..2] };
             let topic = rng.pick(topics);
             let length = length(rng);
-            let record = record(length / SLOT, rng);
-            let store = store(length, topic, rng);
+            let (store, entries) = store(length, topic, rng);
+            let record = record(entries, rng);
             let mut stage = Stage::new(record, store, rng);
             let mut world = World::new(topic);
             for _ in 0..4 {
@@ -39,19 +39,18 @@ impl Damaged {
 
 /// Lengths around each limit of a small store.
 fn length(rng: &mut Rng) -> usize {
-    let whole = rng.between(3, 8) * SLOT;
     match rng.below(10) {
         0 => rng.below(STORE_LEAST),
         1 => STORE_LEAST - 1,
-        2 | 3 => whole - 1,
-        4 | 5 => whole + 1,
-        _ => whole,
+        2 | 3 => STORE_LEAST + rng.below(60),
+        4 | 5 => rng.between(3, 8) * SLOT + rng.pick(&[0, 1]),
+        _ => STORE_LEAST + rng.below(600),
     }
 }
 
-fn record(slots: usize, rng: &mut Rng) -> Record {
-    let depth = slots.saturating_sub(3);
-    let queue_count = if rng.one_in(12) { rng.pick(&[depth + 1, depth + 2, 1024, 1025, usize::MAX, 1 << 32]) } else { rng.below(depth + 1) };
+/// A record over a queue of so many entries.
+fn record(entries: usize, rng: &mut Rng) -> Record {
+    let queue_count = if rng.one_in(12) { rng.pick(&[entries + 1, entries + 2, 1024, 1025, usize::MAX, 1 << 32]) } else { rng.below(entries + 1) };
     let drain_position = if rng.one_in(12) { rng.pick(&[queue_count.wrapping_add(1), usize::MAX, 0]) } else { rng.below(queue_count.min(8) + 1) };
     let floor = rng.pick(&[0, 3, 4, 5, u64::MAX]);
     Record {
@@ -66,22 +65,42 @@ fn record(slots: usize, rng: &mut Rng) -> Record {
     }
 }
 
-/// Slots that are good, most of them; a bad one is spoiled in one place or not a sheet at all.
-fn store(length: usize, topic: &str, rng: &mut Rng) -> Vec<u8> {
+/// Slots and entries that are good, most of them, and how many entries; a bad one is spoiled in one place or not a sheet at all, or its length is.
+fn store(length: usize, topic: &str, rng: &mut Rng) -> (Vec<u8>, usize) {
     let mut store = rng.bytes(length);
     let bad = rng.below(12);
-    for slot in 0..length / SLOT {
-        let bytes =
-            if slot == 0 { identity(topic, bad == 0, rng) } else { sheet(bad == slot, slot > 1 && rng.one_in(3), &store[..slot * SLOT], rng) };
-        let length = bytes.len().min(SLOT);
-        store[slot * SLOT..slot * SLOT + length].copy_from_slice(&bytes[..length]);
+    let mut before = Vec::new();
+    for slot in 0..3.min(length / SLOT) {
+        let bytes = if slot == 0 { identity(topic, bad == 0, rng) } else { sheet(bad == slot, slot > 1 && rng.one_in(3), &before, rng) };
+        put(&mut store[slot * SLOT..(slot + 1) * SLOT], &bytes);
+        before = bytes;
     }
-    store
+    let (mut at, mut entries) = (QUEUE, 0);
+    while entries < 8 {
+        let bytes = sheet(bad == 3 + entries, rng.one_in(3), &before, rng);
+        let wrong = if bad == 3 + entries && rng.one_in(2) { rng.pick(&[1, 0xffff, 0x100, 2, 14]) } else { 0 };
+        let size = (bytes.len() as u16).wrapping_add(wrong);
+        let entry = [&size.to_be_bytes(), &bytes[..]].concat();
+        if length < at + entry.len() {
+            break;
+        }
+        put(&mut store[at..], &entry);
+        at += entry.len();
+        entries += 1;
+        before = bytes;
+    }
+    (store, entries)
+}
+
+/// As much of the bytes as there is room for.
+fn put(room: &mut [u8], bytes: &[u8]) {
+    let length = bytes.len().min(room.len());
+    room[..length].copy_from_slice(&bytes[..length]);
 }
 
 fn sheet(bad: bool, again: bool, before: &[u8], rng: &mut Rng) -> Vec<u8> {
     if again {
-        return before[before.len() - SLOT..].to_vec();
+        return before.to_vec();
     }
     let epoch = rng.pick(&[0, 3, 3, 3, 4, 4, 5, u64::MAX]);
     let most = if rng.one_in(8) { 2048 } else { 120 };
@@ -103,10 +122,10 @@ fn identity(topic: &str, bad: bool, rng: &mut Rng) -> Vec<u8> {
     packed
 }
 
-/// The list in a slot, as a message would say it.
+/// The list in a slot, or the first of the queue, as a message would say it.
 fn held(stage: &Stage, world: &World, rng: &mut Rng) -> Option<Assignment> {
-    let place = SLOT * rng.pick(&[1, 2, 2, 2, 3]);
-    let sheet = Sheet::at_front(stage.mirror.get(place..place + SLOT)?)?;
+    let place = rng.pick(&[SLOT, 2 * SLOT, 2 * SLOT, 2 * SLOT, QUEUE + 2]);
+    let sheet = Sheet::at_front(stage.mirror.get(place..)?)?;
     Some(Assignment::of_sheet(&sheet, world.path()))
 }
 

@@ -2,7 +2,7 @@
 use super::script::{Script, TOPIC, bare, bucketed, list};
 use super::stage::{Ask, ROOM};
 use crate::generate::{Assignment, Field, Part, Style, message};
-use crate::model::session::{LIST, SLOT, STORE_FULL, queue_place};
+use crate::model::session::{LIST, QUEUE, SLOT, STORE_FULL, STORE_LEAST, entry};
 use crate::model::sheet::{Segment, Sheet};
 use crate::raw::{ACCEPTED, DELTA, REPLAY, UNCHANGED};
 use crate::reply::{refused, taken};
@@ -15,6 +15,7 @@ pub fn run(tally: &mut Tally, seed: u64) {
     row_h(tally, seed);
     first_faults(tally, seed);
     queue_traps(tally, seed);
+    queue_room(tally, seed);
     link_traps(tally, seed);
     drain_traps(tally, seed);
     order_in_a_segment(tally, seed);
@@ -122,18 +123,62 @@ fn queue_traps(tally: &mut Tally, seed: u64) {
     s.begin(2);
     let floor = s.update(&list(19, &[]));
     s.expect("the floor stays", Call::Update, floor, refused(26, &[19, 20]));
-    let mut s = Script::open(tally, seed, 5 * SLOT, TOPIC);
+    let mut s = Script::open(tally, seed, STORE_LEAST + 2 * 12, TOPIC);
     s.update(&list(5, &[]));
     s.update(&list(4, &[]));
-    for epoch in [3, 4, 5, 6] {
+    for epoch in [5, 6] {
         s.response(&list(epoch, &[]));
     }
     let full = s.update(&list(9, &[]));
-    s.expect("depth 2", Call::Update, full, refused(28, &[2]));
+    s.expect("room for two", Call::Update, full, refused(28, &[2]));
     s.invalidate();
     s.update(&list(5, &[]));
     let given = s.response(&list(3, &[]));
     s.expect("behind an invalidate", Call::Response, given, taken(ACCEPTED, &[]));
+}
+
+/// A list of 90 bytes as the queue holds it: four segments and six buckets.
+fn of_ninety(epoch: u64, first: u64) -> Assignment {
+    let buckets = [vec![(0, 1), (2, 3), (4, 5)], vec![(0, 0), (9, 9)], vec![(7, 8)], Vec::new()];
+    let parts = buckets.into_iter().zip(first..).map(|(buckets, id)| Part::new("a/b/c", id, 0, 65_535, buckets));
+    Assignment { epoch, parts: parts.collect() }
+}
+
+/// The free end: a push that just fits and one that is a byte too long, anywhere in the store; freed whole by begin, invalidate and a response to
+/// a registered session; how many pushes of 90 bytes a store of 64 KiB takes; where the lists lie.
+fn queue_room(tally: &mut Tally, seed: u64) {
+    for room in [0, 1, 2, 11, 12, 13, 35, 36, 37] {
+        let mut s = Script::open(tally, seed, STORE_LEAST + room, TOPIC);
+        let pushes = [(list(1, &[]), 12), (list(1, &[(1, 0, 1)]), 26)];
+        let mut left = room;
+        for (count, (push, size)) in pushes.iter().cycle().take(4).enumerate() {
+            let given = s.update(push);
+            let queued = s.stage.record.queue_count as u64;
+            let fits = *size <= left;
+            s.expect(&format!("push {count}, {left} bytes free"), Call::Update, given, if fits { taken(UNCHANGED, &[]) } else { refused(28, &[queued]) });
+            left -= if fits { *size } else { 0 };
+        }
+    }
+    let mut s = Script::open(tally, seed, 65_536, TOPIC);
+    for freed in 0..4 {
+        let taken_before_28 = (0..1024).take_while(|turn| s.update(&of_ninety(9, turn % 3)).answer == UNCHANGED).count();
+        s.expect("pushes of 90 bytes in 64 KiB", Call::Update, taken(UNCHANGED, &[taken_before_28 as u64]), taken(UNCHANGED, &[645]));
+        let given = s.update(&of_ninety(9, 1));
+        s.expect("64 KiB are full", Call::Update, given, refused(28, &[645]));
+        match freed {
+            0 => s.begin(2),
+            1 => s.invalidate(),
+            _ => {
+                s.response(&list(9, &[]));
+                let first = s.drain();
+                s.expect("place of the first", Call::Drain, first, taken(REPLAY, &[QUEUE as u64 + 2, 12 + 80]));
+                let second = s.drain();
+                s.expect("place of the second", Call::Drain, second, taken(REPLAY, &[QUEUE as u64 + 94, 12 + 32 + 80]));
+                s.response(&list(9, &[]));
+                s.invalidate()
+            }
+        };
+    }
 }
 
 /// Begin, invalidate, incarnations, floors.
@@ -170,7 +215,7 @@ fn drain_traps(tally: &mut Tally, seed: u64) {
     }
     s.response(&list(5, &[]));
     let first = s.drain();
-    s.expect("place of the first replay", Call::Drain, first, taken(REPLAY, &[queue_place(0) as u64, 26]));
+    s.expect("place of the first replay", Call::Drain, first, taken(REPLAY, &[QUEUE as u64 + 2, 26]));
     s.update(&list(6, &[(9, 0, 0)]));
     s.response(&list(4, &[]));
     let replays = s.drain_all();
@@ -261,9 +306,9 @@ fn stored_outside(tally: &mut Tally, seed: u64) {
     s.update(&list(5, &[]));
     s.response(&list(5, &[]));
     let mut stage = s.stage.clone();
-    stage.poke(queue_place(0), &outside.packed());
+    stage.poke(QUEUE, &entry(&outside));
     let given = stage.ask(s.tally, &Ask::Drain { room: ROOM }, None).reply;
-    s.expect("a queued bucket outside", Call::Drain, given, taken(REPLAY, &[queue_place(0) as u64, 12 + 22]));
+    s.expect("a queued bucket outside", Call::Drain, given, taken(REPLAY, &[QUEUE as u64 + 2, 12 + 22]));
 }
 
 /// Ends of a range keep their low 32 bits: (5, 9) here.

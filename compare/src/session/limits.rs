@@ -3,7 +3,7 @@ use super::script::{CONSUMER, Script, TOPIC, bare, bucketed, list};
 use super::stage::{Ask, ROOM, Stage};
 use crate::generate::{Assignment, Part, Style};
 use crate::model::identity::Texts;
-use crate::model::session::{SLOT, STORE_FULL, STORE_LEAST};
+use crate::model::session::{QUEUE, QUEUE_MOST, Queue, SLOT, STORE_FULL, STORE_LEAST, entry};
 use crate::model::sheet::Sheet;
 use crate::raw::Record;
 use crate::rng::Rng;
@@ -27,6 +27,7 @@ fn stores(tally: &mut Tally, seed: u64) {
         lengths.extend([slots * SLOT - 1, slots * SLOT, slots * SLOT + 1]);
     }
     lengths.push(STORE_FULL + 20 * SLOT);
+    lengths.extend((1..80).map(|free| STORE_LEAST + free));
     for length in lengths {
         let mut s = Script::open(tally, seed, length, TOPIC);
         for epoch in 1..4 {
@@ -183,7 +184,8 @@ const MALFORMED: &[(usize, &[u8])] = &[
     (10, &[0xff; 8]),
 ];
 
-/// Damage in every slot, used or not, and in the record's counts, before each call: 22, or no change of the answer.
+/// Damage in every slot and queue entry, used or not, in the lengths of entries and in the record's counts, before each call: 22, or no change of
+/// the answer.
 fn slots(tally: &mut Tally, seed: u64) {
     for registered in [false, true] {
         let mut s = Script::open(tally, seed, 8 * SLOT, TOPIC);
@@ -196,10 +198,19 @@ fn slots(tally: &mut Tally, seed: u64) {
         }
         let good = s.stage.clone();
         let mut rng = Rng::new(seed, "slots");
-        for slot in 0..8 {
+        let queue = Queue::read(&good.mirror, 3).expect("three pushes");
+        let entries = queue.entries.iter().map(|(place, _)| *place);
+        for sheet in (0..3).map(|slot| slot * SLOT).chain(entries.clone()).chain([queue.end]) {
             for (place, bytes) in MALFORMED.iter().copied().chain([(6, &[2][..]), (0, &[0xff, 0xff]), (7, &[0xff])]) {
                 let mut stage = good.clone();
-                stage.poke(slot * SLOT + place, bytes);
+                stage.poke(sheet + place, bytes);
+                every_call(tally, &stage, &mut rng);
+            }
+        }
+        for sheet in entries {
+            for length in [0, 1, 9, 10, 23, 24, 37, 38, 39, 40, 52, 256, 2048, 2049, 0x2600, 0xffff_u16] {
+                let mut stage = good.clone();
+                stage.poke(sheet - 2, &length.to_be_bytes());
                 every_call(tally, &stage, &mut rng);
             }
         }
@@ -234,15 +245,20 @@ fn every_call(tally: &mut Tally, stage: &Stage, rng: &mut Rng) {
     }
 }
 
-/// Queues of about 1,024 on stores of full size and above: the depth stays 1,024.
+/// Queues of about 1,024, with room for just as many, for a byte less, and for more: no more than 1,024 are taken.
 fn deep(tally: &mut Tally, seed: u64) {
     let mut rng = Rng::new(seed, "deep");
-    for length in [STORE_FULL - 1, STORE_FULL, STORE_FULL + SLOT, STORE_FULL + 3 * SLOT] {
+    let sheet = |index: u64| Sheet { epoch: 3 + index % 2, segments: Vec::new() };
+    let just = QUEUE + 12 * QUEUE_MOST;
+    for length in [just - 1, just, just + 11, just + 12, just + 100, STORE_FULL, STORE_FULL + 3 * SLOT] {
         let store = rng.bytes(length);
         let mut stage = Stage::new(Default::default(), store, &mut rng);
         stage.poke(0, &Texts { texts: [TOPIC, "s", "n"].map(|text| text.as_bytes().to_vec()), kind: 0 }.packed());
-        for slot in 1..length / SLOT {
-            stage.poke(slot * SLOT, &Sheet { epoch: 3 + slot as u64 % 2, segments: Vec::new() }.packed());
+        for slot in [1, 2] {
+            stage.poke(slot * SLOT, &sheet(slot as u64).packed());
+        }
+        for index in (0..1026).take_while(|index| QUEUE + 12 * (index + 1) <= length) {
+            stage.poke(QUEUE + 12 * index, &entry(&sheet(1 + index as u64)));
         }
         for registered in [false, true] {
             for queue_count in [1022, 1023, 1024, 1025, 1026] {

@@ -2,7 +2,7 @@
 use super::twin::{Fed, Twin, answer_differs};
 use crate::model::identity::{self, Texts};
 use crate::model::messages;
-use crate::model::session::{self, LIST, OUT_LEAST, Prediction, SLOT, Write, depth, fresh, queue_place};
+use crate::model::session::{self, LIST, OUT_LEAST, Prediction, QUEUE, Queue, SLOT, Write, fresh};
 use crate::model::sheet::Sheet;
 use crate::ours;
 use crate::raw::{self, Record, SessionReply};
@@ -134,7 +134,7 @@ impl Stage {
         let prediction = predict(ask, &self.record, &self.mirror);
         let mut message = ask.message().to_vec();
         let given = make(ask, self.record, &mut self.store, &mut message, &mut self.out);
-        let due = [&prediction.reply, &given.reply].iter().any(|reply| is_ours(reply, depth(self.mirror.len())));
+        let due = [&prediction.reply, &given.reply].iter().any(|reply| is_ours(reply));
         let fed = twin.filter(|_| !due);
         tally.count(ask.call(), &given.reply, fed.is_some());
         let wrong = self.differs(&prediction, &given).or_else(|| (message != ask.message()).then(|| "the message was changed".into()));
@@ -206,10 +206,10 @@ impl Stage {
             Ask::Response { message, incarnation } => format!("incarnation {incarnation}, message {}", hex(message)),
             other => format!("{other:?}"),
         };
-        let queue: Vec<String> = (0..self.record.queue_count.min(4)).map(|index| self.show_sheet(queue_place(index))).collect();
+        let queue = self.show_queue();
         let held = if self.record.registered { [SLOT, LIST].map(|place| self.show_sheet(place)) } else { [(); 2].map(|()| "none".into()) };
         format!(
-            "{with}\n    {:?}\n    store of {} bytes: identity {}, baseline {}, list {}, queue {queue:?}",
+            "{with}\n    {:?}\n    store of {} bytes: identity {}, baseline {}, list {}, queue {queue}",
             self.record,
             self.mirror.len(),
             self.show_identity(),
@@ -224,6 +224,15 @@ impl Stage {
             Some((texts, kind)) => format!("{texts:?} {kind}"),
             None => format!("malformed {}..", hex(&slot[..slot.len().min(64)])),
         }
+    }
+
+    /// The bytes of the first entries; of a malformed queue the first bytes.
+    fn show_queue(&self) -> String {
+        let shown = match Queue::read(&self.mirror, self.record.queue_count.min(4)) {
+            Some(queue) => self.mirror.get(QUEUE..queue.end),
+            None => self.mirror.get(QUEUE..self.mirror.len().min(QUEUE + 256)),
+        };
+        shown.map_or_else(|| "outside".into(), hex)
     }
 
     /// The sheet in a slot; of a malformed one the first bytes.

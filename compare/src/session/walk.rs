@@ -12,11 +12,11 @@ use crate::tally::Tally;
 /// Which stores a walk goes over.
 #[derive(Clone, Copy, PartialEq, Eq)]
 pub enum Size {
-    /// Three slots to eight, with and without a rest.
+    /// Three slots, and a free end for none to some dozen pushes.
     Small,
-    /// Forty slots: long queues, cheaply compared.
+    /// A free end for some hundreds: long queues, cheaply compared.
     Middle,
-    /// Full size, and a queue that is filled to its end or close to it first.
+    /// Full size, and a queue that is filled to 1,024 or close to it first.
     Full,
 }
 
@@ -88,8 +88,8 @@ impl Walk {
     fn store(&mut self) -> Vec<u8> {
         let rng = &mut self.rng;
         let length = match self.size {
-            Size::Small => (rng.between(3, 8) * SLOT + rng.pick(&[0, 0, 1, 700, SLOT - 1])).max(STORE_LEAST),
-            Size::Middle => 40 * SLOT + rng.pick(&[0, 1]),
+            Size::Small => STORE_LEAST + rng.pick(&[0, 1, 11, 12, 26, 60, 120, 300, 700, SLOT, 5 * SLOT]) + rng.below(60),
+            Size::Middle => STORE_LEAST + rng.pick(&[4, 8, 30]) * SLOT + rng.pick(&[0, 1]),
             Size::Full => STORE_FULL + rng.pick(&[0, 0, 1, SLOT]),
         };
         rng.bytes(length)

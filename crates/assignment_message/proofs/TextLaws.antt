@@ -22,7 +22,7 @@ use Rattle.utf8.proofs.TextLaws.{text-end, plain-next}
 use Rattle.parents.specs.Parents.{topicScheme, isPath, isParent, pathOf}
 use Rattle.topic.specs.Names.{segmentScheme, hexDigit, hex4, decimalWithin, decimal, descriptor, segmentTopic}
 use Rattle.keyed.proofs.KeyedLaws.{choose}
-use Rattle.content.proofs.EachLaws.{Each, each-append}
+use Rattle.keyed.proofs.EachLaws.{Each, each-append}
 
 -- ---- a sequence, whatever follows it
 

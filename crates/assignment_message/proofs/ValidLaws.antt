@@ -20,7 +20,7 @@ use Rattle.schema.specs.Schema.{ruleFor, complete}
 use Rattle.schema.specs.FirstFault.{elem, checkFields, faultWithin}
 use Rattle.packed.specs.Assignment.{AssignedSegment, ConsumerAssignment}
 use Rattle.packed.proofs.RoundLaws.{FitRanges}
-use Rattle.content.proofs.EachLaws.{Each, each-map}
+use Rattle.keyed.proofs.EachLaws.{Each, each-map}
 use Rattle.assignment_message.specs.Message.{rangeMessage, topicOf, segmentMessage, assignmentMessage}
 use Rattle.assignment_message.proofs.TextLaws.{topic-utf8}
 use Rattle.assignment_message.proofs.RowLaws.{numbered, partRow, range-row, segmentRowOf, segment-row, assignment-row}

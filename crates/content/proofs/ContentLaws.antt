@@ -19,7 +19,7 @@ use Rattle.packed.specs.Assignment.{AssignedSegment, ConsumerAssignment, slotSi
 use Rattle.ranges.specs.Meaning.{both-true}
 use Rattle.packed.proofs.RoundLaws.{FitAssignment}
 use Rattle.content.specs.Content.{firstRefusal, assignedSegment, inIdOrder, consumerAssignment, refused, taken, contentBy, contentOf}
-use Rattle.content.proofs.EachLaws.{Each}
+use Rattle.keyed.proofs.EachLaws.{Each}
 use Rattle.content.proofs.WideLaws.{Wide}
 use Rattle.content.proofs.OrderLaws.{Passing, order-size, order-ok, order-fit, order-rising, refusal-rising, count-least}
 

@@ -1,5 +1,4 @@
 pub mod ContentLaws
-pub mod EachLaws
 pub mod OrderLaws
 pub mod OutsideLaws
 pub mod SoundLaws

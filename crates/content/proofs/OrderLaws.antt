@@ -24,7 +24,7 @@ use Rattle.packed.specs.Assignment.{AssignedSegment, idOf, sizeSegment, sizeSeg
 use Rattle.packed.proofs.AssignmentLaws.{ok-good, ok-head, ok-tail}
 use Rattle.packed.proofs.RoundLaws.{FitSegment, FitSegments}
 use Rattle.content.specs.Content.{wireId, bucketOf, segmentFault, duplicateFault, firstRefusal, assignedSegment, inIdOrder}
-use Rattle.content.proofs.EachLaws.{Each, each-insert}
+use Rattle.keyed.proofs.EachLaws.{Each, each-insert}
 use Rattle.content.proofs.SoundLaws.{or-both, if-none, length-map, segment-good, segment-fit}
 use Rattle.content.proofs.WideLaws.{WideSegment}
 

@@ -26,7 +26,7 @@ use Rattle.values.specs.declared.Last.the-variants as last
 use Rattle.values.specs.Values.{numbersOf, partsOf, lastAfter, joinFields, mergedFields, orZero, numberIn}
 use Rattle.readers.specs.Messages.{WireSegment, segmentOf, WireAssignment, assignmentOf, updateOf, responseOf}
 use Rattle.keyed.proofs.KeyedLaws.{choose}
-use Rattle.content.proofs.EachLaws.{Each, each-append, each-map}
+use Rattle.keyed.proofs.EachLaws.{Each, each-append, each-map}
 
 -- ---- the fields of bytes
 

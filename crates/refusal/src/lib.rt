@@ -81,7 +81,7 @@ pub enum Refusal {
     MalformedInput,
     // 21: the result does not fit the output, or has no packed form.
     ResultTooLong,
-    // 22: a slot in use is malformed, or a count of the record is beyond what it counts.
+    // 22: a slot or a queued list in use is malformed, or a count of the record is beyond what it counts.
     MalformedStore,
     // 23: the call is for another link to the controller.
     IncarnationMismatch {
@@ -108,7 +108,7 @@ pub enum Refusal {
         got: u64,
         prev: u64,
     },
-    // 28: the queue is full.
+    // 28: the queue is full, or the push does not fit the store's free end.
     PreBaselineBufferFull {
         max: usize,
     },

@@ -23,14 +23,14 @@ use Rattle.delta.specs.Rows as delta
 use Rattle.content.specs.Content.{bucketFault, firstOutside, nameFault, segmentFault, firstRefusal}
 use Rattle.content.specs.Content.{assignedSegment, inIdOrder, consumerAssignment, contentOf}
 use Rattle.content.specs.Rows as content
-use Rattle.session.specs.Store.{depthOf}
+use Rattle.packed_queue.specs.Entries.{sizeEntries}
 use Rattle.session.specs.Session.{damaged}
 use Rattle.session.specs.Update.{updateUnregistered, updateRegistered, updateContent, updateValid, updateCall}
 use Rattle.rows.specs.Rows.{Rows}
 use Rattle.rows.proofs.BucketLaws.{buckets-taken, buckets-long}
 
 pub rows : Rows
-unfolding newKeyRange anyOverlap sameBytes startsWith table fits sequenceIn sequenceOf textAfter isUtf8 classOf beforeSlash behindSlash clean hasThreeParts frontClean isPath isParent hex4 decimalWithin decimal descriptor segmentTopic varintOf keyOf numberOf partOf fieldsOf ruleFor complete firstFault segmentOf assignmentOf updateOf sizeSegment sizeSegments sizeAssignment sameRanges sameSegment sameSegments sameAssignment hasSame without deltaBetween bucketFault firstOutside nameFault segmentFault firstRefusal assignedSegment inIdOrder consumerAssignment contentOf depthOf damaged updateUnregistered updateRegistered updateContent updateValid updateCall
+unfolding newKeyRange anyOverlap sameBytes startsWith table fits sequenceIn sequenceOf textAfter isUtf8 classOf beforeSlash behindSlash clean hasThreeParts frontClean isPath isParent hex4 decimalWithin decimal descriptor segmentTopic varintOf keyOf numberOf partOf fieldsOf ruleFor complete firstFault segmentOf assignmentOf updateOf sizeSegment sizeSegments sizeAssignment sameRanges sameSegment sameSegments sameAssignment hasSame without deltaBetween bucketFault firstOutside nameFault segmentFault firstRefusal assignedSegment inIdOrder consumerAssignment contentOf sizeEntries damaged updateUnregistered updateRegistered updateContent updateValid updateCall
 rows =
     record {
       a-valid = refl;
@@ -52,7 +52,7 @@ rows =
       h-buckets = buckets-taken 506 (omega arith) (omega arith);
       h-buckets-more = buckets-long 507 (omega arith) (omega arith);
       i-full = λ floor baseline list queue e. rw e;
-      i-any = λ s a q z e. simp (q, z, e);
+      i-any = λ s a q e. simp (q, e);
       j-valid = refl;
       j-not-valid = refl;
       j-any = λ w. refl;
@@ -61,4 +61,7 @@ rows =
       marked-namespace = refl;
       marked-any = λ w. refl;
       marked-refused = refl;
+      close-fits = refl;
+      close-short = refl;
+      close-places = refl;
     }

@@ -5,7 +5,7 @@
 use Prim.Native.Nat.{ℕ, zero, suc}
 use mathlib.Core.Path.{_≡_}
 use mathlib.Core.Bool.{Bool, true, false}
-use mathlib.Core.List.{List, [], _∷_, _++_}
+use mathlib.Core.List.{List, [], _∷_, _++_, map}
 use mathlib.Core.Option.{none, some}
 use lib.ListN.{length}
 use lib.IntN.{pos}
@@ -28,11 +28,12 @@ use Rattle.content.specs.Content.{taken, refused, nameFault, contentOf}
 use Rattle.content.specs.Rows.{parent, name, wireHalf, range, risingThen, comesTo, bucketsOfOne}
 use Rattle.session.specs.declared.SessionRecord.{SessionRecord}
 use Rattle.session.specs.declared.Floor.{Floor}
-use Rattle.session.specs.declared.Floor.the-variants.{At}
-use Rattle.session.specs.Store.{minOutput, listSlot}
+use Rattle.session.specs.declared.Floor.the-variants.{Unset, At}
+use Rattle.session.specs.Store.{minOutput, listSlot, toSlot, push}
 use Rattle.session.specs.Session as session
 use Rattle.session.specs.Session.{Session, Result, refuse, floorFault}
 use Rattle.session.specs.Update.{updateUnregistered, updateCall}
+use Rattle.session.specs.Drain.{placeOf}
 
 -- the message of row A, and the same at another epoch below 128
 abbrev pub messageAt : ℕ → List ℕ
@@ -60,7 +61,7 @@ recordOf registered floor count =
       «drain_position» = 0;
     }
 
--- a store of depth 1,024
+-- "Full size"
 abbrev pub storeSize : ℕ
 storeSize = 2103296
 
@@ -90,13 +91,26 @@ full floor baseline list queue =
       queue = queue;
     }
 
+-- not registered, with one push queued, in a store of that size
+abbrev pub waiting : ℕ → Session
+waiting size =
+    record {
+      state = recordOf false Unset 1;
+      size = size;
+      sound = true;
+      topic = parent;
+      baseline = empty;
+      list = empty;
+      queue = oneHalf 3 ∷ [];
+    }
+
 -- what an update gives
 abbrev pub updated : Session → List ℕ → Result
 updated s message = updateCall s message link minOutput
 
 -- from then on that list is held, and the delta is answered
 abbrev pub held : ConsumerAssignment → AssignmentDelta → Result
-held list d = record { reply = session.changed d; next = holding list .state; writes = record { slot = listSlot; assignment = list } ∷ [] }
+held list d = record { reply = session.changed d; next = holding list .state; writes = toSlot listSlot list ∷ [] }
 
 -- n buckets of one value each, from the value v on, as they come
 abbrev pub wirePoints : ℕ → ℕ → List IntRange
@@ -147,11 +161,11 @@ pub record Rows : Type 0 where
   pub h-segments-more : comesTo (risingThen 146 0 []) ≡ refused AssignmentTooLong
   pub h-buckets : bucketsOfOne (wirePoints 506 0) ≡ taken (bucketed 506)
   pub h-buckets-more : bucketsOfOne (wirePoints 507 0) ≡ refused AssignmentTooLong
-  -- I: a push with 1,024 queued at depth 1,024 is 28: row A's message, whatever the queue holds
+  -- I: a push with 1,024 queued is 28: row A's message, whatever the queue holds
   pub i-full : (floor : Floor) (baseline list : ConsumerAssignment) (queue : List ConsumerAssignment) → floorFault 3 floor ≡ none
       → updated (full floor baseline list queue) messageA ≡ refuse (PreBaselineBufferFull 1024) (full floor baseline list queue)
   -- and any assignment that the floor lets pass, in any session as full
-  pub i-any : (s : Session) (a : ConsumerAssignment) → s .state .«queue_count» ≡ 1024 → s .size ≡ storeSize
+  pub i-any : (s : Session) (a : ConsumerAssignment) → s .state .«queue_count» ≡ 1024
       → floorFault (a .layoutEpoch) (s .state .«epoch_floor») ≡ none → updateUnregistered s a ≡ refuse (PreBaselineBufferFull 1024) s
   -- J: the parent topic://t/n//m is valid; topic://t//m is not, and is 12, for any segment, and so for row A's assignment
   pub j-valid : isParent slashInName ≡ true
@@ -163,3 +177,9 @@ pub record Rows : Type 0 where
   pub marked-namespace : isParent markedNamespace ≡ false
   pub marked-any : (w : WireSegment) → nameFault markedTenant w ≡ some InvalidParent
   pub marked-refused : contentOf markedTenant (updateOf messageA .assignment) ≡ refused InvalidParent
+  -- 02 j: row A's message behind one push of row B's 24 bytes, in a store with room for 52 bytes of queue, and with a byte less
+  pub close-fits : updated (waiting 6196) messageA
+      ≡ record { reply = session.nothing; next = recordOf false Unset 2; writes = push 6170 (oneHalf 3) ∷ [] }
+  pub close-short : updated (waiting 6195) messageA ≡ refuse (PreBaselineBufferFull 1) (waiting 6195)
+  -- the place of each list, behind its length
+  pub close-places : map (placeOf (oneHalf 3 ∷ oneHalf 3 ∷ [])) (0 ∷ 1 ∷ []) ≡ 6146 ∷ 6172 ∷ []

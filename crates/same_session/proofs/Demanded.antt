@@ -13,10 +13,11 @@ use lib.Dec.{ltb}
 use borrow.Author.Tests.{not-true}
 use Rattle.ranges.specs.Meaning.{both-true}
 use Rattle.keyed.proofs.KeyedLaws.{choose}
-use Rattle.content.proofs.EachLaws.{Each}
+use Rattle.keyed.proofs.EachLaws.{Each}
 use Rattle.delta.specs.Join.{Proper}
 use Rattle.session.specs.declared.SessionRecord.{SessionRecord}
-use Rattle.session.specs.Store.{identitySlot, slot, listsIn, writeAll}
+use Rattle.packed_queue.specs.Entries.{entriesOf}
+use Rattle.session.specs.Store.{identitySlot, slot, queueIn, writeAll}
 use Rattle.session.specs.Identity.{topicOf, subscriptionOf, consumerNameOf, kindOf}
 use Rattle.session.specs.Session as session
 use Rattle.session.specs.Session.{Session, Reply, view}
@@ -30,7 +31,7 @@ use Rattle.session.proofs.ViewLaws.{Kept, kept-fresh, Follows}
 use Rattle.session.proofs.TraceLaws.{outOf, follow-call, step-is}
 use Rattle.same_names.specs.Agree.{isMarked}
 use Rattle.same_session.specs.Values.{asAssignment, asFloor, asType}
-use Rattle.same_session.specs.Demand.{fullSize, topicIn, portShown, portRun, Caller, rustStep, rustRun, opened, isOurs, noneOurs, fedCalls}
+use Rattle.same_session.specs.Demand.{topicIn, portShown, portRun, Caller, rustStep, rustRun, opened, isOurs, noneOurs, fedCalls}
 use Rattle.same_session.specs.Demand.{fedShown, DemandTwoFed, DemandTwo}
 use Rattle.same_session.proofs.ReplayAgrees.{Registration, sess}
 use Rattle.same_session.proofs.Mirror.{oursIn, Mirror, Good}
@@ -43,7 +44,7 @@ ours-is (session.refused x) = refl
 ours-is session.accepted = refl
 ours-is session.nothing = refl
 ours-is (session.changed d) = refl
-ours-is (session.replayed place d) = refl
+ours-is (session.replayed index place d) = refl
 
 -- the record is kept, and nothing is written
 abbrev Still : Session → session.Result → Type 0
@@ -128,12 +129,11 @@ registrationOf st =
       consumer-type = asType (kindOf (slot st identitySlot));
     }
 
-start : (r : SessionRecord) → Fresh r → (st : List ℕ) → length st ≡ fullSize → isMarked (topicIn st) ≡ false
+start : (r : SessionRecord) → Fresh r → (st : List ℕ) → isMarked (topicIn st) ≡ false
     → Mirror (registrationOf st) (view r st) (opened r st)
-unfolding view listsIn
-start r f st full unmarked =
+unfolding view queueIn entriesOf
+start r f st unmarked =
     record {
-      size = full;
       unmarked = unmarked;
       counted = view-counted r st;
       state =
@@ -144,16 +144,16 @@ start r f st full unmarked =
                   session =
                       sess (registrationOf st) (r .«consumer_id») (topicOf (slot st 0)) (r .incarnation) none
                       (asFloor (sym (f .no-floor) i))
-                      (map (asAssignment (topicOf (slot st 0))) (listsIn st 3 (sym (f .no-queue) i))) [] (sym (f .not-invalidated) i);
+                      (map (asAssignment (topicOf (slot st 0))) (queueIn st (sym (f .no-queue) i))) [] (sym (f .not-invalidated) i);
                   taken = [];
                 };
-            proper = subst (λ m. Each Proper (listsIn st 3 m)) (sym (f .no-queue)) tt;
+            proper = subst (λ m. Each Proper (queueIn st m)) (sym (f .no-queue)) tt;
           });
     }
 
 pub demand-two-fed : DemandTwoFed
-demand-two-fed r f st full unmarked calls bytes =
-    fed-run (registrationOf st) calls r st (opened r st) (kept-fresh r st f) (start r f st full unmarked) bytes
+demand-two-fed r f st unmarked calls bytes =
+    fed-run (registrationOf st) calls r st (opened r st) (kept-fresh r st f) (start r f st unmarked) bytes
 
 -- ---- where none of ours is due, all calls are fed
 
@@ -171,6 +171,6 @@ all-fed (w ∷ ws) r st e =
     record { all = rw t (ap (w ∷_) (h .all)); shown = rw t (ap (portShown w o ∷_) (h .shown)) }
 
 pub demand-two : DemandTwo
-demand-two r f st full unmarked calls bytes e =
+demand-two r f st unmarked calls bytes e =
     let a : AllFed r st calls = all-fed calls r st e in
-    sym (a .shown) ∙ demand-two-fed r f st full unmarked calls bytes ∙ ap (rustRun (opened r st)) (a .all)
+    sym (a .shown) ∙ demand-two-fed r f st unmarked calls bytes ∙ ap (rustRun (opened r st)) (a .all)

@@ -1,7 +1,7 @@
 -- A drain: one of the replays that `take_replayed_updates` gave is handed on, as this port's drain does where ours do not refuse, and the
 -- sessions stay alike (`fair-drain`).
 -- Assumes nothing.
-use Prim.Native.Nat.{ℕ, suc, _-_, _/_}
+use Prim.Native.Nat.{ℕ, suc}
 use native.Mathlib.Omega.{arith}
 use mathlib.Core.Path.{_≡_, refl, ap, sym, _∙_, subst}
 use mathlib.Core.Bool.{true, false, false≢true, true≢false}
@@ -16,18 +16,14 @@ use Rattle.delta.specs.Join.{Proper}
 use Rattle.session.specs.Store.{minStore, minOutput}
 use Rattle.session.specs.Session as session
 use Rattle.session.specs.Session.{Session, damaged}
-use Rattle.session.specs.Drain.{Found, end, entry, nextChange, placeOf, drained, drainCall}
+use Rattle.session.specs.Drain.{Found, end, entry, nextChange, drained, drainCall}
 use Rattle.session.specs.Trace.{Call, drain}
 use Rattle.magnetar.specs.Session.{AssignmentReplay}
 use Rattle.same_names.specs.Agree.{isMarked}
 use Rattle.same_session.specs.Values.{asReplay, replays}
-use Rattle.same_session.specs.Demand.{fullSize, replay, Caller, handOn, rustStep}
+use Rattle.same_session.specs.Demand.{replay, Caller, handOn, rustStep}
 use Rattle.same_session.proofs.ReplayAgrees.{Registration, replays-end, replays-none, Next, replays-entry}
 use Rattle.same_session.proofs.Mirror.{rust, caller, holding, Idle, Live, Mirror, Good, Fair, mirror-still, good-same}
-
--- the index of the entry at a byte place
-pub placed : (i : ℕ) → placeOf i / 2048 - 3 ≡ i
-placed i = omega arith
 
 module _ (n : Registration) (out : List ℕ) (s : Session) where
   abbrev call : Call
@@ -39,7 +35,7 @@ module _ (n : Registration) (out : List ℕ) (s : Session) where
   abbrev left : ℕ → List AssignmentReplay
   left k = replays (s .topic) (s .baseline) (s .queue) k
 
-  module _ (full : s .size ≡ fullSize) (unmarked : isMarked (s .topic) ≡ false)
+  module _ (unmarked : isMarked (s .topic) ≡ false)
       (counted : length (s .queue) ≡ s .state .«queue_count») (live : s .state .registered ≡ true) (pl : Proper (s .list)) where
     -- with nothing left
     drained-end : Good n call s (drained s end) (handOn (rust n s (holding s) [] []) [])
@@ -47,7 +43,6 @@ module _ (n : Registration) (out : List ℕ) (s : Session) where
     drained-end =
         good-same n call s (drained s end) _ counted refl
         (record {
-          size = full;
           unmarked = unmarked;
           counted = counted;
           state =
@@ -67,10 +62,8 @@ module _ (n : Registration) (out : List ℕ) (s : Session) where
         })
     unfolding drained
     drained-entry i d l e =
-        good-same n call s (drained s (entry i d)) _ counted
-        (ap (λ k. replay (asReplay (s .topic) (getD (s .queue) k (s .baseline)) d)) (placed i))
+        good-same n call s (drained s (entry i d)) _ counted refl
         (record {
-          size = full;
           unmarked = unmarked;
           counted = counted;
           state = inr (record { registered = live; is = refl; left = append-nil l ∙ e; proper = pl });
@@ -99,7 +92,7 @@ module _ (n : Registration) (out : List ℕ) (s : Session) where
     drained-fair (inl d) u = absurd (false≢true (sym (d .registered) ∙ u))
     drained-fair (inr d) u = λ f.
         subst (λ x. Good n call s (drained s found) (rustStep x call)) (sym (d .is))
-        (live-drain (h .size) (h .unmarked) (h .counted) (d .registered) (d .proper) (c .taken ++ c .session .replayed-updates) (d .left) found refl)
+        (live-drain (h .unmarked) (h .counted) (d .registered) (d .proper) (c .taken ++ c .session .replayed-updates) (d .left) found refl)
 
     idle-fair : Idle n s c ⊎ Live n s c → s .state .registered ≡ false
         → Fair n call s (record { reply = session.nothing; next = s .state; writes = [] }) (rustStep c call)

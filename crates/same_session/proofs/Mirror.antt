@@ -4,7 +4,7 @@
 -- is to be shown of a call's result (`Good`, and `Fair` where ours do not refuse); refusals (`refuse-fair`, `plain-fair`); tests that both
 -- sides make (`both`, `through`, `floors`, `contents`).
 -- Assumes nothing.
-use Prim.Native.Nat.{ℕ, _-_, _/_}
+use Prim.Native.Nat.{ℕ}
 use mathlib.Core.Path.{_≡_, refl, ap, ap₂, sym, _∙_, subst}
 use mathlib.Core.Bool.{Bool, true, false, cond, false≢true, true≢false}
 use mathlib.Core.List.{List, [], _++_, map}
@@ -22,7 +22,7 @@ use Rattle.packed.specs.Assignment.{slotSize, sizeAssignment}
 use Rattle.delta.specs.Join.{Proper}
 use Rattle.content.specs.Content as content
 use Rattle.content.specs.Content.{Content, contentBy}
-use Rattle.content.proofs.EachLaws.{Each}
+use Rattle.keyed.proofs.EachLaws.{Each}
 use Rattle.session.specs.declared.Floor.{Floor}
 use Rattle.session.specs.declared.Floor.the-variants.{Unset, At}
 use Rattle.session.specs.Session as session
@@ -40,7 +40,7 @@ use Rattle.magnetar.specs.Session.{AssignmentReplay, ScalableConsumerSession, D
 use Rattle.same_names.specs.Agree.{isMarked}
 use Rattle.same_session.specs.Paper.{paper, textOf}
 use Rattle.same_session.specs.Values.{asAssignment, asDelta, asReplay, asFloor, replays}
-use Rattle.same_session.specs.Demand.{fullSize, Told, refuses, baseline, done, no-change, delta, replay, Shown, textBeside, Caller}
+use Rattle.same_session.specs.Demand.{Told, refuses, baseline, done, no-change, delta, replay, Shown, textBeside, Caller}
 use Rattle.same_session.specs.Demand.{Turn, refusing, ours}
 use Rattle.same_session.proofs.Verdicts.{verdict, ok-err, Agreed}
 use Rattle.same_session.proofs.ReplayAgrees.{Registration, sess, Plain}
@@ -48,16 +48,12 @@ use Rattle.same_session.proofs.OursLaws.{Ours, Theirs, OursOrTheirs}
 
 -- ---- what a session in values shows, behind a call with that reply
 
--- the entry of the queue at a byte place of the store
-abbrev pub entryAt : Session → ℕ → port.ConsumerAssignment
-entryAt s place = getD (s .queue) (place / 2048 - 3) (s .baseline)
-
 abbrev pub toldIn : Call → Reply → Session → Told
 toldIn c (session.refused x) s = refuses x (textBeside c x)
 toldIn c session.accepted s = cond (isResponse c) (baseline (asAssignment (s .topic) (s .baseline))) done
 toldIn c session.nothing s = no-change
 toldIn c (session.changed d) s = delta (asDelta (s .topic) d)
-toldIn c (session.replayed place d) s = replay (asReplay (s .topic) (entryAt s place) d)
+toldIn c (session.replayed index place d) s = replay (asReplay (s .topic) (getD (s .queue) index (s .baseline)) d)
 
 abbrev pub shownIn : Call → Reply → Session → Shown
 shownIn c reply s =
@@ -73,11 +69,11 @@ shownIn c reply s =
     }
 
 abbrev pub oursIn : Reply → Bool
-oursIn (session.refused x) = ours (numberOf x)
+oursIn (session.refused x) = ours x
 oursIn session.accepted = false
 oursIn session.nothing = false
 oursIn (session.changed d) = false
-oursIn (session.replayed place d) = false
+oursIn (session.replayed index place d) = false
 
 -- ---- the Rust's session beside it
 
@@ -109,7 +105,6 @@ pub record Live (n : Registration) (s : Session) (c : Caller) : Type 0 where
   pub proper : Proper (s .list)
 
 pub record Mirror (n : Registration) (s : Session) (c : Caller) : Type 0 where
-  pub size : s .size ≡ fullSize
   -- the Rust is compared on the parent
   pub unmarked : isMarked (s .topic) ≡ false
   pub counted : length (s .queue) ≡ s .state .«queue_count»

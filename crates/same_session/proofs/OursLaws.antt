@@ -36,7 +36,7 @@ use Rattle.same_session.specs.Demand.{ours}
 
 -- a refusal for a reason of this port's own
 abbrev pub Ours : Refusal → Type 0
-Ours x = ours (numberOf x) ≡ true
+Ours x = ours x ≡ true
 
 -- ---- 3 to 7
 
@@ -50,7 +50,7 @@ fault-ours = fault-if Ours refl refl refl refl refl
 
 abbrev pub Theirs : Option Refusal → Type 0
 Theirs none = Unit {0}
-Theirs (some x) = (ours (numberOf x) ≡ false) × (eqb (numberOf x) 16 ≡ false)
+Theirs (some x) = (ours x ≡ false) × (eqb (numberOf x) 16 ≡ false)
 
 -- ours, or theirs
 abbrev pub OursOrTheirs : Option Refusal → Type 0

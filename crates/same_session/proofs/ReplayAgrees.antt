@@ -24,7 +24,7 @@ use Rattle.packed.proofs.EqualLaws.{assignment-eq}
 use Rattle.delta.specs.Delta as port-delta
 use Rattle.delta.specs.Change.{deltaBetween}
 use Rattle.delta.specs.Join.{Proper}
-use Rattle.content.proofs.EachLaws.{Each}
+use Rattle.keyed.proofs.EachLaws.{Each}
 use Rattle.session.specs.declared.Floor.{Floor}
 use Rattle.session.specs.declared.Floor.the-variants.{Unset, At}
 use Rattle.session.specs.Session.{raise}

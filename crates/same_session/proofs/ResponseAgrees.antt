@@ -26,7 +26,7 @@ use Rattle.packed.specs.Assignment as port
 use Rattle.delta.specs.Join.{Proper}
 use Rattle.content.specs.Content as content
 use Rattle.content.specs.Content.{firstRefusal, consumerAssignment, contentOf}
-use Rattle.content.proofs.EachLaws.{Each}
+use Rattle.keyed.proofs.EachLaws.{Each}
 use Rattle.session.specs.declared.Floor.{Floor}
 use Rattle.session.specs.Store.{minStore}
 use Rattle.session.specs.Session as session
@@ -139,7 +139,6 @@ module _ (n : Registration) (message : List ℕ) (link : ControllerIncarnation) 
       accepted : staleFault b q ≡ none → Mirror n (withQueue s (register s b last) q) (record { session = finished; taken = [] })
       accepted e =
           record {
-            size = h .size;
             unmarked = h .unmarked;
             counted = counted;
             state =

@@ -1,18 +1,20 @@
 -- A call: all of them (`fair-call`); sessions that are alike show the same (`shown-agrees`); and what record and store show as bytes is
 -- what the session in values shows (`bytes-show`).
 -- Assumes nothing.
-use Prim.Native.Nat.{ℕ, zero, suc, _+_, _<_}
+use Prim.Native.Nat.{ℕ, _<_}
 use native.Mathlib.Omega.{arith}
-use mathlib.Core.Path.{_≡_, refl, ap, ap₂, sym, _∙_}
+use mathlib.Core.Path.{_≡_, refl, ap, ap₂, sym, _∙_, subst}
 use mathlib.Core.Bool.{Bool, true, cond}
 use mathlib.Core.List.{List, [], map}
 use mathlib.Core.Logic.{_⊎_, inl, inr}
 use mathlib.Core.Option.{some, none, Option·map}
-use lib.ListN.{length, getD}
+use lib.ListN.{length, drop, getD}
+use lib.Seq.{take-at}
 use lib.Dec.{ltb}
 use Rattle.packed.specs.Assignment as port
 use Rattle.session.specs.declared.SessionRecord.{SessionRecord}
-use Rattle.session.specs.Store.{slot, listIn, listsIn, writeAll}
+use Rattle.packed_queue.proofs.EntryLaws.{length-entriesOf}
+use Rattle.session.specs.Store.{listIn, queueIn, writeAll}
 use Rattle.session.specs.Session as session
 use Rattle.session.specs.Session.{Session, Reply, view}
 use Rattle.session.specs.Drain.{Found, end, entry, nextChange, placeOf, drained}
@@ -20,17 +22,17 @@ use Rattle.session.specs.Calls.{answerOf, outputOf, effectOf}
 use Rattle.session.specs.Trace.{Call, update, response, drain, begin, invalidate}
 use Rattle.session.proofs.Model.{resultOf, after}
 use Rattle.session.proofs.CallLaws.{update-cases, response-cases, drain-cases}
-use Rattle.session.proofs.SlotLaws.{length-lists}
-use Rattle.session.proofs.ViewLaws.{FitReply, Follows}
+use Rattle.session.proofs.SlotLaws.{queued-sheet}
+use Rattle.session.proofs.ViewLaws.{Kept, FitReply, Follows}
 use Rattle.session.proofs.TraceLaws.{delta-back, outOf}
 use Rattle.keyed.proofs.KeyedLaws.{choose}
 use Rattle.same_session.specs.Values.{asAssignment, asDelta, asReplay, asFloor, replays}
 use Rattle.same_session.specs.Demand.{Told, delta, replay, Shown, topicIn, sheetAt, toldBy, portShown, Caller, Turn, rustStep, rustShown}
 use Rattle.same_session.proofs.ReplayAgrees.{Registration, Next, replays-entry}
-use Rattle.same_session.proofs.Mirror.{entryAt, toldIn, shownIn, Idle, Live, Mirror, Good, Fair}
+use Rattle.same_session.proofs.Mirror.{toldIn, shownIn, Idle, Live, Mirror, Good, Fair}
 use Rattle.same_session.proofs.UpdateAgrees.{fair-update}
 use Rattle.same_session.proofs.ResponseAgrees.{fair-response}
-use Rattle.same_session.proofs.DrainAgrees.{placed, fair-drain}
+use Rattle.same_session.proofs.DrainAgrees.{fair-drain}
 use Rattle.same_session.proofs.LinkAgrees.{fair-begin, fair-invalidate}
 
 pub fair-call : (n : Registration) (w : Call) (s : Session) (c : Caller) → Mirror n s c → Fair n w s (resultOf s w) (rustStep c w)
@@ -85,16 +87,16 @@ shown-agrees n w s x y g = go (g .mirror .state)
 -- ---- on bytes
 
 -- a replay's place is that of an entry of the queue
-abbrev Placed : ℕ → Reply → Type 0
-Placed count (session.refused x) = Unit {0}
-Placed count session.accepted = Unit {0}
-Placed count session.nothing = Unit {0}
-Placed count (session.changed d) = Unit {0}
-Placed count (session.replayed place d) = (i : ℕ) × (place ≡ placeOf i) × (i < count)
+abbrev Placed : List port.ConsumerAssignment → Reply → Type 0
+Placed queue (session.refused x) = Unit {0}
+Placed queue session.accepted = Unit {0}
+Placed queue session.nothing = Unit {0}
+Placed queue (session.changed d) = Unit {0}
+Placed queue (session.replayed index place d) = (place ≡ placeOf queue index) × (index < length queue)
 
 module _ (s : Session) (counted : length (s .queue) ≡ s .state .«queue_count») where
   abbrev PlacedIn : session.Result → Type 0
-  PlacedIn x = Placed (x .next .«queue_count») (x .reply)
+  PlacedIn x = Placed (after s x .queue) (x .reply)
 
   placed-found : (f : Found) → nextChange 0 (s .baseline) (s .queue) (s .state .«drain_position») ≡ f → PlacedIn (drained s f)
   unfolding drained
@@ -102,7 +104,8 @@ module _ (s : Session) (counted : length (s .queue) ≡ s .state .«queue_count�
   placed-found (entry j d) e =
       let h : Next [] (s .baseline) 0 (s .baseline) (s .queue) (s .state .«drain_position») j d =
       replays-entry [] (s .baseline) 0 (s .baseline) (s .queue) (s .state .«drain_position») j d e in
-      (j, refl, omega (arith, h .at, h .inside))
+      subst (λ q. Placed q (session.replayed j (placeOf (s .queue) j) d)) (sym (take-at (s .queue) [] (s .state .«queue_count») counted))
+      (refl, omega (arith, h .at, h .inside))
 
   placed-call : (w : Call) → PlacedIn (resultOf s w)
   placed-call (update message link out) =
@@ -114,44 +117,35 @@ module _ (s : Session) (counted : length (s .queue) ≡ s .state .«queue_count�
   placed-call (begin link) = choose PlacedIn (ltb (s .state .incarnation .0) (link .0)) (λ t. tt) (λ t. tt)
   placed-call invalidate = tt
 
-lists-get : (st : List ℕ) (k n i : ℕ) (z : port.ConsumerAssignment) → i < n → getD (listsIn st k n) i z ≡ listIn st (k + i)
-unfolding listsIn
-lists-get st k zero i z h = absurd (omega arith)
-lists-get st k (suc n) zero z h = let e : k ≡ k + 0 = omega arith in ap (listIn st) e
-lists-get st k (suc n) (suc i) z h =
-    let e : suc k + i ≡ k + suc i = omega arith in lists-get st (suc k) n i z (omega arith) ∙ ap (listIn st) e
+pub view-counted : (r : SessionRecord) (st : List ℕ) → length (view r st .queue) ≡ view r st .state .«queue_count»
+unfolding view queueIn
+view-counted r st = length-entriesOf (r .«queue_count») (drop 6144 st)
 
--- the list at an entry's byte place
-sheet-entry : (r : SessionRecord) (st : List ℕ) (i : ℕ) → i < r .«queue_count» → sheetAt st (placeOf i) ≡ entryAt (view r st) (placeOf i)
-unfolding view listIn slot
-sheet-entry r st i h =
-    sym (ap (λ k. getD (listsIn st 3 (r .«queue_count»)) k (listIn st 1)) (placed i) ∙ lists-get st 3 (r .«queue_count») i (listIn st 1) h)
+module _ (r : SessionRecord) (st : List ℕ) (k : Kept r st) (w : Call) (out : List ℕ) where
+  -- the list at an entry's byte place
+  sheet-entry : (i : ℕ) → i < length (view r st .queue) → sheetAt st (placeOf (view r st .queue) i) ≡ getD (view r st .queue) i (view r st .baseline)
+  unfolding view
+  sheet-entry i h = queued-sheet st (r .«queue_count») (k .queue) i (listIn st 1) h
 
-module _ (r : SessionRecord) (st : List ℕ) (w : Call) (out : List ℕ) where
   -- an answer and an output tell what the reply tells
-  told-is : (x : Reply) → FitReply x → Placed (r .«queue_count») x → toldBy w (answerOf x) st (outputOf x out) ≡ toldIn w x (view r st)
+  told-is : (x : Reply) → FitReply x → Placed (view r st .queue) x → toldBy w (answerOf x) st (outputOf x out) ≡ toldIn w x (view r st)
   unfolding view
   told-is (session.refused x) f p = refl
   told-is session.accepted f p = refl
   told-is session.nothing f p = refl
   told-is (session.changed d) f p = ap (λ x. delta (asDelta (topicIn st) x)) (delta-back d out f)
-  told-is (session.replayed place d) f p =
-      ap₂ (λ a x. replay (asReplay (topicIn st) a x))
-      (ap (sheetAt st) (p .1) ∙ sheet-entry r st (p .0) (p .2) ∙ ap (entryAt (view r st)) (sym (p .1))) (delta-back d out f)
-
-pub view-counted : (r : SessionRecord) (st : List ℕ) → length (view r st .queue) ≡ view r st .state .«queue_count»
-unfolding view
-view-counted r st = length-lists st 3 (r .«queue_count»)
+  told-is (session.replayed index place d) f p =
+      ap₂ (λ a x. replay (asReplay (topicIn st) a x)) (ap (sheetAt st) (p .0) ∙ sheet-entry index (p .1)) (delta-back d out f)
 
 -- a result as bytes shows what the record and the store show when they are read
-result-shows : (st : List ℕ) (w : Call) (out : List ℕ) (x : session.Result) → FitReply (x .reply)
-    → Placed (x .next .«queue_count») (x .reply)
+result-shows : (st : List ℕ) (w : Call) (out : List ℕ) (x : session.Result) → Kept (x .next) (writeAll (x .writes) st) → FitReply (x .reply)
+    → Placed (view (x .next) (writeAll (x .writes) st) .queue) (x .reply)
     → portShown w (effectOf x st out) ≡ shownIn w (x .reply) (view (x .next) (writeAll (x .writes) st))
 unfolding view
-result-shows st w out x f p = λ i.
+result-shows st w out x k f p = λ i.
     let s = view (x .next) (writeAll (x .writes) st) in
     record {
-      told = told-is (x .next) (writeAll (x .writes) st) w out (x .reply) f p i;
+      told = told-is (x .next) (writeAll (x .writes) st) k w out (x .reply) f p i;
       assignment = shownIn w (x .reply) s .assignment;
       epoch-floor = shownIn w (x .reply) s .epoch-floor;
       incarnation = shownIn w (x .reply) s .incarnation;
@@ -166,4 +160,6 @@ pub bytes-show : (r : SessionRecord) (st : List ℕ) (w : Call) → Follows r st
     ≡ shownIn w (resultOf (view r st) w .reply) (after (view r st) (resultOf (view r st) w))
 bytes-show r st w f =
     let x : session.Result = resultOf (view r st) w in
-    result-shows st w (outOf w) x (f .reply) (placed-call (view r st) (view-counted r st) w) ∙ ap (shownIn w (x .reply)) (f .session)
+    let p : Placed (view (x .next) (writeAll (x .writes) st) .queue) (x .reply) =
+    subst (λ (s : Session). Placed (s .queue) (x .reply)) (sym (f .session)) (placed-call (view r st) (view-counted r st) w) in
+    result-shows st w (outOf w) x (f .kept) (f .reply) p ∙ ap (shownIn w (x .reply)) (f .session)

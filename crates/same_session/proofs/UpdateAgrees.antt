@@ -3,15 +3,15 @@
 -- Assumes nothing.
 use Prim.Native.Nat.{ℕ, _+_}
 use native.Mathlib.Omega.{arith}
-use mathlib.Core.Path.{_≡_, refl, ap, ap₂, sym, _∙_, subst}
+use mathlib.Core.Path.{_≡_, refl, ap, sym, _∙_, subst}
 use mathlib.Core.Bool.{Bool, true, false, cond, not, false≢true, true≢false}
 use mathlib.Core.List.{List, [], _∷_, _++_, map}
 use mathlib.Core.Logic.{_⊎_, inl, inr}
 use mathlib.Core.Option.{Option, none}
-use lib.ListN.{length, take, length-append}
+use lib.ListN.{length, length-append}
 use lib.Seq.{take-all}
 use lib.Dec.{eqb, ltb}
-use borrow.Author.Tests.{lt-ltb, le-ltb}
+use borrow.Author.Tests.{le-ltb}
 use Rattle.types.specs.declared.ControllerIncarnation.{ControllerIncarnation}
 use Rattle.refusal.specs.declared.Refusal.the-variants as refusal
 use Rattle.schema.specs.declared.MessageKind.the-variants.{CommandScalableTopicAssignmentUpdate}
@@ -26,10 +26,11 @@ use Rattle.packed.proofs.EqualLaws.{assignment-eq}
 use Rattle.delta.specs.Join.{Proper}
 use Rattle.content.specs.Content as content
 use Rattle.content.specs.Content.{firstRefusal, consumerAssignment, contentOf}
-use Rattle.content.proofs.EachLaws.{Each, each-append}
+use Rattle.keyed.proofs.EachLaws.{Each, each-append}
 use Rattle.content.proofs.SoundLaws.{length-map}
 use Rattle.session.specs.declared.Floor.{Floor}
-use Rattle.session.specs.Store.{minStore, minOutput, listSlot, queueSlot, depthOf}
+use Rattle.packed_queue.specs.Entries.{sizeEntry}
+use Rattle.session.specs.Store.{minStore, minOutput, maxQueue, queueEnd}
 use Rattle.session.specs.Session as session
 use Rattle.session.specs.Session.{Session, damaged}
 use Rattle.session.specs.Update.{enqueue, hold, updateUnregistered, updateRegistered, updateContent, updateValid, updateChecked, updateCall}
@@ -42,10 +43,10 @@ use Rattle.magnetar.specs.Session.{AssignmentDelta, AssignmentReplay, ScalableC
 use Rattle.magnetar.specs.Session.{change, with-buffered-updates, enforce-epoch-floor, apply-incoming, MAX-BUFFERED-ASSIGNMENT-UPDATES}
 use Rattle.magnetar.specs.Session.{is-none, handle-assignment-update-for}
 use Rattle.same_session.specs.Values.{asAssignment, asFloor, replays}
-use Rattle.same_session.specs.Demand.{fullSize, Caller, afterUpdate, rustUpdate, rustStep}
+use Rattle.same_session.specs.Demand.{Caller, afterUpdate, rustUpdate, rustStep}
 use Rattle.same_session.proofs.ContentAgrees.{content-agrees}
 use Rattle.same_session.proofs.ReplayAgrees.{Registration, sess, apply-stale, apply-same, apply-new}
-use Rattle.same_session.proofs.OursLaws.{OursIf, either-content, fault-ours}
+use Rattle.same_session.proofs.OursLaws.{Ours, OursIf, either-content, fault-ours}
 use Rattle.same_session.proofs.Mirror.{rust, caller, holding, Idle, Live, Mirror, Fair, mirror-still, withQueue, mirror-same}
 use Rattle.same_session.proofs.Mirror.{refuse-fair, plain-fair, both, through, floors, contents}
 
@@ -77,9 +78,9 @@ map-snoc : {A B : Type 0} (f : A → B) (l : List A) (x : A) → map f l ++ (f x
 map-snoc f [] x = refl
 map-snoc f (y ∷ l) x = ap (f y ∷_) (map-snoc f l x)
 
-pub full-depth : (size : ℕ) → size ≡ fullSize → depthOf size ≡ 1024
-unfolding depthOf
-full-depth size e = rw e
+-- a push that does not fit is refused for a reason of ours
+no-room : (count : ℕ) → eqb count maxQueue ≡ false → Ours (refusal.PreBaselineBufferFull count)
+no-room count e = ap not e
 
 module _ (n : Registration) (message : List ℕ) (link : ControllerIncarnation) (out : List ℕ) (s : Session) where
   abbrev call : Call
@@ -107,8 +108,7 @@ module _ (n : Registration) (message : List ℕ) (link : ControllerIncarnation) 
       → after s (enqueue s a) .queue ≡ s .queue ++ (a ∷ [])
   joined a e =
       let m = s .state .«queue_count» in
-      ap (λ b. take (m + 1) (s .queue ++ cond b (a ∷ []) [])) (lt-ltb listSlot (queueSlot m) (omega arith))
-      ∙ take-all (m + 1) (s .queue ++ (a ∷ [])) (omega (arith, e, length-append (s .queue) (a ∷ [])))
+      take-all (m + 1) (s .queue ++ (a ∷ [])) (omega (arith, e, length-append (s .queue) (a ∷ [])))
 
   module _ (idle : s .state .registered ≡ false) (each : Each Proper (s .queue)) (h : Mirror n s (caller n s none (s .queue) [] []))
       (a : port.ConsumerAssignment) (pa : Proper a) where
@@ -124,7 +124,6 @@ module _ (n : Registration) (message : List ℕ) (link : ControllerIncarnation) 
     queued : Mirror n (behind longer) (caller n (behind longer) none longer [] [])
     queued =
         record {
-          size = h .size;
           unmarked = h .unmarked;
           counted = omega (arith, h .counted, length-append (s .queue) (a ∷ []));
           state = inl (record { registered = idle; is = refl; proper = each-append Proper (s .queue) (a ∷ []) each (pa, tt) });
@@ -151,12 +150,14 @@ module _ (n : Registration) (message : List ℕ) (link : ControllerIncarnation) 
         (λ u. absurd (false≢true (sym idle ∙ u))) (λ u.
         floors (Updates []) (a .layoutEpoch) floor s before _ (λ x. queueing before (theirs a))
         (λ x y p. plain-fair n call s x y (caller n s none (s .queue) [] []) p h) (λ e.
-        both (Updates []) (eqb (s .state .«queue_count») (depthOf (s .size))) (eqb (length (before .buffered-updates)) 1024)
-        (ap₂ eqb (sym (length-map theirs (s .queue) ∙ h .counted)) (full-depth (s .size) (h .size)))
+        both (Updates []) (eqb (s .state .«queue_count») maxQueue) (eqb (length (before .buffered-updates)) 1024)
+        (ap (λ (m : ℕ). eqb m 1024) (sym (length-map theirs (s .queue) ∙ h .counted)))
         (fail (PreBaselineBufferFull 1024)) (pushing before (theirs a)) before
-        (λ v. refuse-fair n call s (refusal.PreBaselineBufferFull (depthOf (s .size))) (PreBaselineBufferFull 1024)
-        (caller n s none (s .queue) [] []) (ap refusal.PreBaselineBufferFull (sym (full-depth (s .size) (h .size)))) refl h)
-        (λ v. enqueue-fair)))
+        (λ v. refuse-fair n call s (refusal.PreBaselineBufferFull maxQueue) (PreBaselineBufferFull 1024)
+        (caller n s none (s .queue) [] []) refl refl h)
+        (λ v.
+        choose (λ x. Updates [] x (pushing before (theirs a) before)) (ltb (s .size) (queueEnd (s .queue) + sizeEntry a))
+        (λ w f. absurd (true≢false (sym (no-room (s .state .«queue_count») v) ∙ f))) (λ w. enqueue-fair))))
 
   module _ (live : s .state .registered ≡ true) (pl : Proper (s .list)) (r t : List AssignmentReplay)
       (left : t ++ r ≡ replays (s .topic) (s .baseline) (s .queue) (s .state .«drain_position»))
@@ -195,7 +196,6 @@ module _ (n : Registration) (message : List ℕ) (link : ControllerIncarnation) 
           mirror =
               mirror-same n s (hold s a) _ (h .counted)
               (record {
-                size = h .size;
                 unmarked = h .unmarked;
                 counted = h .counted;
                 state = inr (record { registered = live; is = refl; left = left; proper = pa });

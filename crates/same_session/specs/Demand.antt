@@ -1,5 +1,6 @@
 -- Demand 2: "For every run of messages that document 01's reader takes, on a full-size store and where none of the refusals that 01 names
--- as ours is due, answers, refusals and lists equal those of the Rust on the same bytes."
+-- as ours is due, answers, refusals and lists equal those of the Rust on the same bytes." By 02 j the store may have any size, and "we compare
+-- runs whose pushes all fit".
 --
 -- A run is a list of calls; what it shows is a list too, of what is seen after each call (`Shown`), in the Rust's types on both sides. The
 -- port's run (`portRun`) goes by the definitions that the programs' contracts cite, on the bytes of record and store; the Rust's
@@ -10,16 +11,17 @@
 -- Three statements, each proved in proofs/: `DemandTwoFed` has no other condition, and feeds the Rust the calls that none of ours refuses;
 -- `DemandTwo` is 01's wording; `DemandTwoOfInputs` says when none of ours is due, by the inputs alone.
 -- Assumes nothing.
-use Prim.Native.Nat.{ℕ}
+use Prim.Native.Nat.{ℕ, _+_, _*_, _≤_}
 use mathlib.Core.Path.{_≡_}
 use mathlib.Core.Bool.{Bool, true, false, cond, not, _&&_, _||_}
 use mathlib.Core.List.{List, [], _∷_, _++_, map}
 use mathlib.Core.Option.{Option, some, none, Option·map}
-use lib.ListN.{length, take, drop}
+use lib.ListN.{length, take, drop, getD}
+use lib.IntN.{pos, natAbs}
 use lib.Dec.{eqb, leb}
 use Rattle.types.specs.declared.ControllerIncarnation.{ControllerIncarnation}
 use Rattle.refusal.specs.declared.Refusal.{Refusal}
-use Rattle.refusal.specs.Refusals.{numberOf}
+use Rattle.refusal.specs.Refusals.{numberOf, valuesOf}
 use Rattle.schema.specs.declared.MessageKind.the-variants.{CommandScalableTopicAssignmentUpdate, CommandScalableTopicSubscribeResponse}
 use Rattle.schema.specs.declared.Checked.{Checked}
 use Rattle.schema.specs.declared.Checked.the-variants as checked
@@ -33,7 +35,7 @@ use Rattle.content.specs.Content.{firstRefusal, consumerAssignment}
 use Rattle.session.specs.declared.SessionRecord.{SessionRecord}
 use Rattle.session.specs.declared.Answer.{Answer}
 use Rattle.session.specs.declared.Answer.the-variants.{Refused, Accepted, Unchanged, Delta, Replay}
-use Rattle.session.specs.Store.{minOutput, identitySlot, baselineSlot, queueSlot, slot, listIn, listsIn}
+use Rattle.session.specs.Store.{minStore, minOutput, maxQueue, identitySlot, baselineSlot, slot, listIn, queueIn}
 use Rattle.session.specs.Identity.{topicOf, subscriptionOf, consumerNameOf, kindOf, isIdentity}
 use Rattle.session.specs.Calls.{Outcome}
 use Rattle.session.specs.Trace.{Call, update, response, drain, begin, invalidate, stepOf}
@@ -47,10 +49,6 @@ use Rattle.magnetar.specs.Session.{begin-incarnation, invalidate-authority, han
 use Rattle.same_names.specs.Agree.{isMarked}
 use Rattle.same_session.specs.Paper.{paper, textOf}
 use Rattle.same_session.specs.Values.{asAssignment, asDelta, asReplay, asFloor, asType, replays}
-
--- "Full size is 2,103,296 bytes."
-abbrev pub fullSize : ℕ
-fullSize = 2103296
 
 -- ---- what is seen after a call
 
@@ -103,9 +101,6 @@ toldBy c Unchanged store out = no-change
 toldBy c (Delta n) store out = delta (asDelta (topicIn store) (deltaOf (take n out)))
 toldBy c (Replay place n) store out = replay (asReplay (topicIn store) (sheetAt store place) (deltaOf (take n out)))
 
-abbrev pub queueIn : SessionRecord → List ℕ → List port.ConsumerAssignment
-queueIn r store = listsIn store (queueSlot 0) (r .«queue_count»)
-
 abbrev pub portShown : Call → Outcome → Shown
 portShown c x =
     record {
@@ -115,10 +110,10 @@ portShown c x =
       incarnation = x .next .incarnation;
       registered = x .next .registered;
       invalidated = x .next .invalidated;
-      waiting = cond (x .next .registered) [] (map (asAssignment (topicIn (x .store))) (queueIn (x .next) (x .store)));
+      waiting = cond (x .next .registered) [] (map (asAssignment (topicIn (x .store))) (queueIn (x .store) (x .next .«queue_count»)));
       undrained =
           cond (x .next .registered)
-          (replays (topicIn (x .store)) (listIn (x .store) baselineSlot) (queueIn (x .next) (x .store)) (x .next .«drain_position»)) [];
+          (replays (topicIn (x .store)) (listIn (x .store) baselineSlot) (queueIn (x .store) (x .next .«queue_count»)) (x .next .«drain_position»)) [];
     }
 
 abbrev pub portRun : SessionRecord → List ℕ → List Call → List Shown
@@ -211,14 +206,24 @@ opened r store =
       taken = [];
     }
 
--- ---- "Ours, due in these cases only: 1 to 8, 15, 20 to 22, 30, 31."; and 34 (02 e: "The Rust accepts it, so runs in which 34 is due are not
--- compared with it")
+-- ---- "Ours, due in these cases only: 1 to 8, 15, 20 to 22, 30, 31."; 34 (02 e: "The Rust accepts it, so runs in which 34 is due are not
+-- compared with it"); and 28 where length and list do not fit the free end, which its max tells: "1,024 or the number queued" (02 j)
 
-abbrev pub ours : ℕ → Bool
-ours n = (leb 1 n && leb n 8) || (eqb n 15 || ((leb 20 n && leb n 22) || (eqb n 30 || (eqb n 31 || eqb n 34))))
+abbrev pub oursByNumber : ℕ → Bool
+oursByNumber n = (leb 1 n && leb n 8) || (eqb n 15 || ((leb 20 n && leb n 22) || (eqb n 30 || (eqb n 31 || eqb n 34))))
+
+-- the first attached number
+abbrev pub firstValue : Refusal → ℕ
+firstValue x = natAbs (getD (valuesOf x) 0 (pos 0))
+
+abbrev pub noRoom : Refusal → Bool
+noRoom x = eqb (numberOf x) 28 && not (eqb (firstValue x) maxQueue)
+
+abbrev pub ours : Refusal → Bool
+ours x = oursByNumber (numberOf x) || noRoom x
 
 abbrev pub isOurs : Answer → Bool
-isOurs (Refused x) = ours (numberOf x)
+isOurs (Refused x) = ours x
 isOurs Accepted = false
 isOurs Unchanged = false
 isOurs (Delta n) = false
@@ -244,53 +249,63 @@ fedShown r store (c ∷ cs) =
 
 -- ---- the inputs of a call on which none of ours is due
 
--- an assignment that is refused for its content, by one of 9 to 14, or fits a slot
+-- an assignment that is refused for its content, by one of 9 to 14, or has at most so many bytes
 abbrev pub fitsBy : Option Refusal → Bool → Bool
-fitsBy none room = room
-fitsBy (some x) room = not (ours (numberOf x))
+fitsBy none short = short
+fitsBy (some x) short = not (ours x)
 
-abbrev pub fits : Text → WireAssignment → Bool
-fits parent a = fitsBy (firstRefusal parent [] (a .segments)) (leb (sizeAssignment (consumerAssignment a)) slotSize)
+abbrev pub fits : ℕ → Text → WireAssignment → Bool
+fits room parent a = fitsBy (firstRefusal parent [] (a .segments)) (leb (sizeAssignment (consumerAssignment a)) room)
 
 abbrev pub isTaken : Checked → Bool
 isTaken checked.Valid = true
 isTaken (checked.Refused x) = false
 
-abbrev pub roomy : Text → Call → Bool
-roomy parent (update message incarnation out) =
+-- pushes have room for so many bytes each
+abbrev pub roomy : ℕ → Text → Call → Bool
+roomy room parent (update message incarnation out) =
     leb minOutput (length out)
-    && (isTaken (firstFault CommandScalableTopicAssignmentUpdate message) && fits parent (updateOf message .assignment))
-roomy parent (response message incarnation) =
+    && (isTaken (firstFault CommandScalableTopicAssignmentUpdate message) && fits room parent (updateOf message .assignment))
+roomy room parent (response message incarnation) =
     isTaken (firstFault CommandScalableTopicSubscribeResponse message)
-    && (not (responseOf message .hasAssignment) || fits parent (responseOf message .assignment))
-roomy parent (drain out) = leb minOutput (length out)
-roomy parent (begin incarnation) = true
-roomy parent invalidate = true
+    && (not (responseOf message .hasAssignment) || fits slotSize parent (responseOf message .assignment))
+roomy room parent (drain out) = leb minOutput (length out)
+roomy room parent (begin incarnation) = true
+roomy room parent invalidate = true
 
-abbrev pub allRoomy : Text → List Call → Bool
-allRoomy parent [] = true
-allRoomy parent (c ∷ cs) = roomy parent c && allRoomy parent cs
+abbrev pub allRoomy : ℕ → Text → List Call → Bool
+allRoomy room parent [] = true
+allRoomy room parent (c ∷ cs) = roomy room parent c && allRoomy room parent cs
+
+-- the least store in which 1,024 pushes of so many bytes each have room
+abbrev pub storeFor : ℕ → ℕ
+storeFor room = minStore + maxQueue * (2 + room)
 
 -- ---- the statements
 
 -- whatever is called: the Rust, fed the calls that none of ours refuses, shows after each what the port shows
 abbrev pub DemandTwoFed : Type 0
 DemandTwoFed =
-    (r : SessionRecord) → Fresh r → (store : List ℕ) → length store ≡ fullSize → isMarked (topicIn store) ≡ false
+    (r : SessionRecord) → Fresh r → (store : List ℕ) → isMarked (topicIn store) ≡ false
     → (calls : List Call) → AllOfBytes calls
     → fedShown r store calls ≡ rustRun (opened r store) (fedCalls r store calls)
 
 -- where none of ours is due
 abbrev pub DemandTwo : Type 0
 DemandTwo =
-    (r : SessionRecord) → Fresh r → (store : List ℕ) → length store ≡ fullSize → isMarked (topicIn store) ≡ false
+    (r : SessionRecord) → Fresh r → (store : List ℕ) → isMarked (topicIn store) ≡ false
     → (calls : List Call) → AllOfBytes calls
     → noneOurs r store calls ≡ true → portRun r store calls ≡ rustRun (opened r store) calls
 
 -- which is so by the inputs alone: with a well-formed identity, outputs of at least 3,210 bytes, messages that the reader takes, and
--- assignments that are refused for their content or fit a slot
+-- assignments that are refused for their content or are no longer than the store has room for. In a store of 01's full size, 2,103,296
+-- bytes, that is 2,046 bytes for each push; for the longest lists, of 2,048 bytes, it takes 2,105,344 (`Rooms`).
 abbrev pub DemandTwoOfInputs : Type 0
 DemandTwoOfInputs =
-    (r : SessionRecord) → Fresh r → (store : List ℕ) → length store ≡ fullSize → isMarked (topicIn store) ≡ false
-    → isIdentity (slot store identitySlot) ≡ true → (calls : List Call) → AllOfBytes calls → allRoomy (topicIn store) calls ≡ true
+    (r : SessionRecord) → Fresh r → (store : List ℕ) → isMarked (topicIn store) ≡ false
+    → isIdentity (slot store identitySlot) ≡ true → (room : ℕ) → room ≤ slotSize → storeFor room ≤ length store
+    → (calls : List Call) → AllOfBytes calls → allRoomy room (topicIn store) calls ≡ true
     → (noneOurs r store calls ≡ true) × (portRun r store calls ≡ rustRun (opened r store) calls)
+
+abbrev pub Rooms : Type 0
+Rooms = (storeFor 2046 ≡ 2103296) × (storeFor 2048 ≡ 2105344)

@@ -14,7 +14,7 @@ use mathlib.Core.Option.{Option, some, none, Option·map}
 use lib.Dec.{ltb}
 use lib.ListN.{length, take, length-append}
 use lib.Seq.{take-at, take-all}
-use borrow.Author.Tests.{ltb-false, lt-ltb}
+use borrow.Author.Tests.{ltb-false}
 use Rattle.types.specs.declared.ControllerIncarnation.{ControllerIncarnation}
 use Rattle.readers.specs.Messages.{updateOf, responseOf}
 use Rattle.keyed.specs.Keyed.{orElse}
@@ -27,10 +27,9 @@ use Rattle.delta.specs.Change.{deltaBetween}
 use Rattle.delta.specs.Join.{Proper, apply, applyAll}
 use Rattle.delta.proofs.DeltaLaws.{delta-law, delta-proper}
 use Rattle.delta.proofs.BracketLaws.{AllProper, applyAll-append, proper-append}
-use Rattle.content.proofs.EachLaws.{Each, each-append}
+use Rattle.keyed.proofs.EachLaws.{Each, each-append}
 use Rattle.session.specs.declared.Floor.{Floor}
 use Rattle.session.specs.declared.Floor.the-variants.{At}
-use Rattle.session.specs.Store.{listSlot, queueSlot}
 use Rattle.session.specs.Session.{Session, accepted, Result, floorFault, raise}
 use Rattle.session.specs.Update.{enqueue, hold}
 use Rattle.session.specs.Response.{staleFault, lastList, replayable, register}
@@ -188,8 +187,7 @@ module _ (message : List ℕ) (incarnation : ControllerIncarnation) (out : List 
   joined-queue : length (s .queue) ≡ s .state .«queue_count» → after s (enqueue s pushed) .queue ≡ s .queue ++ (pushed ∷ [])
   joined-queue e =
       let n = s .state .«queue_count» in
-      ap (λ b. take (n + 1) (s .queue ++ cond b (pushed ∷ []) [])) (lt-ltb listSlot (queueSlot n) (omega arith))
-      ∙ take-all (n + 1) (s .queue ++ (pushed ∷ [])) (omega (arith, e, length-append (s .queue) (pushed ∷ [])))
+      take-all (n + 1) (s .queue ++ (pushed ∷ [])) (omega (arith, e, length-append (s .queue) (pushed ∷ [])))
 
   keep-enqueue : Idle s o → KeptUpdate (enqueue s pushed)
   keep-enqueue h =

@@ -1,4 +1,4 @@
--- The session in values: what a call does to a session whose slots are read as assignments, without bytes. proofs/ carry demand 3 over this model to bytes.
+-- The session in values: what a call does to a session whose slots and queue are read as assignments, without bytes. proofs/ carry demand 3 over this model to bytes.
 -- Assumes nothing.
 use Prim.Native.Nat.{ℕ}
 use mathlib.Core.Bool.{Bool, true, false, cond}
@@ -10,7 +10,7 @@ use Rattle.types.specs.declared.ControllerIncarnation.{ControllerIncarnation}
 use Rattle.refusal.specs.declared.Refusal.the-variants.{NonAdvancingIncarnation}
 use Rattle.packed.specs.Assignment.{ConsumerAssignment}
 use Rattle.delta.specs.Delta.{AssignmentDelta}
-use Rattle.session.specs.Store.{baselineSlot, listSlot, Write}
+use Rattle.session.specs.Store.{baselineSlot, listSlot, Write, toSlot, push}
 use Rattle.session.specs.Session.{Session, Reply, refused, accepted, nothing, changed, replayed, Result, refuse}
 use Rattle.session.specs.Update.{updateCall}
 use Rattle.session.specs.Response.{responseCall}
@@ -41,12 +41,14 @@ resultOf s invalidate = invalidateCall s
 -- what slot k holds behind the writes
 abbrev pub inSlot : ℕ → List Write → ConsumerAssignment → ConsumerAssignment
 inSlot k [] a = a
-inSlot k (w ∷ ws) a = inSlot k ws (cond (eqb (w .slot) k) (w .assignment) a)
+inSlot k (toSlot j b ∷ ws) a = inSlot k ws (cond (eqb j k) b a)
+inSlot k (push place b ∷ ws) a = inSlot k ws a
 
 -- what the writes put behind the queue
 abbrev pub pushes : List Write → List ConsumerAssignment
 pushes [] = []
-pushes (w ∷ ws) = cond (ltb listSlot (w .slot)) (w .assignment ∷ pushes ws) (pushes ws)
+pushes (toSlot k a ∷ ws) = pushes ws
+pushes (push place a ∷ ws) = a ∷ pushes ws
 
 abbrev pub after : Session → Result → Session
 after s x =
@@ -67,21 +69,21 @@ accepts (refused x) = false
 accepts accepted = true
 accepts nothing = true
 accepts (changed d) = true
-accepts (replayed place d) = true
+accepts (replayed index place d) = true
 
 abbrev pub isNothing : Reply → Bool
 isNothing (refused x) = false
 isNothing accepted = false
 isNothing nothing = true
 isNothing (changed d) = false
-isNothing (replayed place d) = false
+isNothing (replayed index place d) = false
 
 abbrev pub handed : Reply → Option AssignmentDelta
 handed (refused x) = none
 handed accepted = none
 handed nothing = none
 handed (changed d) = some d
-handed (replayed place d) = some d
+handed (replayed index place d) = some d
 
 abbrev pub valueEvent : Session → Call → Event
 valueEvent s c =

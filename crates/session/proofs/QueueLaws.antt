@@ -19,7 +19,7 @@ use Rattle.delta.specs.Delta.{AssignmentDelta}
 use Rattle.delta.specs.Change.{deltaBetween}
 use Rattle.delta.specs.Join.{Proper}
 use Rattle.content.proofs.SoundLaws.{if-none}
-use Rattle.content.proofs.EachLaws.{Each}
+use Rattle.keyed.proofs.EachLaws.{Each}
 use Rattle.session.specs.declared.Floor.{Floor}
 use Rattle.session.specs.declared.Floor.the-variants.{Unset, At}
 use Rattle.session.specs.Session.{floorFault, raise}

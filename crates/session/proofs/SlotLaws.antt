@@ -1,27 +1,30 @@
--- Slots written and read.
+-- Slots and the queue, written and read.
 --
--- In order: a part of a store in which bytes were put (`part-same`, `part-before`, `part-behind`); a slot's length, and which slots lie
--- inside (`length-slot`, `depth-inside`); a slot behind a write (`length-written`, `slot-same`, `slot-other`, `list-same`, `starts-same`,
--- `list-written`); slots in a row (`length-lists`, `lists-same`, `lists-take`, `lists-snoc`, and the same for `allStart`), behind a write
--- before them (`lists-above`, `all-above`) or right behind them (`lists-push`, `all-push`).
+-- In order: a part of a store in which bytes were put (`part-same`, `part-before`, `part-behind`, `rest-behind`); a slot's length (`length-slot`); a slot behind bytes
+-- that were put into one (`put-same`, `put-other`) or behind the slots (`put-above`); a list written to a slot (`length-slotted`, `list-same`, `starts-same`,
+-- `list-other`, `starts-other`, `area-slotted`); the lists of the queue where they stand (`Queued`: `queued-lists` to `queued-sheet`), and one more
+-- (`push-length`, `queued-push`).
 -- Assumes nothing.
-use Prim.Native.Nat.{ℕ, zero, suc, _+_, _-_, _*_, _≤_, _<_}
+use Prim.Native.Nat.{ℕ, _+_, _-_, _*_, _≤_, _<_}
 use native.Mathlib.Omega.{arith}
-use mathlib.Core.Path.{_≡_, refl, sym, ap, ap₂, _∙_, subst}
+use mathlib.Core.Path.{_≡_, refl, sym, ap, _∙_, subst}
 use mathlib.Core.Logic.{_≢_}
-use mathlib.Core.Bool.{Bool, true, false, cond, _&&_}
+use mathlib.Core.Bool.{Bool, true, false}
 use mathlib.Core.List.{List, [], _∷_, _++_, append-assoc}
-use lib.ListN.{length, take, drop, length-append, length-take, length-drop, take-append-drop}
-use lib.Seq.{length-take-le, take-append-le, drop-append-le, drop-append-add, take-append-add, drop-drop, drop-at}
-use lib.Dec.{eqb, ltb}
-use borrow.Author.Tests.{ltb-true, ltb-false, eqb-true, eqb-false, leb-true}
+use lib.ListN.{length, take, drop, getD, length-append, length-take, length-drop, take-append-drop}
+use lib.Seq.{length-take-le, take-append-le, drop-append-le, drop-append-add, take-append-add, drop-drop, drop-at, take-at, take-add, take-all}
+use lib.Dec.{ltb}
+use borrow.Author.Tests.{ltb-true, ltb-false, leb-true}
 use Rattle.ranges.specs.Meaning.{both-true}
 use Rattle.packed_int.specs.Put.{put}
 use Rattle.packed_int.proofs.PutLaws.{length-put}
-use Rattle.packed.specs.Assignment.{ConsumerAssignment, encodeAssignment, assignmentOf, sizeAssignment, okAssignment, startsAssignment}
-use Rattle.packed.proofs.RoundLaws.{FitAssignment, length-encodeAssignment, read-assignment, starts-encode}
-use Rattle.keyed.proofs.KeyedLaws.{choose}
-use Rattle.session.specs.Store.{slot, depthOf, listIn, listsIn, allStart, Write, writeSlot}
+use Rattle.packed.specs.Assignment.{ConsumerAssignment, slotSize, encodeAssignment, assignmentOf, sizeAssignment, okAssignment, startsAssignment}
+use Rattle.packed.proofs.RoundLaws.{length-encodeAssignment, read-assignment, starts-encode}
+use Rattle.keyed.proofs.EachLaws.{Each, each-append}
+use Rattle.packed_queue.specs.Entries.{encodeEntry, encodeEntries, sizeEntry, sizeEntries, entriesOf}
+use Rattle.packed_queue.proofs.EntryLaws.{Packable, packable-size, length-encodeEntry, length-encodeEntries, encode-snoc}
+use Rattle.packed_queue.proofs.EntryLaws.{Row, row-none, row-read, row-start, row-front, row-sheet}
+use Rattle.session.specs.Store.{slot, listIn, queueIn, queueReads, queueEnd, toSlot, push, writeOne}
 
 -- ---- a part of a store in which bytes were put
 
@@ -60,16 +63,19 @@ part-behind a b n bytes st h l =
     ∙ drop-drop (b - (a + length bytes)) (a + length bytes) st
     ∙ ap (λ m. drop m st) back)
 
+-- all that is left behind them
+pub rest-behind : (a b : ℕ) (bytes st : List ℕ) → a + length bytes ≤ b → a + length bytes ≤ length st → drop b (put st a bytes) ≡ drop b st
+rest-behind a b bytes st h l =
+    let e : length (put st a bytes) ≡ length st = length-put st a bytes l in
+    let whole : (x : List ℕ) → length x ≡ length st → take (length st) (drop b x) ≡ drop b x =
+    λ x f. take-all (length st) (drop b x) (rw length-drop (omega arith)) in
+    sym (whole (put st a bytes) e) ∙ part-behind a b (length st) bytes st h (omega arith) ∙ whole st refl
+
 -- ---- slots inside the store
 
 pub length-slot : (st : List ℕ) (k : ℕ) → 2048 * k + 2048 ≤ length st → length (slot st k) ≡ 2048
 unfolding slot
 length-slot st k h = length-take-le 2048 (drop (2048 * k) st) (rw length-drop (omega arith))
-
--- the queue's slots within the depth
-pub depth-inside : (size count : ℕ) → count < depthOf size → 2048 * (3 + count) + 2048 ≤ size
-unfolding depthOf
-depth-inside size count h = omega arith
 
 -- ---- a slot behind bytes that were put into one
 
@@ -86,136 +92,148 @@ module _ (k : ℕ) (bytes st : List ℕ) (short : length bytes ≤ 2048) (inside
       go true t = part-before (2048 * k) (2048 * j) 2048 bytes st (omega (arith, ltb-true j k t)) (omega arith)
       go false t = part-behind (2048 * k) (2048 * j) 2048 bytes st (omega (arith, ltb-false j k t)) (omega arith)
 
--- ---- a slot behind a write
+-- a slot behind bytes that were put above it
+pub put-above : (place k : ℕ) (bytes st : List ℕ) → 2048 * k + 2048 ≤ place → place ≤ length st → slot (put st place bytes) k ≡ slot st k
+unfolding slot
+put-above place k bytes st h l = part-before place (2048 * k) 2048 bytes st h l
+
+-- ---- a list written to a slot
 
 pub size-ok : (a : ConsumerAssignment) → okAssignment a ≡ true → sizeAssignment a ≤ 2048
 unfolding okAssignment
 size-ok a o = leb-true _ _ (both-true _ _ o .0)
 
-module _ (w : Write) (st : List ℕ) (f : FitAssignment (w .assignment)) (o : okAssignment (w .assignment) ≡ true)
-    (inside : 2048 * w .slot + 2048 ≤ length st) where
-  short : length (encodeAssignment (w .assignment)) ≤ 2048
-  short = omega (arith, length-encodeAssignment (w .assignment), size-ok (w .assignment) o)
+module _ (k : ℕ) (a : ConsumerAssignment) (st : List ℕ) (p : Packable a) (inside : 2048 * k + 2048 ≤ length st) where
+  short : length (encodeAssignment a) ≤ 2048
+  short = omega (arith, length-encodeAssignment a, packable-size a p)
 
-  pub length-written : length (writeSlot w st) ≡ length st
-  unfolding writeSlot
-  length-written = length-put st (2048 * w .slot) (encodeAssignment (w .assignment)) (omega (arith, short))
+  pub length-slotted : length (writeOne (toSlot k a) st) ≡ length st
+  unfolding writeOne
+  length-slotted = length-put st (2048 * k) (encodeAssignment a) (omega (arith, short))
 
   -- the slot starts with the packed assignment
-  pub slot-same : (k : ℕ) → k ≡ w .slot → slot (writeSlot w st) k
-      ≡ encodeAssignment (w .assignment)
-      ++ take (2048 - length (encodeAssignment (w .assignment))) (drop (2048 * w .slot + length (encodeAssignment (w .assignment))) st)
-  unfolding writeSlot
-  slot-same k e = ap (slot (writeSlot w st)) e ∙ put-same (w .slot) (encodeAssignment (w .assignment)) st short inside
+  slot-same : slot (writeOne (toSlot k a) st) k
+      ≡ encodeAssignment a ++ take (2048 - length (encodeAssignment a)) (drop (2048 * k + length (encodeAssignment a)) st)
+  unfolding writeOne
+  slot-same = put-same k (encodeAssignment a) st short inside
 
-  pub slot-other : (k : ℕ) → k ≢ w .slot → slot (writeSlot w st) k ≡ slot st k
-  unfolding writeSlot
-  slot-other k h = put-other (w .slot) (encodeAssignment (w .assignment)) st short inside k h
-
-  pub list-same : (k : ℕ) → k ≡ w .slot → listIn (writeSlot w st) k ≡ w .assignment
+  pub list-same : listIn (writeOne (toSlot k a) st) k ≡ a
   unfolding listIn
-  list-same k e = ap assignmentOf (slot-same k e) ∙ read-assignment (w .assignment) _ f
+  list-same = ap assignmentOf slot-same ∙ read-assignment a _ (p .fits)
 
-  pub starts-same : (k : ℕ) → k ≡ w .slot → startsAssignment (slot (writeSlot w st) k) ≡ true
-  starts-same k e = ap startsAssignment (slot-same k e) ∙ starts-encode (w .assignment) _ f o
+  pub starts-same : startsAssignment (slot (writeOne (toSlot k a) st) k) ≡ true
+  starts-same = ap startsAssignment slot-same ∙ starts-encode a _ (p .fits) (p .ok)
 
-  pub list-other : (k : ℕ) → k ≢ w .slot → listIn (writeSlot w st) k ≡ listIn st k
-  unfolding listIn
-  list-other k h = ap assignmentOf (slot-other k h)
+  pub slot-other : (j : ℕ) → j ≢ k → slot (writeOne (toSlot k a) st) j ≡ slot st j
+  unfolding writeOne
+  slot-other j h = put-other k (encodeAssignment a) st short inside j h
 
-  pub list-written : (k : ℕ) → listIn (writeSlot w st) k ≡ cond (eqb (w .slot) k) (w .assignment) (listIn st k)
-  list-written k =
-      choose (λ a. listIn (writeSlot w st) k ≡ a) (eqb (w .slot) k)
-      (λ t. list-same k (sym (eqb-true (w .slot) k t)))
-      (λ t. list-other k (λ e. eqb-false (w .slot) k t (sym e)))
+  -- the queue is as it was
+  pub area-slotted : k < 3 → drop 6144 (writeOne (toSlot k a) st) ≡ drop 6144 st
+  unfolding writeOne
+  area-slotted h = rest-behind (2048 * k) 6144 (encodeAssignment a) st (omega (arith, short)) (omega (arith, short))
 
--- ---- slots in a row
+-- ---- the lists of the queue
 
-pub length-lists : (st : List ℕ) (k n : ℕ) → length (listsIn st k n) ≡ n
-unfolding listsIn
-length-lists st k zero = refl
-length-lists st k (suc n) = ap suc (length-lists st (suc k) n)
+-- n lists stand in the queue
+pub record Queued (st : List ℕ) (n : ℕ) : Type 0 where
+  pub lists : List ConsumerAssignment
+  pub row : Row lists (drop 6144 st)
+  pub counted : length lists ≡ n
 
--- two stores that have the same bytes in n slots from slot k on
-abbrev pub SameSlots : List ℕ → List ℕ → ℕ → ℕ → Type 0
-SameSlots st su k n = (j : ℕ) → k ≤ j → j < k + n → slot su j ≡ slot st j
+pub queued-none : (st : List ℕ) → Queued st 0
+queued-none st = record { lists = []; row = row-none (drop 6144 st); counted = refl }
 
-pub lists-same : (st su : List ℕ) (k n : ℕ) → SameSlots st su k n → listsIn su k n ≡ listsIn st k n
-unfolding listsIn listIn
-lists-same st su k zero h = refl
-lists-same st su k (suc n) h =
-    ap₂ _∷_ (ap assignmentOf (h k (omega arith) (omega arith))) (lists-same st su (suc k) n (λ j l m. h j (omega arith) (omega arith)))
+-- in a store with the same bytes there
+pub queue-same : (st : List ℕ) (n : ℕ) (su : List ℕ) → drop 6144 su ≡ drop 6144 st → queueIn su n ≡ queueIn st n
+unfolding queueIn
+queue-same st n su e = ap (entriesOf n) e
 
-pub all-same : (st su : List ℕ) (k n : ℕ) → SameSlots st su k n → allStart su k n ≡ allStart st k n
-unfolding allStart
-all-same st su k zero h = refl
-all-same st su k (suc n) h =
-    ap₂ _&&_ (ap startsAssignment (h k (omega arith) (omega arith))) (all-same st su (suc k) n (λ j l m. h j (omega arith) (omega arith)))
+module _ (st : List ℕ) (n : ℕ) (h : Queued st n) where
+  pub queued-lists : queueIn st n ≡ h .lists
+  unfolding queueIn
+  queued-lists =
+      row-read (h .lists) (drop 6144 st) (h .row) n (omega (arith, h .counted)) ∙ take-all n (h .lists) (omega (arith, h .counted))
 
--- the first of them
-pub lists-take : (st : List ℕ) (k m n : ℕ) → m ≤ n → take m (listsIn st k n) ≡ listsIn st k m
-unfolding listsIn
-lists-take st k zero n h = refl
-lists-take st k (suc m) zero h = absurd (omega arith)
-lists-take st k (suc m) (suc n) h = ap (listIn st k ∷_) (lists-take st (suc k) m n (omega arith))
+  pub queued-reads : queueReads st n ≡ true
+  unfolding queueReads
+  queued-reads = row-start (h .lists) (drop 6144 st) (h .row) n (omega (arith, h .counted))
 
--- one more
-pub lists-snoc : (st : List ℕ) (k n : ℕ) → listsIn st k (suc n) ≡ listsIn st k n ++ (listIn st (k + n) ∷ [])
-unfolding listsIn
-lists-snoc st k zero = let e : k ≡ k + 0 = omega arith in ap (λ m. listIn st m ∷ []) e
-lists-snoc st k (suc n) =
-    let e : suc k + n ≡ k + suc n = omega arith in
-    ap (listIn st k ∷_) (lists-snoc st (suc k) n ∙ ap (λ m. listsIn st (suc k) n ++ (listIn st m ∷ [])) e)
+  pub queued-packable : Each Packable (queueIn st n)
+  queued-packable = subst (Each Packable) (sym queued-lists) (h .row .packable)
 
--- one of them
-pub all-at : (st : List ℕ) (k n : ℕ) → allStart st k n ≡ true → (j : ℕ) → k ≤ j → j < k + n → startsAssignment (slot st j) ≡ true
-unfolding allStart
-all-at st k zero h j l m = absurd (omega arith)
-all-at st k (suc n) h j l m =
-    let p = both-true (startsAssignment (slot st k)) _ h in
-    let rest : suc k ≤ j → startsAssignment (slot st j) ≡ true = λ l′. all-at st (suc k) n (p .1) j l′ (omega arith) in
-    go (eqb k j) refl (p .0) rest
-  where
-    go : (b : Bool) → eqb k j ≡ b → startsAssignment (slot st k) ≡ true → (suc k ≤ j → startsAssignment (slot st j) ≡ true)
-        → startsAssignment (slot st j) ≡ true
-    go true t here rest = subst (λ i. startsAssignment (slot st i) ≡ true) (eqb-true k j t) here
-    go false t here rest = let d : k ≢ j = eqb-false k j t in rest (omega arith)
+  -- the first of them
+  pub queued-front : (m : ℕ) → m ≤ n → Queued st m
+  queued-front m l =
+      record {
+        lists = take m (h .lists);
+        row = row-front (h .lists) (drop 6144 st) (h .row) m;
+        counted = length-take-le m (h .lists) (omega (arith, h .counted));
+      }
 
--- all of them
-pub all-each : (st : List ℕ) (k n : ℕ) → ((j : ℕ) → k ≤ j → j < k + n → startsAssignment (slot st j) ≡ true) → allStart st k n ≡ true
-unfolding allStart
-all-each st k zero h = refl
-all-each st k (suc n) h =
-    simp (h k (omega arith) (omega arith)) (all-each st (suc k) n (λ j l m. h j (omega arith) (omega arith)))
+  pub queued-take : (m : ℕ) → m ≤ n → queueIn st m ≡ take m (queueIn st n)
+  unfolding queueIn
+  queued-take m l =
+      row-read (h .lists) (drop 6144 st) (h .row) m (omega (arith, h .counted)) ∙ ap (take m) (sym queued-lists)
 
-pub all-snoc : (st : List ℕ) (k n : ℕ) → allStart st k n ≡ true → startsAssignment (slot st (k + n)) ≡ true → allStart st k (suc n) ≡ true
-all-snoc st k n h l =
-    all-each st k (suc n) (λ j a b. go j a b (eqb j (k + n)) refl)
-  where
-    go : (j : ℕ) → k ≤ j → j < k + suc n → (t : Bool) → eqb j (k + n) ≡ t → startsAssignment (slot st j) ≡ true
-    go j a b true t = subst (λ i. startsAssignment (slot st i) ≡ true) (sym (eqb-true j (k + n) t)) l
-    go j a b false t = let d : j ≢ k + n = eqb-false j (k + n) t in all-at st k n h j a (omega arith)
+  -- the list of one of them, behind its length
+  pub queued-sheet : (i : ℕ) (z : ConsumerAssignment) → i < length (queueIn st n)
+      → assignmentOf (take slotSize (drop (queueEnd (take i (queueIn st n)) + 2) st)) ≡ getD (queueIn st n) i z
+  queued-sheet i z l =
+      let m : ℕ = sizeEntries (take i (queueIn st n)) + 2 in
+      let e : 6144 + sizeEntries (take i (queueIn st n)) + 2 ≡ 6144 + m = omega arith in
+      ap (λ k. assignmentOf (take slotSize (drop k st))) e ∙ ap (λ x. assignmentOf (take slotSize x)) (sym (drop-drop m 6144 st))
+      ∙ row-sheet (queueIn st n) (drop 6144 st) (subst (λ q. Row q (drop 6144 st)) (sym queued-lists) (h .row)) i z l
 
--- ---- slots in a row behind a write
+  -- in a store with the same bytes there
+  pub queued-same : (su : List ℕ) → drop 6144 su ≡ drop 6144 st → Queued su n
+  queued-same su e = record { lists = h .lists; row = subst (Row (h .lists)) (sym e) (h .row); counted = h .counted }
 
-module _ (w : Write) (st : List ℕ) (f : FitAssignment (w .assignment)) (o : okAssignment (w .assignment) ≡ true)
-    (inside : 2048 * w .slot + 2048 ≤ length st) (k n : ℕ) where
-  -- a write before them
-  pub lists-above : w .slot < k → listsIn (writeSlot w st) k n ≡ listsIn st k n
-  lists-above h = lists-same st (writeSlot w st) k n (λ j l m. slot-other w st f o inside j (omega arith))
+  -- one more, at their end
+  module _ (a : ConsumerAssignment) (p : Packable a) (big : 6144 ≤ length st) (room : queueEnd (queueIn st n) + sizeEntry a ≤ length st) where
+    pub length-pushed : length (writeOne (push (queueEnd (queueIn st n)) a) st) ≡ length st
+    unfolding writeOne
+    length-pushed = length-put st (queueEnd (queueIn st n)) (encodeEntry a) (omega (arith, room, length-encodeEntry a))
 
-  pub all-above : w .slot < k → allStart (writeSlot w st) k n ≡ allStart st k n
-  all-above h = all-same st (writeSlot w st) k n (λ j l m. slot-other w st f o inside j (omega arith))
+    pub slot-pushed : (k : ℕ) → k < 3 → slot (writeOne (push (queueEnd (queueIn st n)) a) st) k ≡ slot st k
+    unfolding writeOne
+    slot-pushed k l = put-above (queueEnd (queueIn st n)) k (encodeEntry a) st (omega arith) (omega (arith, room))
 
-  -- a write right behind them
-  pub lists-push : w .slot ≡ k + n → listsIn (writeSlot w st) k (suc n) ≡ listsIn st k n ++ (w .assignment ∷ [])
-  lists-push e =
-      lists-snoc (writeSlot w st) k n
-      ∙ ap₂ (λ q a. q ++ (a ∷ [])) (lists-same st (writeSlot w st) k n (λ j l m. slot-other w st f o inside j (omega arith)))
-      (list-same w st f o inside (k + n) (sym e))
+    area-pushed : drop 6144 (writeOne (push (queueEnd (queueIn st n)) a) st)
+        ≡ encodeEntries (h .lists ++ (a ∷ [])) ++ drop (queueEnd (queueIn st n) + length (encodeEntry a)) st
+    unfolding writeOne put
+    area-pushed =
+        let e : ℕ = queueEnd (queueIn st n) in
+        let z : sizeEntries (queueIn st n) ≡ length (encodeEntries (h .lists)) =
+        ap sizeEntries queued-lists ∙ sym (length-encodeEntries (h .lists)) in
+        let w : List ℕ = encodeEntry a ++ drop (e + length (encodeEntry a)) st in
+        let front : take e st ≡ take 6144 st ++ encodeEntries (h .lists) =
+        take-add 6144 (sizeEntries (queueIn st n)) st
+        ∙ ap (take 6144 st ++_)
+        (ap (take (sizeEntries (queueIn st n))) (h .row .is) ∙ take-at (encodeEntries (h .lists)) (h .row .rest) (sizeEntries (queueIn st n)) (sym z)) in
+        ap (λ x. drop 6144 (x ++ w)) front
+        ∙ ap (drop 6144) (append-assoc (take 6144 st) (encodeEntries (h .lists)) w)
+        ∙ drop-at (take 6144 st) (encodeEntries (h .lists) ++ w) 6144 (length-take-le 6144 st big)
+        ∙ sym (append-assoc (encodeEntries (h .lists)) (encodeEntry a) (drop (e + length (encodeEntry a)) st))
+        ∙ ap (_++ drop (e + length (encodeEntry a)) st) (sym (encode-snoc (h .lists) a))
 
-  pub all-push : w .slot ≡ k + n → allStart st k n ≡ true → allStart (writeSlot w st) k (suc n) ≡ true
-  all-push e h =
-      all-snoc (writeSlot w st) k n
-      (all-same st (writeSlot w st) k n (λ j l m. slot-other w st f o inside j (omega arith)) ∙ h)
-      (starts-same w st f o inside (k + n) (sym e))
+    pub queued-push : Queued (writeOne (push (queueEnd (queueIn st n)) a) st) (n + 1)
+    queued-push =
+        record {
+          lists = h .lists ++ (a ∷ []);
+          row =
+              record {
+                rest = drop (queueEnd (queueIn st n) + length (encodeEntry a)) st;
+                is = area-pushed;
+                packable = each-append Packable (h .lists) (a ∷ []) (h .row .packable) (p, tt);
+              };
+          counted = length-append (h .lists) (a ∷ []) ∙ ap (_+ 1) (h .counted);
+        }
+
+pub queue-pushed : (st : List ℕ) (n : ℕ) (h : Queued st n) (a : ConsumerAssignment) (p : Packable a) (big : 6144 ≤ length st)
+    (room : queueEnd (queueIn st n) + sizeEntry a ≤ length st)
+    → queueIn (writeOne (push (queueEnd (queueIn st n)) a) st) (n + 1) ≡ queueIn st n ++ (a ∷ [])
+unfolding queued-push
+queue-pushed st n h a p big room =
+    queued-lists (writeOne (push (queueEnd (queueIn st n)) a) st) (n + 1) (queued-push st n h a p big room)
+    ∙ ap (_++ (a ∷ [])) (sym (queued-lists st n h))

@@ -31,11 +31,13 @@ use Rattle.delta.proofs.RoundLaws.{FitDelta, read-delta, length-encodeDelta}
 use Rattle.keyed.proofs.KeyedLaws.{choose}
 use Rattle.content.specs.Content as content
 use Rattle.content.specs.Content.{Content, contentOf}
-use Rattle.content.proofs.EachLaws.{Each}
+use Rattle.packed_queue.specs.Entries.{sizeEntry}
+use Rattle.keyed.proofs.EachLaws.{Each}
+use Rattle.packed_queue.proofs.EntryLaws.{Packable}
 use Rattle.content.proofs.WideLaws.{Wide, update-wide, response-wide}
 use Rattle.content.proofs.ContentLaws.{content-fits}
 use Rattle.session.specs.declared.SessionRecord.{SessionRecord}
-use Rattle.session.specs.Store.{depthOf, listIn, listsIn, writeAll}
+use Rattle.session.specs.Store.{maxQueue, listIn, queueIn, queueEnd, writeAll}
 use Rattle.session.specs.Session.{Session, view, damaged, Result, refuse, unless, floorFault}
 use Rattle.session.specs.Session.{Reply, refused, accepted, nothing, changed, replayed}
 use Rattle.session.specs.Update.{updateUnregistered, updateRegistered, updateContent, updateValid, updateChecked, updateCall}
@@ -48,8 +50,8 @@ use Rattle.session.specs.Trace.{Call, update, response, drain, begin, in
 use Rattle.session.specs.Trace.{isAccepted, isNone, handedOut, eventOf, trace, final}
 use Rattle.session.specs.DemandThree.{OfBytes, AllOfBytes}
 use Rattle.session.proofs.Model.{beginCall, resultOf, accepts, isNothing, handed, valueEvent, valueTrace, valueFinal}
-use Rattle.session.proofs.SlotLaws.{length-lists}
-use Rattle.session.proofs.ViewLaws.{Packable, delta-fits, last-packable, stands-packable, lists-packable, Kept, FitReply, Follows}
+use Rattle.session.proofs.SlotLaws.{queued-lists, queued-packable}
+use Rattle.session.proofs.ViewLaws.{delta-fits, last-packable, stands-packable, Kept, FitReply, Follows}
 use Rattle.session.proofs.ViewLaws.{follow-still, follow-hold, follow-enqueue, follow-register}
 
 -- ---- what a drain finds: its delta can be packed, and its place is before that limit
@@ -73,6 +75,9 @@ module _ (r : SessionRecord) (st : List ℕ) (k : Kept r st) where
   abbrev now : Session
   now = view r st
 
+  abbrev queued : List ConsumerAssignment
+  queued = queueIn st (r .«queue_count»)
+
   follow-refuse : (x : Refusal) → Follows r st (refuse x now)
   unfolding view
   follow-refuse x = follow-still r st k (refused x) r tt (λ t. t) (omega arith) (k .position)
@@ -93,20 +98,21 @@ module _ (r : SessionRecord) (st : List ℕ) (k : Kept r st) where
       choose (Follows r st) (ltb (a .layoutEpoch) (now .list .layoutEpoch)) (λ l. follow-refuse _) (λ l.
       follow-hold r st k big t a p))
 
-  follow-unregistered : (a : ConsumerAssignment) → Packable a → Follows r st (updateUnregistered now a)
+  follow-unregistered : 6144 ≤ length st → (a : ConsumerAssignment) → Packable a → Follows r st (updateUnregistered now a)
   unfolding updateUnregistered view
-  follow-unregistered a p =
+  follow-unregistered big a p =
       follow-unless (floorFault (a .layoutEpoch) (r .«epoch_floor»)) _ (
-      choose (Follows r st) (eqb (r .«queue_count») (depthOf (length st))) (λ e. follow-refuse _) (λ e.
-      let d : r .«queue_count» ≢ depthOf (length st) = eqb-false _ _ e in
-      follow-enqueue r st k (omega (arith, k .count)) a p))
+      choose (Follows r st) (eqb (r .«queue_count») maxQueue) (λ e. follow-refuse _) (λ e.
+      choose (Follows r st) (ltb (length st) (queueEnd queued + sizeEntry a)) (λ f. follow-refuse _) (λ f.
+      let d : r .«queue_count» ≢ maxQueue = eqb-false _ _ e in
+      follow-enqueue r st k big (omega (arith, k .count)) a p (ltb-false _ _ f))))
 
   module _ (big : 6144 ≤ length st) where
     follow-taken : (c : Content) → ((a : ConsumerAssignment) → c ≡ content.taken a → Packable a) → Follows r st (updateContent now c)
     unfolding updateContent view
     follow-taken (content.refused x) f = follow-refuse x
     follow-taken (content.taken a) f =
-        choose (Follows r st) (r .registered) (λ t. follow-registered big t a (f a refl)) (λ t. follow-unregistered a (f a refl))
+        choose (Follows r st) (r .registered) (λ t. follow-registered big t a (f a refl)) (λ t. follow-unregistered big a (f a refl))
 
     -- a response's list
     follow-baseline : (b : ConsumerAssignment) → Packable b → Follows r st (responseAssignment now b)
@@ -117,7 +123,7 @@ module _ (r : SessionRecord) (st : List ℕ) (k : Kept r st) where
         follow-register r st k big b (lastList b (replayable now)) p (last-packable b (replayable now) p queue)))
       where
         queue : Each Packable (replayable now)
-        queue = choose (Each Packable) (r .registered) (λ t. tt) (λ t. lists-packable st 3 (r .«queue_count») (k .queue))
+        queue = choose (Each Packable) (r .registered) (λ t. tt) (λ t. queued-packable st (r .«queue_count») (k .queue))
 
     follow-based : (c : Content) → ((a : ConsumerAssignment) → c ≡ content.taken a → Packable a) → Follows r st (responseContent now c)
     unfolding responseContent
@@ -166,10 +172,7 @@ module _ (r : SessionRecord) (st : List ℕ) (k : Kept r st) where
   follow-found : (f : Found) → FoundBefore (r .«queue_count») f → Follows r st (drained now f)
   unfolding drained view
   follow-found end p = follow-still r st k nothing _ tt (λ t. t) (omega arith) (omega arith)
-  follow-found (entry i d) p = follow-still r st k (replayed _ d) _ (p .0) (λ t. t) (omega arith) (p .1)
-
-  abbrev queued : List ConsumerAssignment
-  queued = listsIn st 3 (r .«queue_count»)
+  follow-found (entry i d) p = follow-still r st k (replayed _ _ d) _ (p .0) (λ t. t) (omega arith) (p .1)
 
   pub follow-drain : (output : ℕ) → Follows r st (drainCall now output)
   unfolding drainCall view
@@ -179,8 +182,8 @@ module _ (r : SessionRecord) (st : List ℕ) (k : Kept r st) where
       choose (Follows r st) (damaged now) (λ t. follow-refuse _) (λ t.
       choose (Follows r st) (r .registered)
       (λ t. follow-found (nextChange 0 (listIn st 1) queued (r .«drain_position»))
-      (found-before (r .«queue_count») 0 (listIn st 1) queued (r .«drain_position») (omega (arith, length-lists st 3 (r .«queue_count»)))
-      (stands-packable st 1 (k .baseline t)) (lists-packable st 3 (r .«queue_count») (k .queue))))
+      (found-before (r .«queue_count») 0 (listIn st 1) queued (r .«drain_position») (omega (arith, k .queue .counted, ap length (queued-lists st (r .«queue_count») (k .queue))))
+      (stands-packable st 1 (k .baseline t)) (queued-packable st (r .«queue_count») (k .queue))))
       (λ t. follow-none))))
 
   pub follow-begin : (incarnation : ControllerIncarnation) → Follows r st (beginCall now incarnation)
@@ -205,14 +208,14 @@ accepted-is (refused x) = refl
 accepted-is accepted = refl
 accepted-is nothing = refl
 accepted-is (changed d) = refl
-accepted-is (replayed place d) = refl
+accepted-is (replayed index place d) = refl
 
 pub none-is : (x : Reply) → isNone (answerOf x) ≡ isNothing x
 none-is (refused x) = refl
 none-is accepted = refl
 none-is nothing = refl
 none-is (changed d) = refl
-none-is (replayed place d) = refl
+none-is (replayed index place d) = refl
 
 -- a delta is read back from the output's front
 pub delta-back : (d : AssignmentDelta) (out : List ℕ) → FitDelta d → deltaOf (take (sizeDelta d) (put out 0 (encodeDelta d))) ≡ d
@@ -225,7 +228,7 @@ handed-is (refused x) out f = refl
 handed-is accepted out f = refl
 handed-is nothing out f = refl
 handed-is (changed d) out f = ap some (delta-back d out f)
-handed-is (replayed place d) out f = ap some (delta-back d out f)
+handed-is (replayed index place d) out f = ap some (delta-back d out f)
 
 -- ---- one call
 

@@ -14,7 +14,7 @@ use Rattle.packed.specs.Assignment.{ConsumerAssignment}
 use Rattle.delta.specs.Join.{Proper, applyAll}
 use Rattle.delta.proofs.BracketLaws.{AllProper, apply-joined, brackets-agree}
 use Rattle.content.specs.Content.{consumerAssignment}
-use Rattle.content.proofs.EachLaws.{Each}
+use Rattle.keyed.proofs.EachLaws.{Each}
 use Rattle.session.specs.Session.{Session}
 use Rattle.session.specs.Trace.{Call, update, response, drain, begin, invalidate}
 use Rattle.session.specs.Observers.{Seen, unseen, see, watch, isResponse, drainsToNone, allDrained}

@@ -1,12 +1,10 @@
 -- A record and a store, read as a session, behind the writes of a call.
 --
--- In order: what a session that is not damaged has (`undamaged`), and slots in use (`in-use`); assignments that can be packed (`Packable`)
--- and their deltas (`delta-fits`); slots behind a row of writes (`length-behind`, `identity-behind`, `list-behind`, `stands-behind`); the
--- invariant of a record and a store (`Kept`, `kept-fresh`, `sound-is`, `damaged-is`); for each kind of result the view behind it is `after`,
+-- In order: what a session that is not damaged has (`undamaged`), and slots in use (`in-use`); deltas of assignments that can be packed (`delta-fits`); a slot that
+-- holds one (`Stands`), behind a write to a slot (`stands-written`, `stands-kept`, `queue-kept`); the invariant of a record and a store (`Kept`, `kept-fresh`, `sound-is`, `damaged-is`); for each kind of result the view behind it is `after`,
 -- and the invariant is kept (`Follows`: `follow-still`, `follow-hold`, `follow-enqueue`, `follow-register`).
 -- Assumes nothing.
-use Prim.Native.Nat.{ℕ, zero, suc, _+_, _*_, _≤_, _<_}
-use native.Mathlib.Numerals.{add-one}
+use Prim.Native.Nat.{ℕ, _+_, _*_, _≤_, _<_}
 use native.Mathlib.Omega.{arith}
 use mathlib.Core.Path.{_≡_, refl, sym, ap, ap₂, _∙_, subst}
 use mathlib.Core.Logic.{_≢_}
@@ -15,16 +13,18 @@ use mathlib.Core.List.{List, [], _∷_, _++_, append-nil}
 use lib.ListN.{length, take, length-append}
 use lib.Seq.{take-all}
 use lib.Dec.{eqb, ltb, leb}
-use borrow.Author.Tests.{ltb-false, eqb-true, eqb-false, lt-ltb, le-ltb, not-false}
+use borrow.Author.Tests.{ltb-false, eqb-true, eqb-false, le-ltb, not-false}
 use Rattle.ranges.specs.Meaning.{both-true}
-use Rattle.packed.specs.Assignment.{ConsumerAssignment, assignmentOf, sizeAssignment, okAssignment, startsAssignment}
+use Rattle.packed.specs.Assignment.{ConsumerAssignment, assignmentOf, sizeAssignment, startsAssignment}
 use Rattle.packed.proofs.RoundLaws.{FitAssignment}
 use Rattle.delta.specs.Change.{deltaBetween}
 use Rattle.delta.proofs.RoundLaws.{FitDelta}
 use Rattle.delta.proofs.ShortLaws.{delta-lost-few, delta-gained-few, delta-lost-fit, delta-gained-fit}
-use Rattle.content.proofs.EachLaws.{Each}
+use Rattle.packed_queue.specs.Entries.{sizeEntry}
+use Rattle.packed_queue.proofs.EntryLaws.{Packable, packable-size}
+use Rattle.keyed.proofs.EachLaws.{Each}
 use Rattle.session.specs.declared.SessionRecord.{SessionRecord}
-use Rattle.session.specs.Store.{queueSlot, slot, depthOf, listIn, listsIn, allStart, Write, writeSlot, writeAll}
+use Rattle.session.specs.Store.{slot, listIn, queueIn, queueReads, queueEnd, toSlot, push, writeOne, writeAll}
 use Rattle.session.specs.Identity.{topicOf, isIdentity}
 use Rattle.session.specs.Session.{Session, listsStart, inUse, view, damaged, Result}
 use Rattle.session.specs.Session.{Reply, refused, accepted, nothing, changed, replayed}
@@ -32,8 +32,9 @@ use Rattle.session.specs.Update.{enqueue, hold}
 use Rattle.session.specs.Response.{lastList, register}
 use Rattle.session.specs.DemandThree.{Fresh}
 use Rattle.session.proofs.Model.{inSlot, pushes, after}
-use Rattle.session.proofs.SlotLaws.{depth-inside, size-ok, length-written, slot-other, list-same, list-other, list-written, starts-same}
-use Rattle.session.proofs.SlotLaws.{length-lists, lists-take, all-each, lists-above, lists-push}
+use Rattle.session.proofs.SlotLaws.{length-slotted, slot-other, list-same, starts-same, area-slotted}
+use Rattle.session.proofs.SlotLaws.{Queued, queued-none, queued-lists, queued-reads, queued-front, queued-take, queued-same, queue-same}
+use Rattle.session.proofs.SlotLaws.{length-pushed, slot-pushed, queued-push, queue-pushed}
 
 -- ---- a session that is not damaged
 
@@ -42,14 +43,14 @@ or-false true b e = absurd (true≢false e)
 or-false false b e = (refl, e)
 
 pub record Undamaged (s : Session) : Type 0 where
-  pub count : s .state .«queue_count» ≤ depthOf (s .size)
+  pub count : s .state .«queue_count» ≤ 1024
   pub position : s .state .«drain_position» ≤ s .state .«queue_count»
   pub sound : s .sound ≡ true
 
 pub undamaged : (s : Session) → damaged s ≡ false → Undamaged s
 unfolding damaged
 undamaged s e =
-    let p = or-false (ltb (depthOf (s .size)) (s .state .«queue_count»)) _ e in
+    let p = or-false (ltb 1024 (s .state .«queue_count»)) _ e in
     let q = or-false (ltb (s .state .«queue_count») (s .state .«drain_position»)) _ (p .1) in
     record { count = ltb-false _ _ (p .0); position = ltb-false _ _ (q .0); sound = not-false (s .sound) (q .1) }
 
@@ -59,7 +60,7 @@ pub record InUse (r : SessionRecord) (st : List ℕ) : Type 0 where
   pub identity : isIdentity (slot st 0) ≡ true
   pub baseline : r .registered ≡ true → startsAssignment (slot st 1) ≡ true
   pub list : r .registered ≡ true → startsAssignment (slot st 2) ≡ true
-  pub queue : allStart st 3 (r .«queue_count») ≡ true
+  pub queue : queueReads st (r .«queue_count») ≡ true
 
 pub in-use : (r : SessionRecord) (st : List ℕ) → inUse r st ≡ true → InUse r st
 unfolding inUse
@@ -75,19 +76,15 @@ in-use r st e =
       queue = q .1;
     }
 
--- ---- assignments that can be packed
-
-pub record Packable (a : ConsumerAssignment) : Type 0 where
-  pub fits : FitAssignment a
-  pub ok : okAssignment a ≡ true
+-- ---- the deltas of lists that can be packed
 
 pub delta-fits : (a b : ConsumerAssignment) → Packable a → Packable b → FitDelta (deltaBetween a b)
 unfolding deltaBetween
 delta-fits a b p q =
     record {
       epoch = q .fits .epoch;
-      lost-count = omega (arith, delta-lost-few a b (size-ok a (p .ok)));
-      gained-count = omega (arith, delta-gained-few a b (size-ok b (q .ok)));
+      lost-count = omega (arith, delta-lost-few a b (packable-size a p));
+      gained-count = omega (arith, delta-gained-few a b (packable-size b q));
       lost = delta-lost-fit a b (p .fits .segments);
       gained = delta-gained-fit a b (q .fits .segments);
     }
@@ -109,67 +106,61 @@ stands-packable st k s =
     let l : List ℕ = slot st k in
     record { fits = s .fits; ok = both-true (leb (sizeAssignment (assignmentOf l)) (length l)) _ (s .starts) .1 }
 
-pub lists-packable : (st : List ℕ) (k n : ℕ) → ((j : ℕ) → k ≤ j → j < k + n → Stands st j) → Each Packable (listsIn st k n)
-unfolding listsIn
-lists-packable st k zero h = tt
-lists-packable st k (suc n) h =
-    (stands-packable st k (h k (omega arith) (omega arith)), lists-packable st (suc k) n (λ j l m. h j (omega arith) (omega arith)))
+pub stands-same : (st su : List ℕ) (k : ℕ) → slot su k ≡ slot st k → Stands st k → Stands su k
+unfolding listIn
+stands-same st su k e s =
+    record { fits = subst (λ l. FitAssignment (assignmentOf l)) (sym e) (s .fits); starts = ap startsAssignment e ∙ s .starts }
 
--- ---- behind a row of writes
+list-still : (st su : List ℕ) (k : ℕ) → slot su k ≡ slot st k → listIn su k ≡ listIn st k
+unfolding listIn
+list-still st su k e = ap assignmentOf e
 
--- a write into a store of that size, and not into the identity
-pub record Writable (size : ℕ) (w : Write) : Type 0 where
-  pub packable : Packable (w .assignment)
-  pub inside : 2048 * w .slot + 2048 ≤ size
-  pub above : 0 < w .slot
+-- ---- behind a write to a slot
 
-module _ (w : Write) (st : List ℕ) (p : Writable (length st) w) where
-  length-kept : length (writeSlot w st) ≡ length st
-  length-kept = length-written w st (p .packable .fits) (p .packable .ok) (p .inside)
+-- a write into baseline or list of a store of that size
+pub record Slotted (size k : ℕ) (a : ConsumerAssignment) : Type 0 where
+  pub packable : Packable a
+  pub big : 6144 ≤ size
+  pub above : 0 < k
+  pub below : k < 3
 
-  pub stands-same : (k : ℕ) → k ≡ w .slot → Stands (writeSlot w st) k
-  stands-same k e =
+module _ (k : ℕ) (a : ConsumerAssignment) (st : List ℕ) (p : Slotted (length st) k a) where
+  inside : 2048 * k + 2048 ≤ length st
+  inside = omega (arith, p .below, p .big)
+
+  length-kept : length (writeOne (toSlot k a) st) ≡ length st
+  length-kept = length-slotted k a st (p .packable) inside
+
+  pub stands-written : Stands (writeOne (toSlot k a) st) k
+  stands-written =
       record {
-        fits = subst FitAssignment (sym (list-same w st (p .packable .fits) (p .packable .ok) (p .inside) k e)) (p .packable .fits);
-        starts = starts-same w st (p .packable .fits) (p .packable .ok) (p .inside) k e;
+        fits = subst FitAssignment (sym (list-same k a st (p .packable) inside)) (p .packable .fits);
+        starts = starts-same k a st (p .packable) inside;
       }
 
-  pub stands-kept : (k : ℕ) → Stands st k → Stands (writeSlot w st) k
-  stands-kept k s = go (eqb k (w .slot)) refl
+  identity-kept : slot (writeOne (toSlot k a) st) 0 ≡ slot st 0
+  identity-kept = slot-other k a st (p .packable) inside 0 (λ z. omega (arith, p .above))
+
+  pub stands-kept : (j : ℕ) → Stands st j → Stands (writeOne (toSlot k a) st) j
+  stands-kept j s = go (eqb j k) refl
     where
-      go : (b : Bool) → eqb k (w .slot) ≡ b → Stands (writeSlot w st) k
-      go true t = stands-same k (eqb-true k (w .slot) t)
-      go false t =
-          let d : k ≢ w .slot = eqb-false k (w .slot) t in
-          record {
-            fits = subst FitAssignment (sym (list-other w st (p .packable .fits) (p .packable .ok) (p .inside) k d)) (s .fits);
-            starts = ap startsAssignment (slot-other w st (p .packable .fits) (p .packable .ok) (p .inside) k d) ∙ s .starts;
-          }
+      go : (b : Bool) → eqb j k ≡ b → Stands (writeOne (toSlot k a) st) j
+      go true t = subst (Stands (writeOne (toSlot k a) st)) (sym (eqb-true j k t)) stands-written
+      go false t = stands-same st (writeOne (toSlot k a) st) j (slot-other k a st (p .packable) inside j (eqb-false j k t)) s
 
-  still-writable : (ws : List Write) → Each (Writable (length st)) ws → Each (Writable (length (writeSlot w st))) ws
-  still-writable ws e = subst (λ n. Each (Writable n) ws) (sym length-kept) e
+  list-kept : (j : ℕ) → listIn (writeOne (toSlot k a) st) j ≡ cond (eqb k j) a (listIn st j)
+  unfolding listIn
+  list-kept j = go (eqb k j) refl
+    where
+      go : (b : Bool) → eqb k j ≡ b → listIn (writeOne (toSlot k a) st) j ≡ cond b a (listIn st j)
+      go true t = subst (λ i. listIn (writeOne (toSlot k a) st) i ≡ a) (eqb-true k j t) (list-same k a st (p .packable) inside)
+      go false t = ap assignmentOf (slot-other k a st (p .packable) inside j (λ e. eqb-false k j t (sym e)))
 
-pub length-behind : (ws : List Write) (st : List ℕ) → Each (Writable (length st)) ws → length (writeAll ws st) ≡ length st
-length-behind [] st e = refl
-length-behind (w ∷ ws) st e = length-behind ws (writeSlot w st) (still-writable w st (e .0) ws (e .1)) ∙ length-kept w st (e .0)
+  lists-kept : (n : ℕ) → queueIn (writeOne (toSlot k a) st) n ≡ queueIn st n
+  lists-kept n = queue-same st n (writeOne (toSlot k a) st) (area-slotted k a st (p .packable) inside (p .below))
 
-pub identity-behind : (ws : List Write) (st : List ℕ) → Each (Writable (length st)) ws → slot (writeAll ws st) 0 ≡ slot st 0
-identity-behind [] st e = refl
-identity-behind (w ∷ ws) st e =
-    let d : 0 ≢ w .slot = λ z. omega (arith, e .0 .above) in
-    identity-behind ws (writeSlot w st) (still-writable w st (e .0) ws (e .1))
-    ∙ slot-other w st (e .0 .packable .fits) (e .0 .packable .ok) (e .0 .inside) 0 d
-
-pub list-behind : (ws : List Write) (st : List ℕ) → Each (Writable (length st)) ws → (k : ℕ)
-    → listIn (writeAll ws st) k ≡ inSlot k ws (listIn st k)
-list-behind [] st e k = refl
-list-behind (w ∷ ws) st e k =
-    list-behind ws (writeSlot w st) (still-writable w st (e .0) ws (e .1)) k
-    ∙ ap (inSlot k ws) (list-written w st (e .0 .packable .fits) (e .0 .packable .ok) (e .0 .inside) k)
-
-pub stands-behind : (ws : List Write) (st : List ℕ) → Each (Writable (length st)) ws → (k : ℕ) → Stands st k → Stands (writeAll ws st) k
-stands-behind [] st e k s = s
-stands-behind (w ∷ ws) st e k s = stands-behind ws (writeSlot w st) (still-writable w st (e .0) ws (e .1)) k (stands-kept w st (e .0) k s)
+  pub queue-kept : (n : ℕ) → Queued st n → Queued (writeOne (toSlot k a) st) n
+  queue-kept n q = queued-same st n q (writeOne (toSlot k a) st) (area-slotted k a st (p .packable) inside (p .below))
 
 -- ---- the invariant
 
@@ -178,8 +169,8 @@ stands-behind (w ∷ ws) st e k s = stands-behind ws (writeSlot w st) (still-wri
 pub record Kept (r : SessionRecord) (st : List ℕ) : Type 0 where
   pub baseline : r .registered ≡ true → Stands st 1
   pub list : r .registered ≡ true → Stands st 2
-  pub queue : (j : ℕ) → 3 ≤ j → j < 3 + r .«queue_count» → Stands st j
-  pub count : r .«queue_count» ≤ depthOf (length st)
+  pub queue : Queued st (r .«queue_count»)
+  pub count : r .«queue_count» ≤ 1024
   pub position : r .«drain_position» ≤ r .«queue_count»
 
 pub kept-fresh : (r : SessionRecord) (st : List ℕ) → Fresh r → Kept r st
@@ -187,7 +178,7 @@ kept-fresh r st f =
     record {
       baseline = λ t. absurd (false≢true (sym (f .unregistered) ∙ t));
       list = λ t. absurd (false≢true (sym (f .unregistered) ∙ t));
-      queue = λ j l m. absurd (omega (arith, f .no-queue));
+      queue = subst (Queued st) (sym (f .no-queue)) (queued-none st);
       count = omega (arith, f .no-queue);
       position = omega (arith, f .position);
     }
@@ -196,7 +187,7 @@ kept-fresh r st f =
 pub sound-is : (r : SessionRecord) (st : List ℕ) → Kept r st → inUse r st ≡ isIdentity (slot st 0)
 unfolding inUse
 sound-is r st k =
-    let q : allStart st 3 (r .«queue_count») ≡ true = all-each st 3 (r .«queue_count») (λ j l m. k .queue j l m .starts) in
+    let q : queueReads st (r .«queue_count») ≡ true = queued-reads st (r .«queue_count») (k .queue) in
     ap₂ (λ a b. isIdentity (slot st 0) && (a && b)) (lists (r .registered) (λ t. k .baseline t .starts) (λ t. k .list t .starts)) q
     ∙ alone (isIdentity (slot st 0))
   where
@@ -214,7 +205,7 @@ pub damaged-is : (r : SessionRecord) (st : List ℕ) → Kept r st → damaged (
 unfolding damaged view
 damaged-is r st k =
     simp (
-      le-ltb (depthOf (length st)) (r .«queue_count») (k .count),
+      le-ltb 1024 (r .«queue_count») (k .count),
       le-ltb (r .«queue_count») (r .«drain_position») (k .position),
       sound-is r st k,
     )
@@ -227,7 +218,7 @@ FitReply (refused x) = Unit {0}
 FitReply accepted = Unit {0}
 FitReply nothing = Unit {0}
 FitReply (changed d) = FitDelta d
-FitReply (replayed place d) = FitDelta d
+FitReply (replayed index place d) = FitDelta d
 
 pub record Follows (r : SessionRecord) (st : List ℕ) (x : Result) : Type 0 where
   pub kept : Kept (x .next) (writeAll (x .writes) st)
@@ -236,31 +227,25 @@ pub record Follows (r : SessionRecord) (st : List ℕ) (x : Result) : Type 0 whe
 
 module _ (r : SessionRecord) (st : List ℕ) (k : Kept r st) where
   abbrev queued : List ConsumerAssignment
-  queued = listsIn st 3 (r .«queue_count»)
+  queued = queueIn st (r .«queue_count»)
 
-  -- from the invariant behind the writes and the queue
-  pub view-after : (x : Result) → Each (Writable (length st)) (x .writes) → Kept (x .next) (writeAll (x .writes) st)
-      → listsIn (writeAll (x .writes) st) 3 (x .next .«queue_count») ≡ take (x .next .«queue_count») (queued ++ pushes (x .writes))
+  -- from the invariant behind the writes, and what they leave
+  view-after : (x : Result) → Kept (x .next) (writeAll (x .writes) st) → length (writeAll (x .writes) st) ≡ length st
+      → slot (writeAll (x .writes) st) 0 ≡ slot st 0
+      → listIn (writeAll (x .writes) st) 1 ≡ inSlot 1 (x .writes) (listIn st 1)
+      → listIn (writeAll (x .writes) st) 2 ≡ inSlot 2 (x .writes) (listIn st 2)
+      → queueIn (writeAll (x .writes) st) (x .next .«queue_count») ≡ take (x .next .«queue_count») (queued ++ pushes (x .writes))
       → view (x .next) (writeAll (x .writes) st) ≡ after (view r st) x
   unfolding view
-  view-after x w n q =
-      let e : slot (writeAll (x .writes) st) 0 ≡ slot st 0 = identity-behind (x .writes) st w in
+  view-after x n z e b l q =
       let s : inUse (x .next) (writeAll (x .writes) st) ≡ inUse r st =
       sound-is (x .next) (writeAll (x .writes) st) n ∙ ap isIdentity e ∙ sym (sound-is r st k) in
       λ i.
-      record {
-        state = x .next;
-        size = length-behind (x .writes) st w i;
-        sound = s i;
-        topic = topicOf (e i);
-        baseline = list-behind (x .writes) st w 1 i;
-        list = list-behind (x .writes) st w 2 i;
-        queue = q i;
-      }
+      record { state = x .next; size = z i; sound = s i; topic = topicOf (e i); baseline = b i; list = l i; queue = q i }
 
-  -- the queue, or its front, where nothing was written
-  queue-still : (m : ℕ) → m ≤ r .«queue_count» → listsIn st 3 m ≡ take m (queued ++ [])
-  queue-still m h = sym (ap (take m) (append-nil queued) ∙ lists-take st 3 m (r .«queue_count») h)
+  -- the queue, or its front, where no list joined it
+  queue-still : (m : ℕ) → m ≤ r .«queue_count» → queueIn st m ≡ take m (queued ++ [])
+  queue-still m h = queued-take st (r .«queue_count») (k .queue) m h ∙ ap (take m) (sym (append-nil queued))
 
   -- nothing is written
   pub follow-still : (reply : Reply) (next : SessionRecord) → FitReply reply → (next .registered ≡ true → r .registered ≡ true)
@@ -271,38 +256,39 @@ module _ (r : SessionRecord) (st : List ℕ) (k : Kept r st) where
       record {
         baseline = λ t. k .baseline (g t);
         list = λ t. k .list (g t);
-        queue = λ j l m. k .queue j l (omega arith);
+        queue = queued-front st (r .«queue_count») (k .queue) (next .«queue_count») h;
         count = omega (arith, k .count);
         position = p;
       } in
       record {
         kept = n;
-        session = view-after (record { reply = reply; next = next; writes = [] }) tt n (queue-still (next .«queue_count») h);
+        session =
+            view-after (record { reply = reply; next = next; writes = [] }) n refl refl refl refl (queue-still (next .«queue_count») h);
         reply = f;
       }
 
   module _ (big : 6144 ≤ length st) where
-    before-queue : (i : ℕ) → 0 < i → i < 3 → (a : ConsumerAssignment) → Packable a → Writable (length st) (record { slot = i; assignment = a })
-    before-queue i h l a p = record { packable = p; inside = omega arith; above = h }
+    slotted : (i : ℕ) → 0 < i → i < 3 → (a : ConsumerAssignment) → Packable a → Slotted (length st) i a
+    slotted i h l a p = record { packable = p; big = big; above = h; below = l }
 
     pub follow-hold : r .registered ≡ true → (a : ConsumerAssignment) → Packable a → Follows r st (hold (view r st) a)
     unfolding view
     follow-hold t a p =
-        let w : Write = record { slot = 2; assignment = a } in
-        let u : Writable (length st) w = before-queue 2 (omega arith) (omega arith) a p in
-        let n : Kept (hold (view r st) a .next) (writeSlot w st) =
+        let u : Slotted (length st) 2 a = slotted 2 (omega arith) (omega arith) a p in
+        let q : Queued (writeOne (toSlot 2 a) st) (r .«queue_count») = queue-kept 2 a st u (r .«queue_count») (k .queue) in
+        let n : Kept (hold (view r st) a .next) (writeOne (toSlot 2 a) st) =
         record {
-          baseline = λ e. stands-kept w st u 1 (k .baseline t);
-          list = λ e. stands-same w st u 2 refl;
-          queue = λ j l m. stands-kept w st u j (k .queue j l m);
-          count = rw (length-kept w st u) (k .count);
+          baseline = λ e. stands-kept 2 a st u 1 (k .baseline t);
+          list = λ e. stands-written 2 a st u;
+          queue = q;
+          count = k .count;
           position = k .position;
         } in
         record {
           kept = n;
           session =
-              view-after (hold (view r st) a) (u, tt) n
-              (lists-above w st (p .fits) (p .ok) (u .inside) 3 (r .«queue_count») (omega arith) ∙ queue-still (r .«queue_count») (omega arith));
+              view-after (hold (view r st) a) n (length-kept 2 a st u) (identity-kept 2 a st u) (list-kept 2 a st u 1) (list-kept 2 a st u 2)
+              (lists-kept 2 a st u (r .«queue_count») ∙ queue-still (r .«queue_count») (omega arith));
           reply = delta-fits (listIn st 2) a (stands-packable st 2 (k .list t)) p;
         }
 
@@ -310,27 +296,28 @@ module _ (r : SessionRecord) (st : List ℕ) (k : Kept r st) where
     pub follow-register : (b l : ConsumerAssignment) → Packable b → Packable l → Follows r st (register (view r st) b l)
     unfolding view
     follow-register b l p q =
-        let w : Write = record { slot = 1; assignment = b } in
-        let v : Write = record { slot = 2; assignment = l } in
-        let us : Each (Writable (length st)) (w ∷ v ∷ []) =
-        (before-queue 1 (omega arith) (omega arith) b p, (before-queue 2 (omega arith) (omega arith) l q, tt)) in
-        let u : Writable (length (writeSlot w st)) v = still-writable w st (us .0) (v ∷ []) (us .1) .0 in
         let c : ℕ = cond (r .registered) 0 (r .«queue_count») in
         let less : c ≤ r .«queue_count» = fewer (r .registered) in
-        let n : Kept (register (view r st) b l .next) (writeAll (w ∷ v ∷ []) st) =
+        let u : Slotted (length st) 1 b = slotted 1 (omega arith) (omega arith) b p in
+        let su : List ℕ = writeOne (toSlot 1 b) st in
+        let same : length su ≡ length st = length-kept 1 b st u in
+        let v : Slotted (length su) 2 l = record { packable = q; big = omega arith; above = omega arith; below = omega arith } in
+        let front : Queued st c = queued-front st (r .«queue_count») (k .queue) c less in
+        let left : Queued (writeOne (toSlot 2 l) su) c = queue-kept 2 l su v c (queue-kept 1 b st u c front) in
+        let n : Kept (register (view r st) b l .next) (writeOne (toSlot 2 l) su) =
         record {
-          baseline = λ e. stands-kept v (writeSlot w st) u 1 (stands-same w st (us .0) 1 refl);
-          list = λ e. stands-same v (writeSlot w st) u 2 refl;
-          queue = λ j i m. stands-behind (w ∷ v ∷ []) st us j (k .queue j i (omega arith));
-          count = rw (length-behind (w ∷ v ∷ []) st us) (omega (arith, k .count));
+          baseline = λ e. stands-kept 2 l su v 1 (stands-written 1 b st u);
+          list = λ e. stands-written 2 l su v;
+          queue = left;
+          count = omega (arith, k .count);
           position = omega arith;
         } in
         record {
           kept = n;
           session =
-              view-after (register (view r st) b l) us n
-              (lists-above v (writeSlot w st) (q .fits) (q .ok) (u .inside) 3 c (omega arith)
-              ∙ lists-above w st (p .fits) (p .ok) (us .0 .inside) 3 c (omega arith) ∙ queue-still c less);
+              view-after (register (view r st) b l) n (length-kept 2 l su v ∙ same) (identity-kept 2 l su v ∙ identity-kept 1 b st u)
+              (list-kept 2 l su v 1 ∙ list-kept 1 b st u 1) (list-kept 2 l su v 2)
+              (lists-kept 2 l su v c ∙ lists-kept 1 b st u c ∙ queue-still c less);
           reply = tt;
         }
       where
@@ -338,33 +325,29 @@ module _ (r : SessionRecord) (st : List ℕ) (k : Kept r st) where
         fewer true = omega arith
         fewer false = omega arith
 
-  pub follow-enqueue : r .«queue_count» < depthOf (length st) → (a : ConsumerAssignment) → Packable a → Follows r st (enqueue (view r st) a)
-  unfolding view
-  follow-enqueue h a p =
-      let w : Write = record { slot = queueSlot (r .«queue_count»); assignment = a } in
-      let u : Writable (length st) w = record { packable = p; inside = depth-inside (length st) (r .«queue_count») h; above = omega arith } in
-      let n : Kept (enqueue (view r st) a .next) (writeSlot w st) =
-      record {
-        baseline = λ t. stands-kept w st u 1 (k .baseline t);
-        list = λ t. stands-kept w st u 2 (k .list t);
-        queue = λ j l m. one w u refl j l m (eqb j (w .slot)) refl;
-        count = rw (length-kept w st u) (omega arith);
-        position = omega (arith, k .position);
-      } in
-      record { kept = n; session = view-after (enqueue (view r st) a) (u, tt) n (pushed w u refl); reply = tt }
-    where
-      one : (w : Write) → Writable (length st) w → w .slot ≡ 3 + r .«queue_count» → (j : ℕ) → 3 ≤ j → j < 3 + (r .«queue_count» + 1)
-          → (b : Bool) → eqb j (w .slot) ≡ b → Stands (writeSlot w st) j
-      one w u e j l m true t = stands-same w st u j (eqb-true j (w .slot) t)
-      one w u e j l m false t = let d : j ≢ w .slot = eqb-false j (w .slot) t in stands-kept w st u j (k .queue j l (omega arith))
-
-      pushed : (w : Write) → Writable (length st) w → w .slot ≡ 3 + r .«queue_count»
-          → listsIn (writeSlot w st) 3 (r .«queue_count» + 1) ≡ take (r .«queue_count» + 1) (queued ++ pushes (w ∷ []))
-      pushed w u e =
-          let t : ltb 2 (w .slot) ≡ true = lt-ltb 2 (w .slot) (omega arith) in
-          let n : length (queued ++ (w .assignment ∷ [])) ≤ r .«queue_count» + 1 =
-          rw length-append (omega (arith, length-lists st 3 (r .«queue_count»))) in
-          ap (listsIn (writeSlot w st) 3) (add-one (r .«queue_count»))
-          ∙ lists-push w st (u .packable .fits) (u .packable .ok) (u .inside) 3 (r .«queue_count») e
-          ∙ sym (take-all (r .«queue_count» + 1) (queued ++ (w .assignment ∷ [])) n)
-          ∙ rw t refl
+    pub follow-enqueue : r .«queue_count» < 1024 → (a : ConsumerAssignment) → Packable a → queueEnd queued + sizeEntry a ≤ length st
+        → Follows r st (enqueue (view r st) a)
+    unfolding view
+    follow-enqueue h a p room =
+        let n : ℕ = r .«queue_count» in
+        let su : List ℕ = writeOne (push (queueEnd queued) a) st in
+        let q : Queued su (n + 1) = queued-push st n (k .queue) a p big room in
+        let still : (j : ℕ) → j < 3 → slot su j ≡ slot st j = slot-pushed st n (k .queue) a p big room in
+        let o : Kept (enqueue (view r st) a .next) su =
+        record {
+          baseline = λ t. stands-same st su 1 (still 1 (omega arith)) (k .baseline t);
+          list = λ t. stands-same st su 2 (still 2 (omega arith)) (k .list t);
+          queue = q;
+          count = omega arith;
+          position = omega (arith, k .position);
+        } in
+        let z : length (queued ++ (a ∷ [])) ≤ n + 1 =
+        rw length-append (omega (arith, k .queue .counted, ap length (queued-lists st n (k .queue)))) in
+        record {
+          kept = o;
+          session =
+              view-after (enqueue (view r st) a) o (length-pushed st n (k .queue) a p big room) (still 0 (omega arith))
+              (list-still st su 1 (still 1 (omega arith))) (list-still st su 2 (still 2 (omega arith)))
+              (queue-pushed st n (k .queue) a p big room ∙ sym (take-all (n + 1) (queued ++ (a ∷ [])) z));
+          reply = tt;
+        }

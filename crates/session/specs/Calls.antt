@@ -43,7 +43,7 @@ answerOf (refused x) = answer.Refused x
 answerOf accepted = answer.Accepted
 answerOf nothing = answer.Unchanged
 answerOf (changed d) = answer.Delta (sizeDelta d)
-answerOf (replayed place d) = answer.Replay place (sizeDelta d)
+answerOf (replayed index place d) = answer.Replay place (sizeDelta d)
 
 -- "An output is written from its first byte, its length is answered, and the bytes behind it stay."
 abbrev pub outputOf : Reply → List ℕ → List ℕ
@@ -51,7 +51,7 @@ outputOf (refused x) out = out
 outputOf accepted out = out
 outputOf nothing out = out
 outputOf (changed d) out = put out 0 (encodeDelta d)
-outputOf (replayed place d) out = put out 0 (encodeDelta d)
+outputOf (replayed index place d) out = put out 0 (encodeDelta d)
 
 -- a result on bytes
 abbrev pub effectOf : Result → List ℕ → List ℕ → Outcome

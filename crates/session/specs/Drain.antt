@@ -3,17 +3,18 @@
 -- "the next queue entry, from the position on, that differs from its predecessor (for the first, the baseline), as the byte place of its sheet in the store and the
 -- delta; the position moves just behind that entry. Else none, with the position at the queue's end. Unregistered: none, and nothing moves." Refused in order: 1, 2, 22.
 -- Assumes nothing.
-use Prim.Native.Nat.{ℕ, zero, suc, _*_}
+use Prim.Native.Nat.{ℕ, zero, suc, _+_}
 use mathlib.Core.Bool.{cond}
 use mathlib.Core.List.{List, [], _∷_}
+use lib.ListN.{take}
 use lib.Dec.{ltb}
 use Rattle.refusal.specs.declared.Refusal.the-variants.{StoreTooShort, OutputTooShort, MalformedStore}
-use Rattle.packed.specs.Assignment.{ConsumerAssignment, slotSize}
+use Rattle.packed.specs.Assignment.{ConsumerAssignment}
 use Rattle.packed.specs.Equal.{sameAssignment}
 use Rattle.delta.specs.Delta.{AssignmentDelta}
 use Rattle.delta.specs.Change.{deltaBetween}
 use Rattle.session.specs.declared.SessionRecord.{SessionRecord}
-use Rattle.session.specs.Store.{minStore, minOutput, queueSlot}
+use Rattle.session.specs.Store.{minStore, minOutput, queueEnd}
 use Rattle.session.specs.Session as session
 use Rattle.session.specs.Session.{Session, Result, damaged, refuse}
 
@@ -39,13 +40,13 @@ withPosition r k =
       «drain_position» = k;
     }
 
--- "the byte place of its sheet in the store"
-abbrev pub placeOf : ℕ → ℕ
-placeOf i = slotSize * queueSlot i
+-- "the byte place of its sheet in the store": behind those before it and its own length
+abbrev pub placeOf : List ConsumerAssignment → ℕ → ℕ
+placeOf queue i = queueEnd (take i queue) + 2
 
 unfoldable pub drained : Session → Found → Result
 drained s end = record { reply = session.nothing; next = withPosition (s .state) (s .state .«queue_count»); writes = [] }
-drained s (entry i d) = record { reply = session.replayed (placeOf i) d; next = withPosition (s .state) (suc i); writes = [] }
+drained s (entry i d) = record { reply = session.replayed i (placeOf (s .queue) i) d; next = withPosition (s .state) (suc i); writes = [] }
 
 unfoldable pub drainCall : Session → ℕ → Result
 drainCall s output =

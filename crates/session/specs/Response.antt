@@ -23,7 +23,7 @@ use Rattle.readers.specs.Messages.{WireResponse, responseOf}
 use Rattle.packed.specs.Assignment.{ConsumerAssignment}
 use Rattle.content.specs.Content.{Content, refused, taken, contentOf}
 use Rattle.session.specs.declared.SessionRecord.{SessionRecord}
-use Rattle.session.specs.Store.{minStore, baselineSlot, listSlot, Write}
+use Rattle.session.specs.Store.{minStore, baselineSlot, listSlot, toSlot}
 use Rattle.session.specs.Session as session
 use Rattle.session.specs.Session.{Session, Result, damaged, refuse, unless, floorFault, raise}
 
@@ -60,7 +60,7 @@ register s baseline last =
     record {
       reply = session.accepted;
       next = registeredWith s last (cond (s .state .registered) 0 (s .state .«queue_count»));
-      writes = record { slot = baselineSlot; assignment = baseline } ∷ record { slot = listSlot; assignment = last } ∷ [];
+      writes = toSlot baselineSlot baseline ∷ toSlot listSlot last ∷ [];
     }
 
 -- 26, then 27

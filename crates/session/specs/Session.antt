@@ -1,4 +1,4 @@
--- A session (01, Session): the record, and what the slots in use hold. A call gives a reply, the next record, and the slots that it writes.
+-- A session (01, Session): the record, and what the slots and queue entries in use hold. A call gives a reply, the next record, and the lists that it writes.
 -- Assumes nothing.
 use Prim.Native.Nat.{ℕ, _+_}
 use mathlib.Core.Bool.{Bool, true, false, cond, not, _&&_, _||_}
@@ -13,7 +13,7 @@ use Rattle.delta.specs.Delta.{AssignmentDelta}
 use Rattle.session.specs.declared.SessionRecord.{SessionRecord}
 use Rattle.session.specs.declared.Floor.{Floor}
 use Rattle.session.specs.declared.Floor.the-variants.{Unset, At}
-use Rattle.session.specs.Store.{baselineSlot, listSlot, queueSlot, identitySlot, slot, depthOf, listIn, listsIn, allStart, Write}
+use Rattle.session.specs.Store.{maxQueue, baselineSlot, listSlot, identitySlot, slot, listIn, queueIn, queueReads, Write}
 use Rattle.session.specs.Identity.{topicOf, isIdentity}
 
 pub record Session : Type 0 where
@@ -28,14 +28,14 @@ pub record Session : Type 0 where
   pub list : ConsumerAssignment
   pub queue : List ConsumerAssignment
 
--- "In use are identity, the first queue-count queue slots and, when registered, baseline and list."
+-- "In use are identity, the first queue-count queue" entries "and, when registered, baseline and list."
 abbrev pub listsStart : Bool → List ℕ → Bool
 listsStart true store = startsAssignment (slot store baselineSlot) && startsAssignment (slot store listSlot)
 listsStart false store = true
 
 unfoldable pub inUse : SessionRecord → List ℕ → Bool
 inUse r store =
-    isIdentity (slot store identitySlot) && (listsStart (r .registered) store && allStart store (queueSlot 0) (r .«queue_count»))
+    isIdentity (slot store identitySlot) && (listsStart (r .registered) store && queueReads store (r .«queue_count»))
 
 -- a record and a store, read as a session
 unfoldable pub view : SessionRecord → List ℕ → Session
@@ -47,13 +47,13 @@ view r store =
       topic = topicOf (slot store identitySlot);
       baseline = listIn store baselineSlot;
       list = listIn store listSlot;
-      queue = listsIn store (queueSlot 0) (r .«queue_count»);
+      queue = queueIn store (r .«queue_count»);
     }
 
--- 22: "a slot in use malformed, or a count beyond the depth or the queue"
+-- 22: "queued lengths or sheets do not read .. or whose queue count is above 1,024" (02 j), another slot in use malformed, or a position beyond the queue
 unfoldable pub damaged : Session → Bool
 damaged s =
-    ltb (depthOf (s .size)) (s .state .«queue_count») || (ltb (s .state .«queue_count») (s .state .«drain_position») || not (s .sound))
+    ltb maxQueue (s .state .«queue_count») || (ltb (s .state .«queue_count») (s .state .«drain_position») || not (s .sound))
 
 -- ---- what a call gives
 
@@ -62,7 +62,8 @@ pub data Reply : Type 0 where
   accepted : Reply
   nothing : Reply
   changed : AssignmentDelta → Reply
-  replayed : (place : ℕ) → AssignmentDelta → Reply
+  -- the entry's index in the queue, and the byte place of its list in the store
+  replayed : (index place : ℕ) → AssignmentDelta → Reply
 
 pub record Result : Type 0 where
   pub reply : Reply

@@ -22,7 +22,8 @@ use Rattle.delta.specs.Change.{deltaBetween}
 use Rattle.content.specs.Content.{Content, refused, taken, contentOf}
 use Rattle.session.specs.declared.SessionRecord.{SessionRecord}
 use Rattle.session.specs.declared.Floor.{Floor}
-use Rattle.session.specs.Store.{minStore, minOutput, listSlot, queueSlot, depthOf, Write}
+use Rattle.packed_queue.specs.Entries.{sizeEntry}
+use Rattle.session.specs.Store.{minStore, minOutput, maxQueue, listSlot, queueEnd, toSlot, push}
 use Rattle.session.specs.Session as session
 use Rattle.session.specs.Session.{Session, Result, damaged, refuse, unless, floorFault, raise}
 
@@ -56,7 +57,7 @@ enqueue s a =
     record {
       reply = session.nothing;
       next = withQueueCount (s .state) (s .state .«queue_count» + 1);
-      writes = record { slot = queueSlot (s .state .«queue_count»); assignment = a } ∷ [];
+      writes = push (queueEnd (s .queue)) a ∷ [];
     }
 
 -- it is held, raises the floor, and answers the delta
@@ -65,15 +66,16 @@ hold s a =
     record {
       reply = session.changed (deltaBetween (s .list) a);
       next = withFloor (s .state) (raise (s .state .«epoch_floor») (a .layoutEpoch));
-      writes = record { slot = listSlot; assignment = a } ∷ [];
+      writes = toSlot listSlot a ∷ [];
     }
 
--- 26, then 28
+-- 26, then 28: "if 1,024 are queued or length and sheet do not fit the free end; the attached max is 1,024 or the number queued"
 unfoldable pub updateUnregistered : Session → ConsumerAssignment → Result
 updateUnregistered s a =
     unless (floorFault (a .layoutEpoch) (s .state .«epoch_floor»)) s
-    (cond (eqb (s .state .«queue_count») (depthOf (s .size))) (refuse (PreBaselineBufferFull (depthOf (s .size))) s)
-    (enqueue s a))
+    (cond (eqb (s .state .«queue_count») maxQueue) (refuse (PreBaselineBufferFull maxQueue) s)
+    (cond (ltb (s .size) (queueEnd (s .queue) + sizeEntry a)) (refuse (PreBaselineBufferFull (s .state .«queue_count»)) s)
+    (enqueue s a)))
 
 -- none, or 27
 unfoldable pub updateRegistered : Session → ConsumerAssignment → Result

@@ -1,6 +1,6 @@
 // The types of a station's session, and what its calls give: see specs/. The calls are the functions of the crates above this one.
 //
-// What the Rust's `ScalableConsumerSession` owns lies in two places: a small record, here, and a store of slots that is lent to each call.
+// What the Rust's `ScalableConsumerSession` owns lies in two places: a small record, here, and a store that is lent to each call.
 use refusal::Refusal;
 use types::ControllerIncarnation;
 

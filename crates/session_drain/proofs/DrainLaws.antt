@@ -1,123 +1,169 @@
 -- Laws of the drain.
 --
--- In order: entries of the queue where they lie (`before-low` to `part-starts`); the walk over them (`walk-begins` to `entry-differs`);
--- what was found (`found-none`, `found-some`); the cases of the call (`told` to `replayed`).
+-- In order: entries of the queue where they lie (`part-lies` to `reaches-next`); the walk over them (`walk-begins` to `goes-on`);
+-- what was found (`found-none` to `placed`); the cases of the call (`told` to `replayed`).
 -- Assumes nothing.
-use Prim.Native.Nat.{ℕ, zero, suc, _+_, _-_, _*_, _≤_, _<_}
-use native.Mathlib.Nat.{add-zero, zero-add, not-suc-le-zero}
+use Prim.Native.Nat.{ℕ, zero, suc, _+_, _-_, _≤_, _<_}
+use native.Mathlib.Nat.{add-zero, zero-add, not-suc-le-zero, add-sub-cancel-left}
 use native.Mathlib.Numerals.{add-one}
 use native.Mathlib.Omega.{arith}
-use mathlib.Core.Path.{_≡_, refl, sym, ap, _∙_}
+use mathlib.Core.Path.{_≡_, refl, sym, ap, _∙_, subst}
 use mathlib.Core.Bool.{Bool, true, false, cond, not}
 use mathlib.Core.List.{List, [], _∷_}
 use lib.ListN.{length, take, drop}
+use lib.Seq.{drop-drop}
 use borrow.Author.Tests.{lt-ltb, le-ltb, not-true, not-false}
 use Rattle.refusal.specs.declared.Refusal.the-variants.{StoreTooShort, OutputTooShort, MalformedStore}
+use Rattle.packed_int.specs.Be.{beAt}
 use Rattle.packed_int.specs.Put.{put}
-use Rattle.packed.specs.Assignment.{ConsumerAssignment, assignmentOf, startsAssignment}
+use Rattle.packed.specs.Assignment.{ConsumerAssignment, assignmentOf}
 use Rattle.packed.specs.Equal.{sameAssignment}
+use Rattle.packed_queue.specs.Entries.{sizeEntries, sheetIn, entryEnd, entriesOf, entriesEnd}
+use Rattle.packed_queue.proofs.WalkLaws.{ends-split, entries-take}
 use Rattle.delta.specs.Delta.{AssignmentDelta, encodeDelta, sizeDelta}
 use Rattle.delta.specs.Change.{deltaBetween}
 use Rattle.session.specs.declared.SessionRecord.{SessionRecord}
 use Rattle.session.specs.declared.Changed.{Changed}
 use Rattle.session.specs.declared.Answer.the-variants.{Refused, Unchanged, Replay}
-use Rattle.session.specs.Store.{slot, listIn, listsIn}
+use Rattle.session.specs.Store.{slot, listIn, queueIn, queueEnd}
 use Rattle.session.specs.Session.{view, damaged}
-use Rattle.session.specs.Drain.{Found, end, entry, nextChange, withPosition, drained, drainCall}
+use Rattle.session.specs.Drain.{Found, end, entry, nextChange, withPosition, placeOf, drained, drainCall}
 use Rattle.session.specs.Calls.{outcome, effectOf, drainOutcome}
-use Rattle.session_store.proofs.StoreLaws.{part-slot, all-start-at, count-most, queue-room, lists-start, queue-starts}
-use Rattle.session_drain.specs.Entries.{slotBefore, foundAt, Entries}
+use Rattle.session_store.specs.Places.{Lies, entryIn, listBefore}
+use Rattle.session_store.proofs.StoreLaws.{count-most, lists-start, queue-starts, entry-room, entry-lies, entry-next}
+use Rattle.session_drain.specs.declared.Reached.{Reached}
+use Rattle.session_drain.specs.Entries.{foundAt, Entries, Reaches}
 
 -- ---- entries where they lie
 
-pub before-low : (i : ℕ) → slotBefore i < 3 + i
-before-low zero = omega arith
-before-low (suc i) = omega arith
+-- as the part that the program lends
+part-lies : (st : List ℕ) (at size : ℕ) (a : ConsumerAssignment) → Lies st at size a → Lies st at (at + size - at) a
+part-lies st at size a y = subst (λ m. Lies st at m a) (sym (add-sub-cancel-left at size)) y
 
-pub before-later : (i : ℕ) → (i ≡ 0 → ⊥) → 2 + i ≡ slotBefore i
-before-later zero h = absurd (h refl)
-before-later (suc i) h = omega arith
+before-later : (st : List ℕ) (i at size : ℕ) → 0 < i → Lies st at size (entryIn st (i - 1)) → Lies st at size (listBefore st i)
+before-later st zero at size h y = absurd (omega arith)
+before-later st (suc i) at size h y = let e : suc i - 1 ≡ i = omega arith in subst (λ m. Lies st at size (entryIn st m)) e y
 
-module _ (st : List ℕ) (n i : ℕ) (e : Entries st n) (h : i < n) where
-  pub entry-there : startsAssignment (slot st (3 + i)) ≡ true
-  entry-there = all-start-at st 3 n i (e .queue) h
+-- the first entry, behind the baseline
+pub reaches-first : (st : List ℕ) (n : ℕ) → Entries st n → Reaches st (record { i = 0; at = 6144; before = 2048; until = 4096 })
+unfolding listIn slot queueIn entriesOf sizeEntries
+reaches-first st n e =
+    record {
+      here = refl;
+      rises = omega arith;
+      lies = record { inside = omega (arith, e .big); few = omega arith; starts = e .baseline; holds = refl };
+    }
 
-  pub entry-room : 2048 * (3 + i) + 2048 ≤ length st
-  entry-room = omega (arith, e .room)
+module _ (st : List ℕ) (n : ℕ) (r : Reached) (w : Reaches st r) (e : Entries st n) (h : r .i < n) where
+  pub next-length : r .at + 2 ≤ length st
+  next-length = entry-room st n (r .i) (e .big) (e .queue) h (r .at) (w .here)
 
--- the same of the slot before
-module _ (st : List ℕ) (n : ℕ) (e : Entries st n) where
-  pub before-there : (i : ℕ) → i < n → startsAssignment (slot st (slotBefore i)) ≡ true
-  before-there zero h = e .baseline
-  before-there (suc i) h = entry-there st n i e (omega arith)
+  module _ (len : ℕ) (z : len ≡ beAt 2 st (r .at)) where
+    pub next-lies : Lies st (r .at + 2) (r .at + 2 + len - (r .at + 2)) (entryIn st (r .i))
+    next-lies = part-lies st (r .at + 2) len (entryIn st (r .i)) (entry-lies st n (r .i) (e .big) (e .queue) h (r .at) (w .here) len z)
 
-  pub before-room : (i : ℕ) → i < n → 2048 * slotBefore i + 2048 ≤ length st
-  before-room i h = omega (arith, before-low i, entry-room st n i e h)
+    pub next-inside : r .at + 2 + len ≤ length st
+    next-inside = entry-lies st n (r .i) (e .big) (e .queue) h (r .at) (w .here) len z .inside
 
--- the part that the program lends for slot k, where k is computed
-module _ (st : List ℕ) (k j : ℕ) (e : k ≡ j) where
-  pub part-holds : assignmentOf (take (2048 * k + 2048 - 2048 * k) (drop (2048 * k) st)) ≡ listIn st j
-  unfolding listIn
-  part-holds = ap assignmentOf (part-slot st k) ∙ ap (λ (n : ℕ). assignmentOf (slot st n)) e
-
-  pub part-starts : startsAssignment (slot st j) ≡ true → startsAssignment (take (2048 * k + 2048 - 2048 * k) (drop (2048 * k) st)) ≡ true
-  part-starts h = ap startsAssignment (part-slot st k) ∙ ap (λ (n : ℕ). startsAssignment (slot st n)) e ∙ h
+    -- the entry behind it
+    pub reaches-next : Reaches st (record { i = r .i + 1; at = r .at + 2 + len; before = r .at + 2; until = r .at + 2 + len })
+    reaches-next =
+        record {
+          here = entry-next st n (r .i) (e .big) (e .queue) h (r .at) (w .here) len z;
+          rises = omega arith;
+          lies = before-later st (r .i + 1) _ _ (omega arith) (subst (λ m. Lies st (r .at + 2) (r .at + 2 + len - (r .at + 2)) (entryIn st m)) (sym back) next-lies);
+        }
+      where
+        back : r .i + 1 - 1 ≡ r .i
+        back = omega arith
 
 -- the delta to entry i from the list before it
 abbrev changeTo : List ℕ → ℕ → AssignmentDelta
-changeTo st i = deltaBetween (listIn st (slotBefore i)) (listIn st (3 + i))
+changeTo st i = deltaBetween (listBefore st i) (entryIn st i)
 
 -- ---- the walk over the entries
 
-lists-none : (st : List ℕ) (k n : ℕ) → n ≡ 0 → listsIn st k n ≡ []
-unfolding listsIn
-lists-none st k n h = rw h
+-- the lists of n entries from entry i on
+abbrev listsFrom : List ℕ → ℕ → ℕ → List ConsumerAssignment
+listsFrom st zero i = []
+listsFrom st (suc n) i = entryIn st i ∷ listsFrom st n (suc i)
 
-lists-some : (st : List ℕ) (k n : ℕ) → 0 < n → listsIn st k n ≡ listIn st k ∷ listsIn st (suc k) (n - 1)
-unfolding listsIn
-lists-some st k zero h = absurd (not-suc-le-zero h)
-lists-some st k (suc n) h = let f : suc n - 1 ≡ n = omega arith in rw f
+lists-from : (st : List ℕ) (n i : ℕ) → entriesOf n (drop (entriesEnd i (drop 6144 st)) (drop 6144 st)) ≡ listsFrom st n i
+unfolding entriesOf entryIn entriesEnd
+lists-from st zero i = refl
+lists-from st (suc n) i =
+    let l = drop 6144 st in
+    let x = drop (entriesEnd i l) l in
+    let e : entriesEnd (suc i) l ≡ entriesEnd i l + entryEnd x = ap (λ m. entriesEnd m l) (sym (add-one i)) ∙ ends-split i 1 l ∙ omega arith in
+    ap (assignmentOf (sheetIn x) ∷_)
+    (ap (entriesOf n) (drop-drop (entryEnd x) (entriesEnd i l) l ∙ ap (λ m. drop m l) (sym e)) ∙ lists-from st n (suc i))
+
+queue-from : (st : List ℕ) (n : ℕ) → queueIn st n ≡ listsFrom st n 0
+unfolding queueIn entriesEnd
+queue-from st n = lists-from st n 0
 
 -- the next change among the m entries from entry i on
 abbrev pub rest : List ℕ → ℕ → ℕ → Found
-rest st m i = nextChange i (listIn st (slotBefore i)) (listsIn st (3 + i) m) 0
+rest st m i = nextChange i (listBefore st i) (listsFrom st m i) 0
 
 -- the entries before the position are passed over
-begin-at : (st : List ℕ) (j k n : ℕ) → k ≤ n → nextChange j (listIn st (slotBefore j)) (listsIn st (3 + j) n) k ≡ rest st (n - k) (j + k)
-unfolding nextChange listsIn
+begin-at : (st : List ℕ) (j k n : ℕ) → k ≤ n → nextChange j (listBefore st j) (listsFrom st n j) k ≡ rest st (n - k) (j + k)
+unfolding nextChange
 begin-at st j zero n h = let e : n - 0 ≡ n = omega arith in rw (e, add-zero j)
 begin-at st j (suc k) zero h = absurd (not-suc-le-zero h)
 begin-at st j (suc k) (suc n) h =
     let e : suc n - suc k ≡ n - k = omega arith in
     let f : j + suc k ≡ suc j + k = omega arith in
-    let g : suc (3 + j) ≡ 3 + suc j = omega arith in
-    rw (e, f) (ap (λ (z : ℕ). nextChange (suc j) (listIn st (3 + j)) (listsIn st z n) k) g ∙ begin-at st (suc j) k n (omega arith))
+    rw (e, f) (begin-at st (suc j) k n (omega arith))
 
 module _ (st : List ℕ) (n : ℕ) where
-  pub walk-begins : (k : ℕ) → k ≤ n → nextChange 0 (listIn st 1) (listsIn st 3 n) k ≡ rest st (n - k) k
-  walk-begins k h = begin-at st 0 k n h ∙ ap (rest st (n - k)) (zero-add k)
+  pub walk-begins : (k : ℕ) → k ≤ n → nextChange 0 (listIn st 1) (queueIn st n) k ≡ rest st (n - k) k
+  walk-begins k h = ap (λ q. nextChange 0 (listIn st 1) q k) (queue-from st n) ∙ begin-at st 0 k n h ∙ ap (rest st (n - k)) (zero-add k)
 
-  pub walk-ends : (i : ℕ) → n ≤ i → rest st (n - i) i ≡ foundAt st n n
+  walk-ends : (i : ℕ) → i ≤ n → n ≤ i → rest st (n - i) i ≡ foundAt st n i
   unfolding foundAt nextChange
-  walk-ends i h = rw (lists-none st (3 + i) (n - i) (omega arith), le-ltb n n (omega arith))
+  walk-ends i l h = let e : n - i ≡ 0 = omega arith in rw (e, le-ltb i n h)
 
 -- an entry, compared with the list before it
 module _ (st : List ℕ) (n i : ℕ) (h : i < n) where
   looked : rest st (n - i) i
-      ≡ cond (sameAssignment (listIn st (slotBefore i)) (listIn st (3 + i))) (rest st (n - (i + 1)) (i + 1)) (entry i (changeTo st i))
+      ≡ cond (sameAssignment (listBefore st i) (entryIn st i)) (rest st (n - (i + 1)) (i + 1)) (entry i (changeTo st i))
   unfolding nextChange
   looked =
-      let g : suc (3 + i) ≡ 3 + suc i = omega arith in
-      let p : n - i - 1 ≡ n - suc i = omega arith in
-      rw (lists-some st (3 + i) (n - i) (omega arith), add-one i, p, g)
+      let e : n - i ≡ suc (n - suc i) = omega arith in
+      rw (e, add-one i)
 
-  module _ (x : Bool) (k : ℕ) (b : k ≡ slotBefore i) (e : x ≡ sameAssignment (listIn st k) (listIn st (3 + i))) where
+  module _ (x : Bool) (a b : ConsumerAssignment) (p : a ≡ listBefore st i) (q : b ≡ entryIn st i) (e : x ≡ sameAssignment a b) where
     pub entry-same : not x ≡ false → rest st (n - i) i ≡ rest st (n - (i + 1)) (i + 1)
-    entry-same f = looked ∙ rw (← b, ← e, not-false x f)
+    entry-same f = looked ∙ rw (← p, ← q, ← e, not-false x f)
 
     pub entry-differs : not x ≡ true → rest st (n - i) i ≡ foundAt st n i
     unfolding foundAt
-    entry-differs f = looked ∙ rw (← b, ← e, not-true x f, lt-ltb i n h)
+    entry-differs f = looked ∙ rw (← p, ← q, ← e, not-true x f, lt-ltb i n h)
+
+-- what the program knows before it looks at an entry
+pub record Walked (st : List ℕ) (from n : ℕ) (r : Reached) : Type 0 where
+  pub low : r .i ≤ n
+  pub reaches : Reaches st r
+  pub found : nextChange 0 (listIn st 1) (queueIn st n) from ≡ rest st (n - r .i) (r .i)
+
+module _ (st : List ℕ) (from n : ℕ) (r : Reached) (w : Walked st from n r) where
+  pub ended : n ≤ r .i → nextChange 0 (listIn st 1) (queueIn st n) from ≡ foundAt st n (r .i)
+  ended h = w .found ∙ walk-ends st n (r .i) (omega (arith, w .low)) h
+
+  module _ (e : Entries st n) (h : r .i < n) (len : ℕ) (z : len ≡ beAt 2 st (r .at)) (x : Bool)
+      (f : x ≡ sameAssignment (assignmentOf (take (r .until - r .before) (drop (r .before) st)))
+      (assignmentOf (take (r .at + 2 + len - (r .at + 2)) (drop (r .at + 2) st)))) where
+    pub stops : not x ≡ true → nextChange 0 (listIn st 1) (queueIn st n) from ≡ foundAt st n (r .i)
+    stops g = w .found ∙ entry-differs st n (r .i) h x _ _ (w .reaches .lies .holds) (next-lies st n r (w .reaches) e h len z .holds) f g
+
+    pub goes-on : not x ≡ false → Walked st from n (record { i = r .i + 1; at = r .at + 2 + len; before = r .at + 2; until = r .at + 2 + len })
+    goes-on g =
+        record {
+          low = omega arith;
+          reaches = reaches-next st n r (w .reaches) e h len z;
+          found = w .found ∙ entry-same st n (r .i) h x _ _ (w .reaches .lies .holds) (next-lies st n r (w .reaches) e h len z .holds) f g;
+        }
 
 -- ---- what was found
 
@@ -128,6 +174,11 @@ found-none st n i e = rw (le-ltb i n (omega arith))
 found-some : (st : List ℕ) (n i : ℕ) → i < n → foundAt st n i ≡ entry i (changeTo st i)
 unfolding foundAt
 found-some st n i h = rw (lt-ltb i n h)
+
+-- its place
+placed : (st : List ℕ) (n i : ℕ) → i < n → placeOf (queueIn st n) i ≡ queueEnd (queueIn st i) + 2
+unfolding queueIn
+placed st n i h = ap (λ q. queueEnd q + 2) (entries-take i n (drop 6144 st) (omega arith))
 
 -- ---- the call
 
@@ -154,7 +205,7 @@ module _ (r : SessionRecord) (st out : List ℕ) where
 
 -- what is found from the position on
 abbrev pub nextOf : SessionRecord → List ℕ → Found
-nextOf r st = nextChange 0 (listIn st 1) (listsIn st 3 (r .«queue_count»)) (r .«drain_position»)
+nextOf r st = nextChange 0 (listIn st 1) (queueIn st (r .«queue_count»)) (r .«drain_position»)
 
 -- a call that is not refused
 pub record Taken (r : SessionRecord) (st out : List ℕ) : Type 0 where
@@ -177,9 +228,9 @@ module _ (r : SessionRecord) (st out : List ℕ) (t : Taken r st out) where
     pub queue-there : Entries st (r .«queue_count»)
     queue-there =
         record {
+          big = t .store;
           baseline = lists-start r st (t .sound) (not-false (r .registered) g) .0;
           queue = queue-starts r st (t .sound);
-          room = queue-room r st (t .sound) (t .store);
           few = count-most r st (t .sound);
         }
 
@@ -200,10 +251,11 @@ module _ (r : SessionRecord) (st out : List ℕ) (t : Taken r st out) where
       unfolding view drained
       none-left p = found end (q ∙ found-none st (r .«queue_count») i p)
 
-      pub replayed : i < r .«queue_count» → (a b : ConsumerAssignment) → a ≡ listIn st (slotBefore i) → b ≡ listIn st (3 + i)
+      pub replayed : i < r .«queue_count» → (place : ℕ) → place ≡ queueEnd (queueIn st i) + 2
+          → (a b : ConsumerAssignment) → a ≡ listBefore st i → b ≡ entryIn st i
           → (len : ℕ) → len ≡ sizeDelta (deltaBetween a b) → (new : List ℕ) → new ≡ put out 0 (encodeDelta (deltaBetween a b))
           → (next : SessionRecord) → next ≡ withPosition r (i + 1)
-          → outcome (Replay (2048 * (3 + i)) len) next st new ≡ drainOutcome r st out
+          → outcome (Replay place len) next st new ≡ drainOutcome r st out
       unfolding view drained
-      replayed p a b ea eb len el new en next ex =
-          rw (el, en, ex, ea, eb, add-one i) (found (entry i (changeTo st i)) (q ∙ found-some st (r .«queue_count») i p))
+      replayed p place ep a b ea eb len el new en next ex =
+          rw (el, en, ex, ea, eb, add-one i, ep ∙ sym (placed st (r .«queue_count») i p)) (found (entry i (changeTo st i)) (q ∙ found-some st (r .«queue_count») i p))

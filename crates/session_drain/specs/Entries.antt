@@ -1,6 +1,6 @@
--- What the functions of src/ ask and answer: queue entries where they lie.
+-- Internal: cited by the contracts of helpers alone. What the functions of src/ ask and answer: queue entries where they lie.
 -- Assumes nothing.
-use Prim.Native.Nat.{ℕ, zero, suc, _+_, _*_, _≤_}
+use Prim.Native.Nat.{ℕ, _-_, _≤_}
 use mathlib.Core.Path.{_≡_}
 use mathlib.Core.Bool.{true, cond}
 use mathlib.Core.List.{List}
@@ -8,21 +8,24 @@ use lib.ListN.{length}
 use lib.Dec.{ltb}
 use Rattle.packed.specs.Assignment.{startsAssignment}
 use Rattle.delta.specs.Change.{deltaBetween}
-use Rattle.session.specs.Store.{slot, listIn, allStart}
+use Rattle.session.specs.Store.{slot, queueIn, queueReads, queueEnd}
 use Rattle.session.specs.Drain.{Found, end, entry}
-
--- the slot before queue entry i: the baseline's for the first
-abbrev pub slotBefore : ℕ → ℕ
-slotBefore zero = 1
-slotBefore (suc i) = 3 + i
+use Rattle.session_store.specs.Places.{Lies, entryIn, listBefore}
+use Rattle.session_drain.specs.declared.Reached.{Reached}
 
 -- entry i of n, or the end
 unfoldable pub foundAt : List ℕ → ℕ → ℕ → Found
-foundAt store n i = cond (ltb i n) (entry i (deltaBetween (listIn store (slotBefore i)) (listIn store (3 + i)))) end
+foundAt store n i = cond (ltb i n) (entry i (deltaBetween (listBefore store i) (entryIn store i))) end
 
 -- baseline and n queue entries are packed assignments
 pub record Entries (store : List ℕ) (n : ℕ) : Type 0 where
+  pub big : 6144 ≤ length store
   pub baseline : startsAssignment (slot store 1) ≡ true
-  pub queue : allStart store 3 n ≡ true
-  pub room : 2048 * (3 + n) ≤ length store
+  pub queue : queueReads store n ≡ true
   pub few : n ≤ 1024
+
+-- entry i begins where the entries before it end, and the list before it lies where it is said to
+pub record Reaches (store : List ℕ) (r : Reached) : Type 0 where
+  pub here : r .at ≡ queueEnd (queueIn store (r .i))
+  pub rises : r .before ≤ r .until
+  pub lies : Lies store (r .before) (r .until - r .before) (listBefore store (r .i))

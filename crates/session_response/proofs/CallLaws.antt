@@ -32,7 +32,7 @@ use Rattle.content.specs.Content.{Content, refused, taken, contentOf}
 use Rattle.session.specs.declared.SessionRecord.{SessionRecord}
 use Rattle.session.specs.declared.Changed.{Changed}
 use Rattle.session.specs.declared.Answer.the-variants as answer
-use Rattle.session.specs.Store.{slot, listsIn, writeSlot}
+use Rattle.session.specs.Store.{slot, queueIn, writeOne}
 use Rattle.session.specs.Identity.{topicOf}
 use Rattle.session.specs.Session.{view, damaged, Result, refuse, unless, floorFault}
 use Rattle.session.specs.Response.{staleFault, lastList, replayable, denied}
@@ -100,9 +100,9 @@ module _ (r : SessionRecord) (st : List ℕ) where
       → st₁ ≡ put st (2048 * 1) (encodeAssignment (assignmentOf b)) → st₂ ≡ put st₁ (2048 * 2) (encodeAssignment (assignmentOf last))
       → next ≡ registeredBy r epoch count
       → (out : List ℕ) → outcome answer.Accepted next st₂ out ≡ effectOf (registered (view r st) (assignmentOf b)) st out
-  unfolding view writeSlot
+  unfolding view writeOne
   registered-out next st₁ st₂ b last epoch count size e l f g h i out =
-      let q : replayable (view r st) ≡ listsIn st 3 count = replayed-is r st count e in
+      let q : replayable (view r st) ≡ queueIn st count = replayed-is r st count e in
       let a : assignmentOf last ≡ lastList (assignmentOf b) (replayable (view r st)) =
       l .is-last ∙ ap (lastList (assignmentOf b)) (sym q) in
       rw (← a, i, f, ← e, h, g) refl
@@ -120,7 +120,7 @@ module _ (r : SessionRecord) (st : List ℕ) where
     assignment-below g v h = rw (← e, floor-below epoch (r .«epoch_floor») (sym f ∙ g), ← h) refl
 
     module _ (g : t ≡ false) (n : ℕ) (i : n ≡ cond (r .registered) 0 (r .«queue_count»)) where
-      pub queue-decides : (s : Stale) → s ≡ staleOf epoch (listsIn st 3 n) → Decided a s
+      pub queue-decides : (s : Stale) → s ≡ staleOf 6144 6144 epoch (queueIn st n) → Decided a s
       unfolding responseAssignment view
       queue-decides s h =
           ap (λ (x : Option Refusal). unless x (view r st) (unless (staleFault a (replayable (view r st))) (view r st) on)) no-fault
@@ -133,14 +133,14 @@ module _ (r : SessionRecord) (st : List ℕ) where
           no-fault = ap (λ (x : ℕ). floorFault x (r .«epoch_floor»)) (sym e) ∙ floor-met epoch (r .«epoch_floor») (sym f ∙ g)
 
           fault : staleFault a (replayable (view r st)) ≡ staleRefusal s
-          fault = stale-fault a (replayable (view r st)) ∙ ap staleRefusal (ap₂ staleOf (sym e) (replayed-is r st n i) ∙ sym h)
+          fault = stale-fault 6144 6144 a (replayable (view r st)) ∙ ap staleRefusal (ap₂ (staleOf 6144 6144) (sym e) (replayed-is r st n i) ∙ sym h)
 
   module _ (a : ConsumerAssignment) (s : Stale) (d : Decided a s) where
     pub assignment-stale : (got prev : ℕ) → s ≡ stale.At got prev → responseAssignment (view r st) a ≡ refuse (StaleEpoch got prev) (view r st)
     assignment-stale got prev k = d ∙ ap (λ (x : Stale). unless (staleRefusal x) (view r st) (registered (view r st) a)) k
 
-    pub assignment-on : s ≡ stale.Nowhere → responseAssignment (view r st) a ≡ registered (view r st) a
-    assignment-on k = d ∙ ap (λ (x : Stale). unless (staleRefusal x) (view r st) (registered (view r st) a)) k
+    pub assignment-on : (at : ℕ) → s ≡ stale.Nowhere at → responseAssignment (view r st) a ≡ registered (view r st) a
+    assignment-on at k = d ∙ ap (λ (x : Stale). unless (staleRefusal x) (view r st) (registered (view r st) a)) k
 
   -- ---- content
 

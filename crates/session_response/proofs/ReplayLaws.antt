@@ -1,31 +1,35 @@
 -- The replay of the queue, and its last list in a buffer.
 --
--- In order: epochs (`buffer-epoch`, `slot-epoch`); the queue's epochs from one on (`stale-end`, `stale-here`, `stale-next`), and the fault
--- that they are (`stale-fault`); the last list (`last-none`, `last-some`); the queue that is replayed (`replayed-is`, `replayed-room`,
--- `replayed-start`).
+-- In order: epochs (`buffer-epoch`, `entry-epoch`); the queue's epochs from one on (`Epochs`: `epochs-start`, `stale-end`, `stale-here`, `stale-next`), and the fault
+-- that they are (`stale-fault`); where the last entry begins (`last-begins`); the last list (`last-none`, `last-some`); the queue that is replayed (`replayed-is`, `replayed-reads`).
 -- Assumes nothing.
-use Prim.Native.Nat.{ℕ, zero, suc, _+_, _-_, _*_, _≤_, _<_}
-use native.Mathlib.Nat.{not-suc-le-zero}
+use Prim.Native.Nat.{ℕ, zero, suc, _+_, _-_, _≤_, _<_}
+use native.Mathlib.Nat.{add-sub-cancel-left}
 use native.Mathlib.Omega.{arith}
-use mathlib.Core.Path.{_≡_, refl, sym, ap, _∙_, subst}
+use mathlib.Core.Path.{_≡_, refl, sym, ap, ap₂, _∙_, subst}
 use mathlib.Core.Bool.{Bool, true, false, cond, not}
-use mathlib.Core.List.{List, [], _∷_, _++_, append-nil}
-use lib.ListN.{length, take, drop, drop-of-length-le}
-use lib.Seq.{take-take, take-all}
-use lib.Dec.{ltb}
-use borrow.Author.Tests.{le-ltb, lt-ltb}
+use mathlib.Core.List.{List, [], _∷_, _++_, append-nil, append-assoc}
+use lib.ListN.{length, take, drop, length-drop, length-append, drop-of-length-le, take-append-drop}
+use lib.Seq.{take-take, take-all, drop-drop, length-take-le}
+use lib.Dec.{ltb, leb}
+use borrow.Author.Tests.{le-ltb, lt-ltb, leb-true}
+use Rattle.ranges.specs.Meaning.{both-true}
+use Rattle.parts.proofs.PartLaws.{Bytes, Bytes-take, Bytes-drop}
 use Rattle.packed_int.specs.Be.{be, beAt}
 use Rattle.packed_int.specs.Put.{put}
-use Rattle.packed.specs.Assignment.{ConsumerAssignment, num, sizeAssignment, assignmentOf, startsAssignment}
+use Rattle.packed.specs.Assignment.{ConsumerAssignment, num, encodeAssignment, sizeAssignment, assignmentOf, startsAssignment}
+use Rattle.packed.proofs.RoundLaws.{write-assignment, read-assignment, fit-assignment, starts-encode}
+use Rattle.packed_queue.specs.Entries.{sizeEntry, sizeEntries, sheetIn, entryEnd, entriesOf, entriesEnd, startsEntry, startEntries}
+use Rattle.packed_queue.proofs.WalkLaws.{entry-inside, sheet-size}
 use Rattle.session.specs.declared.SessionRecord.{SessionRecord}
-use Rattle.session.specs.Store.{slot, listIn, listsIn, allStart}
+use Rattle.session.specs.Store.{queueIn, queueReads}
 use Rattle.session.specs.Session.{view, damaged}
 use Rattle.session.specs.Response.{staleFault, lastList, replayable}
-use Rattle.session.proofs.SlotLaws.{length-slot}
 use Rattle.session_store.specs.Scratch.{Scratch}
-use Rattle.session_store.proofs.StoreLaws.{part-slot, all-start-at, queue-room, queue-starts}
+use Rattle.session_store.specs.Places.{Lies, entryIn}
+use Rattle.session_store.proofs.StoreLaws.{queue-starts}
 use Rattle.session_response.specs.declared.Stale.the-variants.{Nowhere, At}
-use Rattle.session_response.specs.Replay.{staleOf, staleRefusal, LastIs}
+use Rattle.session_response.specs.Replay.{staleOf, staleRefusal, LastBegins, LastIs}
 
 -- ---- epochs
 
@@ -34,43 +38,135 @@ pub buffer-epoch : (b : List ℕ) (e : ℕ) → e ≡ beAt 8 b 0 → e ≡ assig
 unfolding beAt assignmentOf num
 buffer-epoch b e f = f
 
--- and of the one in a slot
-pub slot-epoch : (st : List ℕ) (k e : ℕ) → e ≡ beAt 8 st (2048 * k) → e ≡ listIn st k .layoutEpoch
-unfolding beAt listIn slot assignmentOf num
-slot-epoch st k e f = f ∙ ap be (sym (take-take 8 2048 (drop (2048 * k) st) (omega arith)))
+-- a list has ten bytes at least
+long : (l : List ℕ) → startsEntry l ≡ true → 10 ≤ num 2 l
+unfolding sizeAssignment
+long l h = omega (arith, sheet-size l h)
+
+-- and of the list of the entry at a place
+entry-epoch : (st : List ℕ) (at e : ℕ) → startsEntry (drop at st) ≡ true → e ≡ beAt 8 st (at + 2) → e ≡ assignmentOf (sheetIn (drop at st)) .layoutEpoch
+unfolding beAt assignmentOf num sheetIn
+entry-epoch st at e h f =
+    f ∙ ap (λ x. be (take 8 x)) (sym (drop-drop 2 at st))
+    ∙ ap be (sym (take-take 8 (num 2 (drop at st)) (drop 2 (drop at st)) (omega (arith, long (drop at st) h))))
 
 -- ---- the queue's epochs
 
-pub stale-end : (prev : ℕ) (st : List ℕ) (k n : ℕ) → n ≤ 0 → Nowhere ≡ staleOf prev (listsIn st k n)
-unfolding staleOf listsIn
-stale-end prev st k zero h = refl
-stale-end prev st k (suc n) h = absurd (not-suc-le-zero h)
+-- the entries that are left from a place on decide, from the epoch before them on
+pub record Epochs (st : List ℕ) (epoch n prev last at left : ℕ) : Type 0 where
+  pub inside : at ≤ length st
+  pub reads : startEntries left (drop at st) ≡ true
+  pub decide : staleOf 6144 6144 epoch (queueIn st n) ≡ staleOf last at prev (entriesOf left (drop at st))
 
-stale-step : (prev : ℕ) (st : List ℕ) (k n : ℕ) → 0 < n → (e : ℕ) → e ≡ listIn st k .layoutEpoch
-    → staleOf prev (listsIn st k n) ≡ cond (ltb e prev) (At e prev) (staleOf e (listsIn st (k + 1) (n - 1)))
-unfolding staleOf listsIn
-stale-step prev st k zero h e f = absurd (not-suc-le-zero h)
-stale-step prev st k (suc n) h e f =
-    let g : k + 1 ≡ suc k = omega arith in
-    let i : suc n - 1 ≡ n = omega arith in
-    rw (g, i, f) refl
+pub epochs-start : (st : List ℕ) (epoch n : ℕ) → 6144 ≤ length st → queueReads st n ≡ true → Epochs st epoch n epoch 6144 6144 n
+unfolding queueReads queueIn
+epochs-start st epoch n big h = record { inside = big; reads = h; decide = refl }
 
-module _ (prev : ℕ) (st : List ℕ) (k n : ℕ) (h : 0 < n) (e : ℕ) (f : e ≡ beAt 8 st (2048 * k)) where
-  pub stale-here : e < prev → At e prev ≡ staleOf prev (listsIn st k n)
-  stale-here l = sym (stale-step prev st k n h e (slot-epoch st k e f) ∙ rw (lt-ltb e prev l) refl)
+module _ (st : List ℕ) (epoch n prev last at left : ℕ) (w : Epochs st epoch n prev last at left) where
+  pub stale-end : left ≤ 0 → Nowhere last ≡ staleOf 6144 6144 epoch (queueIn st n)
+  unfolding staleOf entriesOf
+  stale-end h = let e : left ≡ 0 = omega arith in sym (w .decide ∙ ap (λ m. staleOf last at prev (entriesOf m (drop at st))) e)
 
-  pub stale-next : prev ≤ e → staleOf prev (listsIn st k n) ≡ staleOf e (listsIn st (k + 1) (n - 1))
-  stale-next l = stale-step prev st k n h e (slot-epoch st k e f) ∙ rw (le-ltb e prev l) refl
+  module _ (h : 0 < left) where
+    split-first : (startsEntry (drop at st) ≡ true) × (startEntries (left - 1) (drop (entryEnd (drop at st)) (drop at st)) ≡ true)
+    unfolding startEntries
+    split-first =
+        let e : left ≡ suc (left - 1) = omega arith in
+        both-true (startsEntry (drop at st)) _ (ap (λ m. startEntries m (drop at st)) (sym e) ∙ w .reads)
 
-pub stale-fault : (a : ConsumerAssignment) (q : List ConsumerAssignment) → staleFault a q ≡ staleRefusal (staleOf (a .layoutEpoch) q)
+    first : startsEntry (drop at st) ≡ true
+    first = split-first .0
+
+    pub length-room : at + 2 ≤ length st
+    length-room = omega (arith, entry-inside (drop at st) first, length-drop at st, w .inside)
+
+    pub epoch-room : at + 2 + 8 ≤ length st
+    epoch-room = omega (arith, entry-inside (drop at st) first, length-drop at st, w .inside, long (drop at st) first)
+
+    module _ (size : ℕ) (z : size ≡ beAt 2 st at) where
+      size-is : size ≡ num 2 (drop at st)
+      unfolding num beAt
+      size-is = z
+
+      pub next-room : at + 2 + size ≤ length st
+      next-room = omega (arith, entry-inside (drop at st) first, length-drop at st, w .inside, size-is)
+
+      -- the entry behind it
+      next : drop (entryEnd (drop at st)) (drop at st) ≡ drop (at + 2 + size) st
+      next =
+          let e : at + entryEnd (drop at st) ≡ at + 2 + size = omega (arith, size-is) in
+          drop-drop (entryEnd (drop at st)) at st ∙ ap (λ m. drop m st) e
+
+      module _ (got : ℕ) (f : got ≡ beAt 8 st (at + 2)) where
+        step : staleOf last at prev (entriesOf left (drop at st))
+            ≡ cond (ltb got prev) (At got prev) (staleOf at (at + 2 + size) got (entriesOf (left - 1) (drop (at + 2 + size) st)))
+        unfolding staleOf entriesOf
+        step =
+            let e : left ≡ suc (left - 1) = omega arith in
+            let a : ConsumerAssignment = assignmentOf (sheetIn (drop at st)) in
+            let g : a .layoutEpoch ≡ got = sym (entry-epoch st at got first f) in
+            let p : at + sizeEntry a ≡ at + 2 + size = omega (arith, size-is, sheet-size (drop at st) first) in
+            ap (λ m. staleOf last at prev (entriesOf m (drop at st))) e
+            ∙ ap (λ x. cond (ltb x prev) (At x prev) (staleOf at (at + sizeEntry a) x (entriesOf (left - 1) (drop (entryEnd (drop at st)) (drop at st))))) g
+            ∙ ap₂ (λ x y. cond (ltb got prev) (At got prev) (staleOf at x got (entriesOf (left - 1) y))) p next
+
+        pub stale-here : got < prev → At got prev ≡ staleOf 6144 6144 epoch (queueIn st n)
+        stale-here l = sym (w .decide ∙ step ∙ rw (lt-ltb got prev l) refl)
+
+        pub stale-next : prev ≤ got → Epochs st epoch n got at (at + 2 + size) (left - 1)
+        stale-next l =
+            record {
+              inside = next-room;
+              reads = ap (startEntries (left - 1)) (sym next) ∙ split-first .1;
+              decide = w .decide ∙ step ∙ rw (le-ltb got prev l) refl;
+            }
+
+pub stale-fault : (last at : ℕ) (a : ConsumerAssignment) (q : List ConsumerAssignment)
+    → staleFault a q ≡ staleRefusal (staleOf last at (a .layoutEpoch) q)
 unfolding staleFault staleOf
-stale-fault a [] = refl
-stale-fault a (x ∷ q) = go (ltb (x .layoutEpoch) (a .layoutEpoch)) refl (stale-fault x q)
+stale-fault last at a [] = refl
+stale-fault last at a (x ∷ q) = go (ltb (x .layoutEpoch) (a .layoutEpoch)) refl (stale-fault at (at + sizeEntry x) x q)
   where
-    go : (t : Bool) → ltb (x .layoutEpoch) (a .layoutEpoch) ≡ t → staleFault x q ≡ staleRefusal (staleOf (x .layoutEpoch) q)
-        → staleFault a (x ∷ q) ≡ staleRefusal (staleOf (a .layoutEpoch) (x ∷ q))
+    go : (t : Bool) → ltb (x .layoutEpoch) (a .layoutEpoch) ≡ t
+        → staleFault x q ≡ staleRefusal (staleOf at (at + sizeEntry x) (x .layoutEpoch) q)
+        → staleFault a (x ∷ q) ≡ staleRefusal (staleOf last at (a .layoutEpoch) (x ∷ q))
     go true e f = rw e refl
     go false e f = rw e f
+
+-- ---- where the last entry begins
+
+-- the place that the walk ends with
+abbrev lastPlace : ℕ → ℕ → List ConsumerAssignment → ℕ
+lastPlace last at [] = last
+lastPlace last at (a ∷ q) = lastPlace at (at + sizeEntry a) q
+
+place-told : (last at prev : ℕ) (q : List ConsumerAssignment) (x : ℕ) → Nowhere x ≡ staleOf last at prev q → x ≡ lastPlace last at q
+unfolding staleOf
+place-told last at prev [] x e = cc
+place-told last at prev (a ∷ q) x e = go (ltb (a .layoutEpoch) prev) refl (place-told at (at + sizeEntry a) (a .layoutEpoch) q x)
+  where
+    go : (t : Bool) → ltb (a .layoutEpoch) prev ≡ t
+        → (Nowhere x ≡ staleOf at (at + sizeEntry a) (a .layoutEpoch) q → x ≡ lastPlace at (at + sizeEntry a) q)
+        → x ≡ lastPlace at (at + sizeEntry a) q
+    go true h k =
+        let f : Nowhere x ≡ At (a .layoutEpoch) prev = e ∙ rw h refl in
+        let z : _≡_ {A = ℕ} 0 1 = cc in
+        absurd (omega arith)
+    go false h k = k (e ∙ rw h refl)
+
+place-is : (n last at : ℕ) (l : List ℕ) → lastPlace last at (entriesOf (suc n) l) ≡ at + sizeEntries (entriesOf n l)
+unfolding entriesOf sizeEntries
+place-is zero last at l = omega arith
+place-is (suc n) last at l =
+    let m = drop (entryEnd l) l in
+    place-is n at (at + sizeEntry (assignmentOf (sheetIn l))) m ∙ omega arith
+
+pub last-begins : (st : List ℕ) (epoch n x : ℕ) → Nowhere x ≡ staleOf 6144 6144 epoch (queueIn st n) → LastBegins st n x
+unfolding queueIn
+last-begins st epoch n x e h =
+    let k : n ≡ suc (n - 1) = omega arith in
+    place-told 6144 6144 epoch (entriesOf n (drop 6144 st)) x e
+    ∙ ap (λ m. lastPlace 6144 6144 (entriesOf m (drop 6144 st))) k ∙ place-is (n - 1) 6144 6144 (drop 6144 st)
 
 -- ---- the last list
 
@@ -79,71 +175,99 @@ put-whole : (l vs : List ℕ) → length l ≡ length vs → put l 0 vs ≡ vs
 unfolding put
 put-whole l vs e = ap (λ (t : List ℕ). vs ++ t) (drop-of-length-le l {i = 0 + length vs} (omega arith)) ∙ append-nil vs
 
-last-snoc : (b : ConsumerAssignment) (st : List ℕ) (k n : ℕ) → lastList b (listsIn st k (suc n)) ≡ listIn st (k + n)
-unfolding lastList listsIn
-last-snoc b st k zero = ap (listIn st) (omega arith)
-last-snoc b st k (suc n) = last-snoc (listIn st k) st (suc k) n ∙ ap (listIn st) (omega arith)
+-- a packed assignment with more behind it
+module _ (l r : List ℕ) (b : Bytes l) (h : startsAssignment l ≡ true) where
+  size-in : sizeAssignment (assignmentOf l) ≤ length l
+  unfolding startsAssignment
+  size-in = leb-true _ _ (both-true (leb (sizeAssignment (assignmentOf l)) (length l)) _ h .0)
+
+  split : l ++ r ≡ encodeAssignment (assignmentOf l) ++ (drop (sizeAssignment (assignmentOf l)) l ++ r)
+  split =
+      ap (_++ r) (sym (take-append-drop (sizeAssignment (assignmentOf l)) l))
+      ∙ append-assoc (take (sizeAssignment (assignmentOf l)) l) (drop (sizeAssignment (assignmentOf l)) l) r
+      ∙ ap (_++ (drop (sizeAssignment (assignmentOf l)) l ++ r)) (sym (write-assignment l size-in b))
+
+  more-holds : assignmentOf (l ++ r) ≡ assignmentOf l
+  more-holds = ap assignmentOf split ∙ read-assignment (assignmentOf l) _ (fit-assignment l b)
+
+  more-starts : startsAssignment (l ++ r) ≡ true
+  unfolding startsAssignment
+  more-starts =
+      ap startsAssignment split
+      ∙ starts-encode (assignmentOf l) _ (fit-assignment l b) (both-true (leb (sizeAssignment (assignmentOf l)) (length l)) _ h .1)
+
+last-of : (b : ConsumerAssignment) (n : ℕ) (l : List ℕ) → lastList b (entriesOf (suc n) l) ≡ assignmentOf (sheetIn (drop (entriesEnd n l) l))
+unfolding lastList entriesOf entriesEnd
+last-of b zero l = refl
+last-of b (suc n) l =
+    last-of (assignmentOf (sheetIn l)) n (drop (entryEnd l) l)
+    ∙ ap (λ x. assignmentOf (sheetIn x)) (drop-drop (entriesEnd n (drop (entryEnd l) l)) (entryEnd l) l)
+
+last-in : (b : ConsumerAssignment) (st : List ℕ) (n : ℕ) → 0 < n → lastList b (queueIn st n) ≡ entryIn st (n - 1)
+unfolding queueIn entryIn
+last-in b st n h =
+    let e : n ≡ suc (n - 1) = omega arith in
+    ap (λ m. lastList b (entriesOf m (drop 6144 st))) e ∙ last-of b (n - 1) (drop 6144 st)
 
 pub last-none : (st b last last′ : List ℕ) (n size : ℕ) → n ≡ 0 → Scratch b size → length last ≡ 2048 → last′ ≡ put last 0 (take 2048 b)
     → LastIs st b n size last′
-unfolding lastList listsIn
+unfolding lastList queueIn entriesOf
 last-none st b last last′ n size e s l w =
     let v : last′ ≡ b =
     w ∙ ap (put last 0) (take-all 2048 b (omega (arith, s .long))) ∙ put-whole last b (l ∙ sym (s .long)) in
     record {
       scratch = subst (λ (x : List ℕ). Scratch x size) (sym v) s;
-      is-last = ap assignmentOf v ∙ ap (λ (m : ℕ). lastList (assignmentOf b) (listsIn st 3 m)) (sym e);
+      is-last = ap assignmentOf v ∙ ap (λ (m : ℕ). lastList (assignmentOf b) (queueIn st m)) (sym e);
     }
 
-module _ (st b last last′ : List ℕ) (n : ℕ) (h : 0 < n) (room : 2048 * (3 + n) ≤ length st) (l : length last ≡ 2048)
-    (w : last′ ≡ put last 0 (take (2048 * (2 + n) + 2048 - 2048 * (2 + n)) (drop (2048 * (2 + n)) st))) where
-  slot-long : length (slot st (2 + n)) ≡ 2048
-  slot-long = length-slot st (2 + n) (omega arith)
+module _ (st b last last′ : List ℕ) (n at size : ℕ) (h : 0 < n) (bytes : Bytes st) (y : Lies st at size (entryIn st (n - 1)))
+    (z : size ≡ sizeAssignment (entryIn st (n - 1))) (l : length last ≡ 2048) (w : last′ ≡ put last 0 (take (at + size - at) (drop at st))) where
+  copied : last′ ≡ take size (drop at st) ++ drop (0 + length (take size (drop at st))) last
+  unfolding put
+  copied = w ∙ ap (λ m. put last 0 (take m (drop at st))) (add-sub-cancel-left at size)
 
-  last-slot : last′ ≡ slot st (2 + n)
-  last-slot = w ∙ ap (put last 0) (part-slot st (2 + n)) ∙ put-whole last (slot st (2 + n)) (l ∙ sym slot-long)
+  sheet-bytes : Bytes (take size (drop at st))
+  sheet-bytes = Bytes-take size (drop at st) (Bytes-drop at st bytes)
 
-  pub last-starts : allStart st 3 n ≡ true → startsAssignment last′ ≡ true
-  last-starts a =
-      let e : 3 + (n - 1) ≡ 2 + n = omega arith in
-      ap startsAssignment (last-slot ∙ ap (slot st) (sym e)) ∙ all-start-at st 3 n (n - 1) a (omega arith)
+  sheet-long : length (take size (drop at st)) ≡ size
+  sheet-long = length-take-le size (drop at st) (omega (arith, y .inside, length-drop at st))
 
-  pub last-some : allStart st 3 n ≡ true → (size : ℕ) → size ≡ sizeAssignment (assignmentOf last′) → LastIs st b n size last′
-  unfolding listIn
-  last-some a size e =
-      let i : suc (n - 1) ≡ n = omega arith in
-      let j : 3 + (n - 1) ≡ 2 + n = omega arith in
+  last-holds : assignmentOf last′ ≡ entryIn st (n - 1)
+  last-holds = ap assignmentOf copied ∙ more-holds (take size (drop at st)) _ sheet-bytes (y .starts) ∙ y .holds
+
+  last-starts : startsAssignment last′ ≡ true
+  last-starts = ap startsAssignment copied ∙ more-starts (take size (drop at st)) _ sheet-bytes (y .starts)
+
+  pub last-some : LastIs st b n size last′
+  last-some =
       record {
-        scratch = record { long = ap length last-slot ∙ slot-long; starts = last-starts a; size = e };
-        is-last =
-            ap assignmentOf last-slot ∙ ap (listIn st) (sym j) ∙ sym (last-snoc (assignmentOf b) st 3 (n - 1))
-            ∙ ap (λ (m : ℕ). lastList (assignmentOf b) (listsIn st 3 m)) i;
+        scratch =
+            record {
+              long =
+                  ap length copied ∙ length-append (take size (drop at st)) _
+                  ∙ omega (arith, sheet-long, l, y .few, length-drop (0 + length (take size (drop at st))) last);
+              starts = last-starts;
+              size = z ∙ ap sizeAssignment (sym last-holds);
+            };
+        is-last = last-holds ∙ sym (last-in (assignmentOf b) st n h);
       }
 
 -- ---- the queue that is replayed
 
 module _ (r : SessionRecord) (st : List ℕ) where
-  pub replayed-is : (n : ℕ) → n ≡ cond (r .registered) 0 (r .«queue_count») → replayable (view r st) ≡ listsIn st 3 n
-  unfolding view listsIn
-  replayed-is n e = go (r .registered) ∙ ap (listsIn st 3) (sym e)
+  pub replayed-is : (n : ℕ) → n ≡ cond (r .registered) 0 (r .«queue_count») → replayable (view r st) ≡ queueIn st n
+  unfolding view queueIn entriesOf
+  replayed-is n e = go (r .registered) ∙ ap (queueIn st) (sym e)
     where
-      go : (t : Bool) → cond t [] (listsIn st 3 (r .«queue_count»)) ≡ listsIn st 3 (cond t 0 (r .«queue_count»))
+      go : (t : Bool) → cond t [] (queueIn st (r .«queue_count»)) ≡ queueIn st (cond t 0 (r .«queue_count»))
       go true = refl
       go false = refl
 
-  module _ (n : ℕ) (e : n ≡ cond (r .registered) 0 (r .«queue_count»)) (d : damaged (view r st) ≡ false) where
-    -- it lies in the store
-    pub replayed-room : 6144 ≤ length st → 2048 * (3 + n) ≤ length st
-    replayed-room h = omega (arith, few (r .registered), e, queue-room r st (ap not d) h)
-      where
-        few : (t : Bool) → cond t 0 (r .«queue_count») ≤ r .«queue_count»
-        few true = omega arith
-        few false = omega arith
-
-    pub replayed-start : allStart st 3 n ≡ true
-    unfolding allStart
-    replayed-start = subst (λ (m : ℕ). allStart st 3 m ≡ true) (sym e) (go (r .registered))
-      where
-        go : (t : Bool) → allStart st 3 (cond t 0 (r .«queue_count»)) ≡ true
-        go true = refl
-        go false = queue-starts r st (ap not d)
+  -- it can be read
+  pub replayed-reads : (n : ℕ) → n ≡ cond (r .registered) 0 (r .«queue_count») → damaged (view r st) ≡ false → queueReads st n ≡ true
+  unfolding queueReads startEntries
+  replayed-reads n e d = subst (λ (m : ℕ). queueReads st m ≡ true) (sym e) (go (r .registered))
+    where
+      go : (t : Bool) → queueReads st (cond t 0 (r .«queue_count»)) ≡ true
+      go true = refl
+      go false = queue-starts r st (ap not d)

@@ -1,6 +1,6 @@
 -- What the functions of src/ answer: the epochs of the queue, and the replay's last list.
 -- Assumes nothing.
-use Prim.Native.Nat.{ℕ}
+use Prim.Native.Nat.{ℕ, _+_, _-_, _<_}
 use mathlib.Core.Path.{_≡_}
 use mathlib.Core.Bool.{true, cond}
 use mathlib.Core.List.{List, [], _∷_}
@@ -12,8 +12,9 @@ use Rattle.readers.specs.declared.ErrorCode.{ErrorCode}
 use Rattle.readers.specs.declared.ErrorCode.the-variants.{Given, Absent}
 use Rattle.readers.specs.Messages.{WireResponse}
 use Rattle.packed.specs.Assignment.{ConsumerAssignment, assignmentOf}
+use Rattle.packed_queue.specs.Entries.{sizeEntry}
 use Rattle.content.specs.Content.{Content, refused, contentOf}
-use Rattle.session.specs.Store.{listsIn}
+use Rattle.session.specs.Store.{queueIn, queueEnd}
 use Rattle.session.specs.declared.SessionRecord.{SessionRecord}
 use Rattle.session.specs.Session.{Session, Result, raise}
 use Rattle.session.specs.Response.{lastList, replayable, register}
@@ -21,19 +22,23 @@ use Rattle.session_store.specs.Scratch.{Scratch}
 use Rattle.session_response.specs.declared.Stale.{Stale}
 use Rattle.session_response.specs.declared.Stale.the-variants.{Nowhere, At}
 
--- the first epoch of the queue that lies below the one before it
-unfoldable pub staleOf : ℕ → List ConsumerAssignment → Stale
-staleOf prev [] = Nowhere
-staleOf prev (a ∷ queue) = cond (ltb (a .layoutEpoch) prev) (At (a .layoutEpoch) prev) (staleOf (a .layoutEpoch) queue)
+-- the first epoch of the queue that lies below the one before it; or else where the last entry begins: the queue begins at a byte place, and the entry before it at `last`
+unfoldable pub staleOf : (last at prev : ℕ) → List ConsumerAssignment → Stale
+staleOf last at prev [] = Nowhere last
+staleOf last at prev (a ∷ queue) = cond (ltb (a .layoutEpoch) prev) (At (a .layoutEpoch) prev) (staleOf at (at + sizeEntry a) (a .layoutEpoch) queue)
 
 abbrev pub staleRefusal : Stale → Option Refusal
-staleRefusal Nowhere = none
+staleRefusal (Nowhere at) = none
 staleRefusal (At got prev) = some (StaleEpoch got prev)
+
+-- the last of n queue entries begins at a byte place
+abbrev pub LastBegins : List ℕ → ℕ → ℕ → Type 0
+LastBegins store n at = 0 < n → at ≡ queueEnd (queueIn store (n - 1))
 
 -- the last list of the replay of n queue entries over the assignment in b, in a buffer
 pub record LastIs (store b : List ℕ) (n size : ℕ) (last : List ℕ) : Type 0 where
   pub scratch : Scratch last size
-  pub is-last : assignmentOf last ≡ lastList (assignmentOf b) (listsIn store 3 n)
+  pub is-last : assignmentOf last ≡ lastList (assignmentOf b) (queueIn store n)
 
 -- ---- the parts of specs/Response that a function each gives
 

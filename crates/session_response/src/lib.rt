@@ -5,61 +5,67 @@
 ghost use mathlib.Core.Path.{_≡_};
 ghost use mathlib.Core.Bool.{true, false, cond};
 ghost use mathlib.Core.List.{List};
-ghost use Prim.Native.Nat.{ℕ, _+_, _*_, _≤_};
+ghost use Prim.Native.Nat.{ℕ, _≤_};
 ghost use lib.ListN.{length};
 ghost use Rattle.schema.specs.FirstFault.{firstFault};
 ghost use Rattle.readers.specs.Messages.{WireResponse, responseOf};
 ghost use Rattle.packed.specs.Assignment as packed-form;
-ghost use Rattle.session.specs.Store.{slot, listsIn, allStart};
+ghost use Rattle.session.specs.Store.{slot, queueIn, queueReads};
 ghost use Rattle.session.specs.Identity.{topicOf, isIdentity};
 ghost use Rattle.session.specs.Session.{view, damaged};
 ghost use Rattle.session.specs.Response.{responseAssignment, responseValid, responseChecked};
 ghost use Rattle.session.specs.Calls.{outcome, effectOf, responseOutcome};
 ghost use Rattle.session_store.specs.Scratch.{Scratch};
 ghost use Rattle.session_intake.specs.Taken.{contentFrom, Ready, Answers};
-ghost use Rattle.session_response.specs.Replay.{staleOf, LastIs, deniedBy, responseSays, registeredBy, registered};
+ghost use Rattle.session_response.specs.Replay.{staleOf, LastBegins, LastIs, deniedBy, responseSays, registeredBy, registered};
 use intake::Intake;
 use messages::Checked;
 use messages::MessageKind;
 use packed::SLOT;
+use packed_queue::LENGTH;
 use readers::ErrorCode;
 use refusal::Refusal;
 use session::Answer;
 use session::Changed;
 use session::SessionRecord;
 use session_intake::PlainMessage;
+use session_store::MIN_STORE;
 use types::ControllerIncarnation;
 
-// An epoch of the queue that lies below the one before it: both.
+// An epoch of the queue that lies below the one before it, both; or else where the last entry begins.
 enum Stale {
-    Nowhere,
+    Nowhere(usize),
     At(u64, u64),
 }
 
 // The first of n queue entries whose epoch lies below the one before it, which for the first is a given one.
 fn first_stale(store: &[u8], epoch: u64, n: usize) -> Stale
-    requires { ⌜ 2048 * (3 + n) ≤ length (now store) ⌝ }
-    ensures { λ r. ⌜ r ≡ staleOf epoch (listsIn (now (store .entry)) 3 n) ⌝ }
+    requires { ⌜ (6144 ≤ length (now store)) × (queueReads (now store) n ≡ true) ⌝ }
+    ensures { λ r. ⌜ r ≡ staleOf 6144 6144 epoch (queueIn (now (store .entry)) n) ⌝ }
 {
     let mut prev = epoch;
-    let mut k: usize = 3;
+    let mut last = MIN_STORE;
+    let mut at = MIN_STORE;
     let mut left = n;
     while 0 < left {
-        let got = packed_int::read_u64(store, SLOT * k);
+        let size = packed_int::read_u16(store, at) as usize;
+        let place = at + LENGTH;
+        let got = packed_int::read_u64(store, place);
         if got < prev {
             return Stale::At(got, prev);
         }
         prev = got;
-        k = k + 1;
+        last = at;
+        at = place + size;
         left = left - 1;
     }
-    Stale::Nowhere
+    Stale::Nowhere(last)
 }
 
-// Copies the last list of the replay of n queue entries over the assignment of size bytes in b, and answers its size.
-fn load_last(store: &[u8], n: usize, b: &[u8], size: usize, last: &mut [u8]) -> usize
-    requires { ⌜ 2048 * (3 + n) ≤ length (now store) ⌝ }
-    requires { ⌜ allStart (now store) 3 n ≡ true ⌝ }
+// Copies the last list of the replay of n queue entries, whose last begins at a byte place, over the assignment of size bytes in b, and answers its size.
+fn load_last(store: &[u8], n: usize, at: usize, b: &[u8], size: usize, last: &mut [u8]) -> usize
+    requires { ⌜ (6144 ≤ length (now store)) × (queueReads (now store) n ≡ true) ⌝ }
+    requires { ⌜ LastBegins (now store) n at ⌝ }
     requires { ⌜ Scratch (now b) size ⌝ }
     requires { ⌜ length (now last) ≡ 2048 ⌝ }
     ensures { λ r. ⌜ LastIs (now (store .entry)) (now (b .entry)) n r (now (last .exit)) ⌝ }
@@ -68,9 +74,11 @@ fn load_last(store: &[u8], n: usize, b: &[u8], size: usize, last: &mut [u8]) -> 
         packed_int::put_bytes(last, 0, &b[..SLOT]);
         return size;
     }
-    let at = SLOT * (2 + n);
-    packed_int::put_bytes(last, 0, &store[at..at + SLOT]);
-    records::assignment_size(last)
+    let len = packed_int::read_u16(store, at) as usize;
+    let from = at + LENGTH;
+    let to = from + len;
+    packed_int::put_bytes(last, 0, &store[from..to]);
+    len
 }
 
 // How many pushes are replayed: none in a registered session.
@@ -98,16 +106,24 @@ fn registered_with(r: SessionRecord, epoch: u64, count: usize) -> SessionRecord
     }
 }
 
-// The baseline of size bytes in the buffer b is set, and with it the last list and the floor.
-fn register(r: SessionRecord, store: &mut [u8], b: &[u8], size: usize, count: usize) -> Changed
+// The baseline of size bytes in the buffer b is set, and with it the last list and the floor. The last of count queue entries begins at a byte place.
+fn register(
+    r: SessionRecord,
+    store: &mut [u8],
+    b: &[u8],
+    size: usize,
+    count: usize,
+    at: usize,
+) -> Changed
     requires { ⌜ (6144 ≤ length (now store)) × (damaged (view r (now store)) ≡ false) ⌝ }
     requires { ⌜ Scratch (now b) size ⌝ }
     requires { ⌜ count ≡ cond (r .registered) 0 (r .«queue_count») ⌝ }
+    requires { ⌜ LastBegins (now store) count at ⌝ }
     ensures { λ x. ⌜ ((out : List ℕ) → outcome (x .answer) (x .next) (now (store .exit)) out
         ≡ effectOf (registered (view r (now (store .entry))) (packed-form.assignmentOf (now (b .entry)))) (now (store .entry)) out) ⌝ }
 {
     let mut last = [0u8; 2048];
-    let len = load_last(store, count, b, size, &mut last);
+    let len = load_last(store, count, at, b, size, &mut last);
     let epoch = packed_int::read_u64(&last, 0);
     session_store::write_slot(store, 1, b, size);
     session_store::write_slot(store, 2, &last, len);
@@ -140,7 +156,7 @@ fn assigned(r: SessionRecord, store: &mut [u8], b: &[u8], size: usize) -> Change
     let count = replay_count(r);
     match first_stale(store, epoch, count) {
         Stale::At(got, prev) => session_record::refuse(r, Refusal::StaleEpoch { got, prev }),
-        Stale::Nowhere => register(r, store, b, size, count),
+        Stale::Nowhere(at) => register(r, store, b, size, count, at),
     }
 }
 

@@ -1,31 +1,36 @@
 -- Laws of the store, as every call on it needs them.
 --
--- In order: slots as parts of the store (`slot-at` to `front-not`); a row of slots (`all-end` to `lists-cons`); baseline and list
--- (`lists-free` to `list-decides`); the depth (`depth-none` to `depth-least`); the cases of the test of a store (`count-bad` to
--- `queue-decides`); what holds of a store that is sound (`count-in` to `entry-starts`); a packed assignment at the front of a buffer
--- (`scratch-fits`, `scratch-bytes`).
+-- In order: slots as parts of the store (`slot-at` to `front-not`); baseline and list (`lists-free` to `list-decides`); where the queue ends
+-- (`queue-ends`); the cases of the test of a store (`count-bad` to `queue-ended`); what holds of a store that is sound (`count-most` to `queue-starts`); an entry of the
+-- queue where it lies (`front-reads` to `entry-next`); a packed assignment at the front of a buffer (`scratch-fits` to `scratch-entry`).
 -- Assumes nothing.
-use Prim.Native.Nat.{ℕ, zero, suc, _+_, _-_, _*_, _/_, _≤_, _<_}
-use native.Mathlib.Nat.{add-sub-cancel-left, not-suc-le-zero}
+use Prim.Native.Nat.{ℕ, _+_, _-_, _*_, _≤_, _<_}
+use native.Mathlib.Nat.{add-sub-cancel-left}
 use native.Mathlib.Omega.{arith}
-use mathlib.Core.Path.{_≡_, refl, sym, ap, _∙_, subst}
+use mathlib.Core.Path.{_≡_, refl, sym, ap, ap₂, _∙_, subst}
 use mathlib.Core.Bool.{Bool, true, false, not, _&&_, _||_}
-use mathlib.Core.List.{List, _∷_}
-use lib.ListN.{length, take, drop}
+use mathlib.Core.List.{List, _++_}
+use lib.ListN.{length, take, drop, length-drop}
+use lib.Seq.{drop-drop}
 use lib.Dec.{leb, ltb}
 use borrow.Author.Tests.{le-ltb, lt-ltb, ltb-false, leb-true, not-true, not-false}
-use Rattle.parts.proofs.PartLaws.{Bytes}
+use Rattle.parts.proofs.PartLaws.{Bytes, rest}
 use Rattle.ranges.specs.Meaning.{both-true}
-use Rattle.packed.specs.Assignment.{encodeAssignment, assignmentOf, sizeAssignment, okAssignment, startsAssignment}
-use Rattle.packed.specs.Equal.{sameAssignment}
+use Rattle.packed_int.specs.Be.{beAt, bytesOf}
+use Rattle.packed.specs.Assignment.{num, encodeAssignment, assignmentOf, sizeAssignment, okAssignment, startsAssignment, isAssignment}
 use Rattle.packed.specs.Answers.{frontRead}
 use Rattle.packed.specs.declared.Packed.the-variants.{Assignment, Malformed}
 use Rattle.packed.proofs.RoundLaws.{write-assignment}
+use Rattle.packed_queue.specs.declared.Entries.the-variants.{End, Malformed as Malformed′}
+use Rattle.packed_queue.specs.Entries.{encodeEntry, sheetIn, entryEnd, entriesEnd, startsEntry, startEntries}
+use Rattle.packed_queue.specs.Answers.{entriesRead}
+use Rattle.packed_queue.proofs.WalkLaws.{read-there, read-not, ends-inside, ends-by-size, ends-split, start-split, start-at, entry-inside, entry-whole, sheet-size}
 use Rattle.session.specs.declared.SessionRecord.{SessionRecord}
-use Rattle.session.specs.Store.{slot, depthOf, listIn, listsIn, allStart}
+use Rattle.session.specs.Store.{slot, queueIn, queueReads, queueEnd}
 use Rattle.session.specs.Identity.{isIdentity}
 use Rattle.session.specs.Session.{listsStart, inUse, view, damaged}
 use Rattle.session_store.specs.Scratch.{Scratch}
+use Rattle.session_store.specs.Places.{QueueEnds, Lies, entryIn}
 
 -- ---- slots
 
@@ -37,14 +42,6 @@ slot-at st k = refl
 pub part-slot : (st : List ℕ) (k : ℕ) → take (2048 * k + 2048 - 2048 * k) (drop (2048 * k) st) ≡ slot st k
 unfolding slot
 part-slot st k = ap (λ (n : ℕ). take n (drop (2048 * k) st)) (add-sub-cancel-left (2048 * k) 2048)
-
--- what two such parts hold
-pub parts-hold : (st : List ℕ) (i j : ℕ)
-    → sameAssignment (assignmentOf (take (2048 * i + 2048 - 2048 * i) (drop (2048 * i) st)))
-    (assignmentOf (take (2048 * j + 2048 - 2048 * j) (drop (2048 * j) st)))
-    ≡ sameAssignment (listIn st i) (listIn st j)
-unfolding listIn
-parts-hold st i j = rw (part-slot st i, part-slot st j)
 
 -- what the answer of `read_front` says
 pub front-there : (l : List ℕ) (n m : ℕ) → Assignment n m ≡ frontRead l → true ≡ startsAssignment l
@@ -69,42 +66,6 @@ front-not l e = go (startsAssignment l) refl
         let z : _≡_ {A = ℕ} 0 1 = cc in
         absurd (omega arith)
 
--- ---- a row of slots
-
-pub all-end : (st : List ℕ) (k n : ℕ) → n ≤ 0 → true ≡ allStart st k n
-unfolding allStart
-all-end st k zero h = refl
-all-end st k (suc n) h = absurd (not-suc-le-zero h)
-
-all-step : (st : List ℕ) (k n : ℕ) → 0 < n → allStart st k n ≡ (startsAssignment (slot st k) && allStart st (k + 1) (n - 1))
-unfolding allStart
-all-step st k zero h = absurd (not-suc-le-zero h)
-all-step st k (suc n) h = let e : k + 1 ≡ suc k = omega arith in let f : suc n - 1 ≡ n = omega arith in cc
-
--- the first starts, or not
-module _ (st : List ℕ) (k n : ℕ) (h : 0 < n) (x : Bool) (e : x ≡ startsAssignment (slot st k)) where
-  pub all-bad : not x ≡ true → allStart st k n ≡ false
-  all-bad f = all-step st k n h ∙ simp (← e, not-true x f)
-
-  pub all-good : not x ≡ false → allStart st k n ≡ allStart st (k + 1) (n - 1)
-  all-good f = all-step st k n h ∙ simp (← e, not-false x f)
-
--- each slot of a row whose slots all start
-pub all-start-at : (st : List ℕ) (k n i : ℕ) → allStart st k n ≡ true → i < n → startsAssignment (slot st (k + i)) ≡ true
-unfolding allStart
-all-start-at st k zero i e h = absurd (not-suc-le-zero h)
-all-start-at st k (suc n) zero e h =
-    let g : k + 0 ≡ k = omega arith in
-    ap (λ (m : ℕ). startsAssignment (slot st m)) g ∙ both-true (startsAssignment (slot st k)) _ e .0
-all-start-at st k (suc n) (suc i) e h =
-    let g : k + suc i ≡ suc k + i = omega arith in
-    ap (λ (m : ℕ). startsAssignment (slot st m)) g ∙ all-start-at st (suc k) n i (both-true (startsAssignment (slot st k)) _ e .1) (omega arith)
-
--- what the slots of a row hold: the first, and the others
-pub lists-cons : (st : List ℕ) (k n : ℕ) → listsIn st k (suc n) ≡ listIn st k ∷ listsIn st (suc k) n
-unfolding listsIn
-lists-cons st k n = refl
-
 -- ---- baseline and list
 
 pub lists-free : (t : Bool) (st : List ℕ) → not t ≡ true → true ≡ listsStart t st
@@ -120,29 +81,6 @@ module _ (t : Bool) (st : List ℕ) (f : not t ≡ false) (x : Bool) (e : x ≡ 
   pub list-decides : not x ≡ false → (y : Bool) → y ≡ startsAssignment (slot st 2) → y ≡ listsStart t st
   list-decides g y i = i ∙ sym (both ∙ rw (not-false x g))
 
--- ---- the depth
-
-pub depth-none : (n : ℕ) → n / 2048 < 3 → 0 ≡ depthOf n
-unfolding depthOf
-depth-none n h = omega arith
-
-pub depth-some : (n : ℕ) → n / 2048 - 3 < 1024 → n / 2048 - 3 ≡ depthOf n
-unfolding depthOf
-depth-some n h = omega arith
-
-pub depth-most : (n : ℕ) → 1024 ≤ n / 2048 - 3 → 1024 ≡ depthOf n
-unfolding depthOf
-depth-most n h = omega arith
-
--- so many queue slots lie in the store
-pub depth-room : (n c : ℕ) → 6144 ≤ n → c ≤ depthOf n → 2048 * (3 + c) ≤ n
-unfolding depthOf
-depth-room n c h k = omega arith
-
-pub depth-least : (n c : ℕ) → c ≤ depthOf n → c ≤ 1024
-unfolding depthOf
-depth-least n c k = omega arith
-
 -- ---- the test of a store
 
 not-not : (b : Bool) → not (not b) ≡ b
@@ -153,52 +91,76 @@ or-false : (s t : Bool) → not (s || t) ≡ true → (s ≡ false) × (not t �
 or-false true t e = let z : _≡_ {A = Bool} false true = e in (cc, cc)
 or-false false t e = (refl, e)
 
-module _ (r : SessionRecord) (st : List ℕ) where
-  pub count-bad : depthOf (length st) < r .«queue_count» → false ≡ not (damaged (view r st))
-  unfolding damaged view
-  count-bad h = simp (lt-ltb (depthOf (length st)) (r .«queue_count») h)
+-- the part that is lent for the queue
+pub part-queue : (st : List ℕ) → take (length st - 6144) (drop 6144 st) ≡ drop 6144 st
+part-queue st = rest st 6144
 
-  module _ (h : r .«queue_count» ≤ depthOf (length st)) where
-    pub position-bad : r .«queue_count» < r .«drain_position» → false ≡ not (damaged (view r st))
+-- where the queue ends
+module _ (st : List ℕ) (n : ℕ) (big : 6144 ≤ length st) (h : queueReads st n ≡ true) where
+  queue-ends : (size : ℕ) → size ≡ entriesEnd n (drop 6144 st) → QueueEnds st n (6144 + size)
+  unfolding queueReads queueIn
+  queue-ends size e =
+      record {
+        at = ap (6144 +_) (e ∙ sym (ends-by-size n (drop 6144 st) h));
+        inside = omega (arith, ends-inside n (drop 6144 st) h, length-drop 6144 st);
+      }
+
+module _ (r : SessionRecord) (st : List ℕ) where
+  pub count-bad : 1024 < r .«queue_count» → damaged (view r st) ≡ true
+  unfolding damaged view
+  count-bad h = simp (lt-ltb 1024 (r .«queue_count») h)
+
+  module _ (h : r .«queue_count» ≤ 1024) where
+    pub position-bad : r .«queue_count» < r .«drain_position» → damaged (view r st) ≡ true
     unfolding damaged view
-    position-bad k = simp (le-ltb (depthOf (length st)) (r .«queue_count») h, lt-ltb (r .«queue_count») (r .«drain_position») k)
+    position-bad k = simp (le-ltb 1024 (r .«queue_count») h, lt-ltb (r .«queue_count») (r .«drain_position») k)
 
     module _ (k : r .«drain_position» ≤ r .«queue_count») where
-      slots-decide : not (damaged (view r st)) ≡ inUse r st
+      slots-decide : damaged (view r st) ≡ not (inUse r st)
       unfolding damaged view
-      slots-decide =
-          rw (le-ltb (depthOf (length st)) (r .«queue_count») h, le-ltb (r .«queue_count») (r .«drain_position») k) (not-not (inUse r st))
+      slots-decide = simp (le-ltb 1024 (r .«queue_count») h, le-ltb (r .«queue_count») (r .«drain_position») k)
 
       module _ (x : Bool) (ex : x ≡ isIdentity (slot st 0)) where
-        pub identity-bad : not x ≡ true → false ≡ not (damaged (view r st))
+        pub identity-bad : not x ≡ true → damaged (view r st) ≡ true
         unfolding inUse
-        identity-bad f = sym (slots-decide ∙ simp (← ex, not-true x f))
+        identity-bad f = slots-decide ∙ simp (← ex, not-true x f)
 
         module _ (f : not x ≡ false) (y : Bool) (ey : y ≡ listsStart (r .registered) st) where
-          pub lists-bad : not y ≡ true → false ≡ not (damaged (view r st))
+          pub lists-bad : not y ≡ true → damaged (view r st) ≡ true
           unfolding inUse
-          lists-bad g = sym (slots-decide ∙ simp (← ex, not-false x f, ← ey, not-true y g))
+          lists-bad g = slots-decide ∙ simp (← ex, not-false x f, ← ey, not-true y g)
 
-          pub queue-decides : not y ≡ false → (z : Bool) → z ≡ allStart st 3 (r .«queue_count») → z ≡ not (damaged (view r st))
-          unfolding inUse
-          queue-decides g z ez = ez ∙ sym (slots-decide ∙ simp (← ex, not-false x f, ← ey, not-false y g))
+          module _ (g : not y ≡ false) where
+            queue-decides : damaged (view r st) ≡ not (queueReads st (r .«queue_count»))
+            unfolding inUse
+            queue-decides = slots-decide ∙ simp (← ex, not-false x f, ← ey, not-false y g)
+
+            pub queue-bad : Malformed′ ≡ entriesRead (r .«queue_count») (take (length st - 6144) (drop 6144 st)) → damaged (view r st) ≡ true
+            unfolding queueReads
+            queue-bad e =
+                queue-decides ∙ ap not (read-not (r .«queue_count») (drop 6144 st) (e ∙ ap (entriesRead (r .«queue_count»)) (part-queue st)))
+
+            module _ (size : ℕ) (e : End size ≡ entriesRead (r .«queue_count») (take (length st - 6144) (drop 6144 st))) where
+              told : (queueReads st (r .«queue_count») ≡ true) × (size ≡ entriesEnd (r .«queue_count») (drop 6144 st))
+              unfolding queueReads
+              told = read-there (r .«queue_count») (drop 6144 st) size (e ∙ ap (entriesRead (r .«queue_count»)) (part-queue st))
+
+              pub queue-good : damaged (view r st) ≡ false
+              queue-good = queue-decides ∙ ap not (told .0)
+
+              pub queue-ended : 6144 ≤ length st → QueueEnds st (r .«queue_count») (6144 + size)
+              queue-ended big = queue-ends st (r .«queue_count») big (told .0) size (told .1)
 
 -- ---- a store that is sound
 
 module _ (r : SessionRecord) (st : List ℕ) (e : not (damaged (view r st)) ≡ true) where
-  counts : (ltb (depthOf (length st)) (r .«queue_count») ≡ false)
+  counts : (ltb 1024 (r .«queue_count») ≡ false)
       × (not (ltb (r .«queue_count») (r .«drain_position») || not (inUse r st)) ≡ true)
   unfolding damaged view
-  counts = or-false (ltb (depthOf (length st)) (r .«queue_count»)) _ e
-
-  pub count-in : r .«queue_count» ≤ depthOf (length st)
-  count-in = ltb-false _ _ (counts .0)
+  counts = or-false (ltb 1024 (r .«queue_count»)) _ e
 
   pub count-most : r .«queue_count» ≤ 1024
-  count-most = depth-least (length st) (r .«queue_count») count-in
-
-  pub queue-room : 6144 ≤ length st → 2048 * (3 + r .«queue_count») ≤ length st
-  queue-room h = depth-room (length st) (r .«queue_count») h count-in
+  count-most = ltb-false _ _ (counts .0)
 
   places : (ltb (r .«queue_count») (r .«drain_position») ≡ false) × (not (not (inUse r st)) ≡ true)
   places = or-false (ltb (r .«queue_count») (r .«drain_position»)) (not (inUse r st)) (counts .1)
@@ -206,7 +168,7 @@ module _ (r : SessionRecord) (st : List ℕ) (e : not (damaged (view r st)) ≡ 
   pub position-in : r .«drain_position» ≤ r .«queue_count»
   position-in = ltb-false _ _ (places .0)
 
-  slots : (isIdentity (slot st 0) ≡ true) × ((listsStart (r .registered) st && allStart st 3 (r .«queue_count»)) ≡ true)
+  slots : (isIdentity (slot st 0) ≡ true) × ((listsStart (r .registered) st && queueReads st (r .«queue_count»)) ≡ true)
   unfolding inUse
   slots = both-true (isIdentity (slot st 0)) _ (sym (not-not (inUse r st)) ∙ places .1)
 
@@ -218,12 +180,80 @@ module _ (r : SessionRecord) (st : List ℕ) (e : not (damaged (view r st)) ≡ 
       both-true (startsAssignment (slot st 1)) _
       (subst (λ (t : Bool). listsStart t st ≡ true) f (both-true (listsStart (r .registered) st) _ (slots .1) .0))
 
-  pub queue-starts : allStart st 3 (r .«queue_count») ≡ true
+  pub queue-starts : queueReads st (r .«queue_count») ≡ true
   queue-starts = both-true (listsStart (r .registered) st) _ (slots .1) .1
 
-  -- each entry of the queue
-  pub entry-starts : (i : ℕ) → i < r .«queue_count» → startsAssignment (slot st (3 + i)) ≡ true
-  entry-starts i h = all-start-at st 3 (r .«queue_count») i queue-starts h
+-- ---- where the queue ends, and an entry of it where it lies
+
+-- a list that fills its length
+sheet-few : (l : List ℕ) → startsEntry l ≡ true → num 2 l ≤ 2048
+unfolding isAssignment startsAssignment okAssignment
+sheet-few l h =
+    let a = assignmentOf (sheetIn l) in
+    let s = both-true (startsAssignment (sheetIn l)) _ (entry-whole l h) .0 in
+    let o = both-true (leb (sizeAssignment a) (length (sheetIn l))) _ s .1 in
+    omega (arith, sheet-size l h, leb-true (sizeAssignment a) 2048 (both-true (leb (sizeAssignment a) 2048) _ o .0))
+
+module _ (st : List ℕ) (n : ℕ) (big : 6144 ≤ length st) (h : queueReads st n ≡ true) where
+  -- the first of them
+  front-reads : (i : ℕ) → i ≤ n → queueReads st i ≡ true
+  unfolding queueReads
+  front-reads i l =
+      let e : i + (n - i) ≡ n = omega arith in start-split i (n - i) (drop 6144 st) (ap (λ m. startEntries m (drop 6144 st)) e ∙ h) .0
+
+module _ (st : List ℕ) (n i : ℕ) (big : 6144 ≤ length st) (h : queueReads st n ≡ true) (l : i < n) (at : ℕ) (p : at ≡ queueEnd (queueIn st i)) where
+  begins : at ≡ 6144 + entriesEnd i (drop 6144 st)
+  unfolding queueReads queueIn
+  begins = p ∙ ap (6144 +_) (ends-by-size i (drop 6144 st) (front-reads st n big h i (omega arith)))
+
+  -- it stands at its place
+  good : startsEntry (drop (entriesEnd i (drop 6144 st)) (drop 6144 st)) ≡ true
+  unfolding queueReads
+  good = start-at n i (drop 6144 st) h l
+
+  there : drop (entriesEnd i (drop 6144 st)) (drop 6144 st) ≡ drop at st
+  there = drop-drop (entriesEnd i (drop 6144 st)) 6144 st ∙ ap (λ m. drop m st) (sym begins)
+
+  entry-fits : at + entryEnd (drop at st) ≤ length st
+  entry-fits =
+      let a : entryEnd (drop at st) ≤ length (drop at st) = entry-inside (drop at st) (ap startsEntry (sym there) ∙ good) in
+      omega (arith, a, length-drop at st)
+
+  pub entry-room : at + 2 ≤ length st
+  entry-room = omega (arith, entry-fits)
+
+  module _ (size : ℕ) (z : size ≡ beAt 2 st at) where
+    long : size ≡ num 2 (drop at st)
+    unfolding num beAt
+    long = z
+
+    sheet : take size (drop (at + 2) st) ≡ sheetIn (drop (entriesEnd i (drop 6144 st)) (drop 6144 st))
+    unfolding sheetIn
+    sheet = ap₂ take long (sym (drop-drop 2 at st)) ∙ ap (λ x. take (num 2 x) (drop 2 x)) (sym there)
+
+    pub entry-lies : Lies st (at + 2) size (entryIn st i)
+    unfolding entryIn isAssignment
+    entry-lies =
+        let x = drop (entriesEnd i (drop 6144 st)) (drop 6144 st) in
+        record {
+          inside = omega (arith, entry-fits, long);
+          few = omega (arith, long, ap (num 2) (sym there), sheet-few x good);
+          starts = ap startsAssignment sheet ∙ both-true (startsAssignment (sheetIn x)) _ (entry-whole x good) .0;
+          holds = ap assignmentOf sheet;
+        }
+
+    -- a list fills its length
+    pub entry-size : size ≡ sizeAssignment (entryIn st i)
+    unfolding entryIn
+    entry-size = long ∙ ap (num 2) (sym there) ∙ sym (sheet-size (drop (entriesEnd i (drop 6144 st)) (drop 6144 st)) good)
+
+    -- the next one begins behind it
+    pub entry-next : at + 2 + size ≡ queueEnd (queueIn st (i + 1))
+    unfolding queueReads queueIn entriesEnd
+    entry-next =
+        let e : i + 1 ≤ n = omega arith in
+        let f : num 2 (drop at st) ≡ num 2 (drop (entriesEnd i (drop 6144 st)) (drop 6144 st)) = ap (num 2) (sym there) in
+        omega (arith, long, begins, f, ends-split i 1 (drop 6144 st), ends-by-size (i + 1) (drop 6144 st) (front-reads st n big h (i + 1) e))
 
 -- ---- a packed assignment at the front of a buffer
 
@@ -238,3 +268,7 @@ module _ (b : List ℕ) (n : ℕ) (s : Scratch b n) where
   scratch-bytes h =
       ap (λ (m : ℕ). take m b) (s .size)
       ∙ sym (write-assignment b (omega (arith, scratch-fits, s .long, s .size)) h)
+
+  pub scratch-entry : Bytes b → bytesOf 2 n ++ take n b ≡ encodeEntry (assignmentOf b)
+  unfolding encodeEntry
+  scratch-entry h = ap₂ _++_ (ap (bytesOf 2) (s .size)) (scratch-bytes h)

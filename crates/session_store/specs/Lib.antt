@@ -1,1 +1,3 @@
 pub mod Scratch
+pub mod Places
+pub mod Tests

@@ -1,40 +1,35 @@
-// The store of a session where it lies: its slots, its depth, and the test that every call makes first, 22.
+// The store of a session where it lies: its slots, its queue, and the test that every call makes first, 22.
 //
-// Every slot in use is read on every call; a packed assignment whose buckets rise takes one pass.
+// Every slot and entry in use is read on every call, once; a packed assignment whose buckets rise takes one pass.
 ghost use mathlib.Core.Path.{_≡_};
 ghost use mathlib.Core.Bool.{true, not};
-ghost use Prim.Native.Nat.{_+_, _*_, _≤_};
+ghost use Prim.Native.Nat.{_+_, _*_, _≤_, _<_};
 ghost use lib.ListN.{length};
 ghost use Rattle.packed_int.specs.Put.{put};
 ghost use Rattle.packed.specs.Assignment.{encodeAssignment, assignmentOf, startsAssignment};
-ghost use Rattle.packed.specs.Equal.{sameAssignment};
-ghost use Rattle.session.specs.Store.{slot, depthOf, listIn, allStart};
+ghost use Rattle.packed_queue.specs.Entries.{encodeEntry};
+ghost use Rattle.session.specs.Store.{slot};
 ghost use Rattle.session.specs.Identity.{isIdentity};
 ghost use Rattle.session.specs.Session.{listsStart, view, damaged};
 ghost use Rattle.session_store.specs.Scratch.{Scratch};
+ghost use Rattle.session_store.specs.Tests.{StoreTested};
 use packed::Packed;
 use packed::SLOT;
+use packed_queue::Entries;
+use packed_queue::LENGTH;
 use session::SessionRecord;
 
 // The least store: three slots.
 pub const MIN_STORE: usize = 6144;
 
 // The most pushes that a queue holds.
-pub const MAX_DEPTH: usize = 1024;
+pub const MAX_QUEUE: usize = 1024;
 
-// How many queue slots a store of so many bytes has.
-pub fn depth(size: usize) -> usize
-    ensures { λ r. ⌜ r ≡ depthOf size ⌝ }
-{
-    let slots = size / SLOT;
-    if slots < 3 {
-        return 0;
-    }
-    if slots - 3 < MAX_DEPTH {
-        slots - 3
-    } else {
-        MAX_DEPTH
-    }
+// What the test of a store answers.
+pub enum Tested {
+    // Nothing in use is malformed, and the queue ends at this byte place.
+    Sound(usize),
+    Damaged,
 }
 
 // The slot s holds an identity.
@@ -74,23 +69,6 @@ fn starts(store: &[u8], k: usize) -> bool
     }
 }
 
-// Each of n slots from slot k on starts with a packed assignment.
-fn all_start(store: &[u8], k: usize, n: usize) -> bool
-    requires { ⌜ 2048 * (k + n) ≤ length (now store) ⌝ }
-    ensures { λ r. ⌜ r ≡ allStart (now (store .entry)) k n ⌝ }
-{
-    let mut p = k;
-    let mut left = n;
-    while 0 < left {
-        if !starts(store, p) {
-            return false;
-        }
-        p = p + 1;
-        left = left - 1;
-    }
-    true
-}
-
 // Baseline and list are packed assignments, when registered.
 fn lists_start(registered: bool, store: &[u8]) -> bool
     requires { ⌜ 6144 ≤ length (now store) ⌝ }
@@ -105,36 +83,38 @@ fn lists_start(registered: bool, store: &[u8]) -> bool
     starts(store, 2)
 }
 
-// No slot in use is malformed, and no count is beyond what it counts. The counts come first: a product of a damaged one could overflow.
+// Tests that no slot or entry in use is malformed, and no count is beyond what it counts. The counts come first: a damaged one could be any number.
+pub fn test_store(r: SessionRecord, store: &[u8]) -> Tested
+    requires { ⌜ 6144 ≤ length (now store) ⌝ }
+    ensures { λ x. ⌜ StoreTested r (now (store .entry)) x ⌝ }
+{
+    if MAX_QUEUE < r.queue_count {
+        return Tested::Damaged;
+    }
+    if r.queue_count < r.drain_position {
+        return Tested::Damaged;
+    }
+    if !is_identity(&store[0..SLOT]) {
+        return Tested::Damaged;
+    }
+    if !lists_start(r.registered, store) {
+        return Tested::Damaged;
+    }
+    match packed_queue::read_entries(&store[MIN_STORE..], r.queue_count) {
+        Entries::End(size) => Tested::Sound(MIN_STORE + size),
+        Entries::Malformed => Tested::Damaged,
+    }
+}
+
+// The same test, for a call that adds nothing to the queue.
 pub fn is_sound(r: SessionRecord, store: &[u8]) -> bool
     requires { ⌜ 6144 ≤ length (now store) ⌝ }
     ensures { λ x. ⌜ x ≡ not (damaged (view r (now (store .entry)))) ⌝ }
 {
-    if depth(store.len()) < r.queue_count {
-        return false;
+    match test_store(r, store) {
+        Tested::Sound(_) => true,
+        Tested::Damaged => false,
     }
-    if r.queue_count < r.drain_position {
-        return false;
-    }
-    if !is_identity(&store[0..SLOT]) {
-        return false;
-    }
-    if !lists_start(r.registered, store) {
-        return false;
-    }
-    all_start(store, 3, r.queue_count)
-}
-
-// Slots i and j hold the same assignment.
-pub fn same_slots(store: &[u8], i: usize, j: usize) -> bool
-    requires { ⌜ (2048 * i + 2048 ≤ length (now store)) × (2048 * j + 2048 ≤ length (now store)) ⌝ }
-    requires { ⌜ startsAssignment (slot (now store) i) ≡ true ⌝ }
-    requires { ⌜ startsAssignment (slot (now store) j) ≡ true ⌝ }
-    ensures { λ r. ⌜ r ≡ sameAssignment (listIn (now (store .entry)) i) (listIn (now (store .entry)) j) ⌝ }
-{
-    let a = SLOT * i;
-    let b = SLOT * j;
-    records::same_assignment(&store[a..a + SLOT], &store[b..b + SLOT])
 }
 
 // Writes the packed assignment of n bytes at the front of b to slot k.
@@ -144,4 +124,14 @@ pub fn write_slot(store: &mut [u8], k: usize, b: &[u8], n: usize)
     ensures { λ _. ⌜ now (store .exit) ≡ put (now (store .entry)) (2048 * k) (encodeAssignment (assignmentOf (now (b .entry)))) ⌝ }
 {
     packed_int::put_bytes(store, SLOT * k, &b[..n]);
+}
+
+// Writes the packed assignment of n bytes at the front of b, behind its length, to a byte place.
+pub fn push(store: &mut [u8], at: usize, b: &[u8], n: usize)
+    requires { ⌜ at + (2 + n) ≤ length (now store) ⌝ }
+    requires { ⌜ Scratch (now b) n ⌝ }
+    ensures { λ _. ⌜ now (store .exit) ≡ put (now (store .entry)) at (encodeEntry (assignmentOf (now (b .entry)))) ⌝ }
+{
+    packed_int::write_u16(store, at, n as u16);
+    packed_int::put_bytes(store, at + LENGTH, &b[..n]);
 }

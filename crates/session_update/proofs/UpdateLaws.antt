@@ -1,18 +1,18 @@
 -- The cases of an update, one law for each answer of the functions.
 --
 -- In order: epochs and the list where they lie (`buffer-epoch` to `list-starts`); a store that is not damaged (`identity-good` to
--- `list-good`); an unregistered session (`epoch-low`, `queue-full`, `queue-joined`); a registered one (`list-same`, `epoch-stale`,
+-- `list-good`); an unregistered session (`epoch-low`, `queue-full`, `no-room`, `queue-joined`); a registered one (`list-same`, `epoch-stale`,
 -- `list-held`); what the assignment comes to (`content-refuses` to `content-joins`); link and consumer (`other-link`, `other-consumer`,
--- `addressed`); the message (`update-epoch` to `message-valid`); the call (`store-good` to `call-sound`).
+-- `addressed`); the message (`update-epoch` to `message-valid`); the call (`store-short` to `call-sound`).
 -- Assumes nothing.
-use Prim.Native.Nat.{ℕ, _+_, _*_, _≤_, _<_}
+use Prim.Native.Nat.{ℕ, _+_, _-_, _≤_, _<_}
 use native.Mathlib.Omega.{arith}
 use mathlib.Core.Path.{_≡_, sym, ap, _∙_}
 use mathlib.Core.Bool.{Bool, true, false, not}
 use mathlib.Core.List.{List}
 use lib.ListN.{length, take, drop}
 use lib.Seq.{take-take}
-use borrow.Author.Tests.{lt-ltb, le-ltb, eq-eqb, ne-eqb, not-true, not-false}
+use borrow.Author.Tests.{lt-ltb, le-ltb, eq-eqb, ne-eqb}
 use Rattle.types.specs.declared.ControllerIncarnation.{ControllerIncarnation}
 use Rattle.refusal.specs.declared.Refusal.{Refusal}
 use Rattle.refusal.specs.declared.Refusal.the-variants as refusal
@@ -25,8 +25,9 @@ use Rattle.readers.specs.Messages.{WireUpdate, updateOf}
 use Rattle.readers.specs.Messages as wire
 use Rattle.packed_int.specs.Be.{be, beAt}
 use Rattle.packed_int.specs.Put.{put}
-use Rattle.packed.specs.Assignment.{ConsumerAssignment, encodeAssignment, num, assignmentOf, startsAssignment}
+use Rattle.packed.specs.Assignment.{ConsumerAssignment, encodeAssignment, sizeAssignment, num, assignmentOf, startsAssignment}
 use Rattle.packed.specs.Equal.{sameAssignment}
+use Rattle.packed_queue.specs.Entries.{encodeEntry, sizeEntry}
 use Rattle.delta.specs.Delta.{encodeDelta, sizeDelta}
 use Rattle.delta.specs.Change.{deltaBetween}
 use Rattle.content.specs.Content.{Content, refused, taken, contentOf}
@@ -34,7 +35,7 @@ use Rattle.session.specs.declared.SessionRecord.{SessionRecord}
 use Rattle.session.specs.declared.Changed.{Changed}
 use Rattle.session.specs.declared.Floor.{Floor}
 use Rattle.session.specs.declared.Answer.the-variants.{Refused, Unchanged, Delta}
-use Rattle.session.specs.Store.{slot, depthOf, listIn, writeSlot}
+use Rattle.session.specs.Store.{slot, listIn, queueIn, queueEnd, writeOne}
 use Rattle.session.specs.Identity.{topicOf, isIdentity}
 use Rattle.session.specs.Session.{view, damaged, raise}
 use Rattle.session.specs.Update.{withQueueCount, withFloor, updateUnregistered, updateRegistered, updateContent, updateValid}
@@ -42,7 +43,7 @@ use Rattle.session.specs.Update.{updateChecked, updateCall}
 use Rattle.session.specs.Calls.{Outcome, outcome, effectOf, updateOutcome}
 use Rattle.session_record.specs.Floors.{belowFloor, floorValue}
 use Rattle.session_record.proofs.FloorLaws.{floor-below, floor-met}
-use Rattle.session_store.proofs.StoreLaws.{slot-at, count-in, lists-start}
+use Rattle.session_store.proofs.StoreLaws.{slot-at, count-most, lists-start}
 use Rattle.session_store.proofs.StoreLaws as store
 use Rattle.session_intake.specs.Taken.{contentIn, PlainMessageTaken}
 
@@ -74,8 +75,8 @@ module _ (r : SessionRecord) (st : List ℕ) (e : damaged (view r st) ≡ false)
   pub identity-good : isIdentity (slot st 0) ≡ true
   identity-good = store.identity-good r st (ap not e)
 
-  pub count-good : r .«queue_count» ≤ depthOf (length st)
-  count-good = count-in r st (ap not e)
+  pub count-good : r .«queue_count» ≤ 1024
+  count-good = count-most r st (ap not e)
 
   pub list-good : r .registered ≡ true → startsAssignment (slot st 2) ≡ true
   list-good h = lists-start r st (ap not e) h .1
@@ -92,28 +93,36 @@ module _ (r : SessionRecord) (st out : List ℕ) (a : ConsumerAssignment) (epoch
   unfolding updateUnregistered view
   epoch-low h v g = rw (e, g, floor-below (a .layoutEpoch) (r .«epoch_floor») (floor-test ∙ h))
 
-  module _ (h : t ≡ false) (max : ℕ) (d : max ≡ depthOf (length st)) where
-    pub queue-full : r .«queue_count» ≡ max
-        → outcome (Refused (refusal.PreBaselineBufferFull max)) r st out ≡ effectOf (updateUnregistered (view r st) a) st out
+  module _ (h : t ≡ false) where
+    pub queue-full : r .«queue_count» ≡ 1024
+        → outcome (Refused (refusal.PreBaselineBufferFull 1024)) r st out ≡ effectOf (updateUnregistered (view r st) a) st out
     unfolding updateUnregistered view
-    queue-full q =
-        rw (
-          floor-met (a .layoutEpoch) (r .«epoch_floor») (floor-test ∙ h),
-          eq-eqb (r .«queue_count») (depthOf (length st)) (q ∙ d),
-          d,
-        )
+    queue-full q = rw (floor-met (a .layoutEpoch) (r .«epoch_floor») (floor-test ∙ h), eq-eqb (r .«queue_count») 1024 q)
 
-    pub queue-joined : (r .«queue_count» ≡ max → ⊥) → (new : List ℕ) → new ≡ put st (2048 * (3 + r .«queue_count»)) (encodeAssignment a)
-        → (next : SessionRecord) → next ≡ withQueueCount r (r .«queue_count» + 1)
-        → outcome Unchanged next new out ≡ effectOf (updateUnregistered (view r st) a) st out
-    unfolding updateUnregistered view writeSlot
-    queue-joined q new p next n =
-        rw (
-          floor-met (a .layoutEpoch) (r .«epoch_floor») (floor-test ∙ h),
-          ne-eqb (r .«queue_count») (depthOf (length st)) (λ w. q (w ∙ sym d)),
-          p,
-          n,
-        )
+    module _ (q : r .«queue_count» ≡ 1024 → ⊥) (end : ℕ) (d : end ≡ queueEnd (queueIn st (r .«queue_count»))) (n : ℕ) (z : n ≡ sizeAssignment a) where
+      pub no-room : end ≤ length st → length st - end < 2 + n
+          → outcome (Refused (refusal.PreBaselineBufferFull (r .«queue_count»))) r st out ≡ effectOf (updateUnregistered (view r st) a) st out
+      unfolding updateUnregistered view
+      no-room l k =
+          rw (
+            floor-met (a .layoutEpoch) (r .«epoch_floor») (floor-test ∙ h),
+            ne-eqb (r .«queue_count») 1024 q,
+            lt-ltb (length st) (queueEnd (queueIn st (r .«queue_count»)) + sizeEntry a) (omega arith),
+          )
+
+      pub queue-joined : end + (2 + n) ≤ length st → (new : List ℕ) → new ≡ put st end (encodeEntry a)
+          → (next : SessionRecord) → next ≡ withQueueCount r (r .«queue_count» + 1)
+          → outcome Unchanged next new out ≡ effectOf (updateUnregistered (view r st) a) st out
+      unfolding updateUnregistered view writeOne
+      queue-joined l new p next x =
+          rw (
+            floor-met (a .layoutEpoch) (r .«epoch_floor») (floor-test ∙ h),
+            ne-eqb (r .«queue_count») 1024 q,
+            le-ltb (length st) (queueEnd (queueIn st (r .«queue_count»)) + sizeEntry a) (omega arith),
+            p,
+            x,
+            d,
+          )
 
 -- ---- registered
 
@@ -136,7 +145,7 @@ module _ (r : SessionRecord) (st out : List ℕ) (a l : ConsumerAssignment) (p :
         → (delta : List ℕ) → delta ≡ put out 0 (encodeDelta (deltaBetween l a)) → (new : List ℕ) → new ≡ put st 4096 (encodeAssignment a)
         → (floor : Floor) → floor ≡ raise (r .«epoch_floor») epoch → (next : SessionRecord) → next ≡ withFloor r floor
         → outcome (Delta len) next new delta ≡ effectOf (updateRegistered (view r st) a) st out
-    unfolding updateRegistered view writeSlot
+    unfolding updateRegistered view writeOne
     list-held q len el delta ed new en floor ef next ex =
         rw (same-test ∙ h, le-ltb (a .layoutEpoch) (listIn st 2 .layoutEpoch) (omega arith), el, ed, en, ex, ef, e, p)
 
@@ -214,10 +223,6 @@ module _ (r : SessionRecord) (st m : List ℕ) (incarnation : ControllerIncarnat
 
 -- ---- the call
 
--- what the test of the store says
-pub store-good : (r : SessionRecord) (st : List ℕ) (x : Bool) → x ≡ not (damaged (view r st)) → not x ≡ false → damaged (view r st) ≡ false
-store-good r st x e f = not-true (damaged (view r st)) (sym e ∙ not-false x f)
-
 module _ (r : SessionRecord) (st m : List ℕ) (incarnation : ControllerIncarnation) (out : List ℕ) where
   pub store-short : length st < 6144 → outcome (Refused refusal.StoreTooShort) r st out ≡ updateOutcome r st m incarnation out
   unfolding updateOutcome updateCall view
@@ -229,11 +234,9 @@ module _ (r : SessionRecord) (st m : List ℕ) (incarnation : ControllerIncarnat
     output-short k = rw (le-ltb (length st) 6144 h, lt-ltb (length out) 3210 k)
 
     module _ (k : 3210 ≤ length out) where
-      pub store-bad : (x : Bool) → x ≡ not (damaged (view r st)) → not x ≡ true
-          → outcome (Refused refusal.MalformedStore) r st out ≡ updateOutcome r st m incarnation out
+      pub store-bad : damaged (view r st) ≡ true → outcome (Refused refusal.MalformedStore) r st out ≡ updateOutcome r st m incarnation out
       unfolding updateOutcome updateCall view
-      store-bad x e f =
-          rw (le-ltb (length st) 6144 h, le-ltb (length out) 3210 k, not-false (damaged (view r st)) (sym e ∙ not-true x f))
+      store-bad d = rw (le-ltb (length st) 6144 h, le-ltb (length out) 3210 k, d)
 
       pub call-sound : damaged (view r st) ≡ false → {z : Outcome} → Scanned r st m incarnation out z → z ≡ updateOutcome r st m incarnation out
       unfolding updateOutcome updateCall view

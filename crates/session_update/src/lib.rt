@@ -3,7 +3,7 @@
 // The message's assignment is taken into a buffer of one slot before link and consumer are tested; what is refused before the last test has written nothing to store
 // or output.
 ghost use mathlib.Core.Path.{_≡_};
-ghost use mathlib.Core.Bool.{true, false};
+ghost use mathlib.Core.Bool.{true};
 ghost use mathlib.Core.List.{List};
 ghost use Prim.Native.Nat.{ℕ, _≤_};
 ghost use lib.ListN.{length};
@@ -12,30 +12,36 @@ ghost use Rattle.readers.specs.Messages.{WireUpdate};
 ghost use Rattle.packed.specs.Assignment.{startsAssignment};
 ghost use Rattle.packed.specs.Assignment as packed-form;
 ghost use Rattle.content.specs.Content.{contentOf};
-ghost use Rattle.session.specs.Store.{slot, depthOf};
+ghost use Rattle.session.specs.Store.{slot};
 ghost use Rattle.session.specs.Identity.{topicOf};
-ghost use Rattle.session.specs.Session.{view, damaged};
+ghost use Rattle.session.specs.Session.{view};
 ghost use Rattle.session.specs.Update.{updateUnregistered, updateRegistered, updateValid, updateChecked};
 ghost use Rattle.session.specs.Calls.{outcome, effectOf, updateOutcome};
 ghost use Rattle.session_store.specs.Scratch.{Scratch};
+ghost use Rattle.session_store.specs.Places.{QueueEnds};
+ghost use Rattle.session_store.specs.Tests.{StoreTested};
 ghost use Rattle.session_intake.specs.Taken.{contentFrom, Ready};
 use intake::Intake;
 use messages::Checked;
 use messages::MessageKind;
 use packed::SLOT;
+use packed_queue::LENGTH;
 use refusal::Refusal;
 use session::Answer;
 use session::Changed;
 use session::SessionRecord;
 use session_intake::PlainMessage;
+use session_store::MAX_QUEUE;
+use session_store::Tested;
 use types::ControllerIncarnation;
 
 // The store's list slot.
 const LIST: usize = 4096;
 
-// An update of an unregistered session: the assignment of n bytes in the buffer joins the queue.
-fn enqueued(r: SessionRecord, store: &mut [u8], b: &[u8], n: usize) -> Changed
-    requires { ⌜ (6144 ≤ length (now store)) × (r .«queue_count» ≤ depthOf (length (now store))) ⌝ }
+// An update of an unregistered session: the assignment of n bytes in the buffer joins the queue, which ends at a byte place.
+fn enqueued(r: SessionRecord, store: &mut [u8], end: usize, b: &[u8], n: usize) -> Changed
+    requires { ⌜ r .«queue_count» ≤ 1024 ⌝ }
+    requires { ⌜ QueueEnds (now store) (r .«queue_count») end ⌝ }
     requires { ⌜ Scratch (now b) n ⌝ }
     ensures { λ x. ⌜ ((out : List ℕ) → outcome (x .answer) (x .next) (now (store .exit)) out
         ≡ effectOf (updateUnregistered (view r (now (store .entry))) (packed-form.assignmentOf (now (b .entry)))) (now (store .entry)) out) ⌝ }
@@ -52,12 +58,15 @@ fn enqueued(r: SessionRecord, store: &mut [u8], b: &[u8], n: usize) -> Changed
             },
         );
     }
-    let max = session_store::depth(store.len());
-    if r.queue_count == max {
-        return session_record::refuse(r, Refusal::PreBaselineBufferFull { max });
+    let count = r.queue_count;
+    if count == MAX_QUEUE {
+        return session_record::refuse(r, Refusal::PreBaselineBufferFull { max: MAX_QUEUE });
     }
-    session_store::write_slot(store, 3 + r.queue_count, b, n);
-    let next = session_record::with_queue_count(r, r.queue_count + 1);
+    if store.len() - end < LENGTH + n {
+        return session_record::refuse(r, Refusal::PreBaselineBufferFull { max: count });
+    }
+    session_store::push(store, end, b, n);
+    let next = session_record::with_queue_count(r, count + 1);
     session_record::unchanged(next)
 }
 
@@ -92,6 +101,7 @@ fn held(r: SessionRecord, store: &mut [u8], b: &[u8], n: usize, out: &mut [u8]) 
 fn addressed(
     r: SessionRecord,
     store: &mut [u8],
+    end: usize,
     consumer_id: u64,
     incarnation: ControllerIncarnation,
     intake: Intake,
@@ -99,7 +109,7 @@ fn addressed(
     out: &mut [u8],
 ) -> Changed
     requires { ⌜ (6144 ≤ length (now store)) × (3210 ≤ length (now out)) ⌝ }
-    requires { ⌜ damaged (view r (now store)) ≡ false ⌝ }
+    requires { ⌜ StoreTested r (now store) (Tested.Sound end) ⌝ }
     requires { ⌜ Ready intake (now b) ⌝ }
     ensures { λ x. ⌜ ((u : WireUpdate) → «consumer_id» ≡ u .consumerId
         → contentOf (topicOf (slot (now (store .entry)) 0)) (u .assignment) ≡ contentFrom intake (now (b .entry))
@@ -131,7 +141,7 @@ fn addressed(
             if r.registered {
                 return held(r, store, b, n, out);
             }
-            enqueued(r, store, b, n)
+            enqueued(r, store, end, b, n)
         }
     }
 }
@@ -140,13 +150,14 @@ fn addressed(
 fn scanned(
     r: SessionRecord,
     store: &mut [u8],
+    end: usize,
     message: &[u8],
     incarnation: ControllerIncarnation,
     b: &mut [u8],
     out: &mut [u8],
 ) -> Changed
     requires { ⌜ (6144 ≤ length (now store)) × (3210 ≤ length (now out)) ⌝ }
-    requires { ⌜ damaged (view r (now store)) ≡ false ⌝ }
+    requires { ⌜ StoreTested r (now store) (Tested.Sound end) ⌝ }
     requires { ⌜ length (now b) ≡ 2048 ⌝ }
     ensures { λ x. ⌜ outcome (x .answer) (x .next) (now (store .exit)) (now (out .exit))
         ≡ effectOf (updateChecked (view r (now (store .entry))) incarnation (now (message .entry)) (firstFault MessageKind.CommandScalableTopicAssignmentUpdate (now (message .entry)))) (now (store .entry)) (now (out .entry)) ⌝ }
@@ -156,7 +167,7 @@ fn scanned(
         Checked::Valid => {
             let head = readers::read_update(message);
             let intake = session_intake::take_assignment(store, message, 2, head.layout_epoch, b);
-            addressed(r, store, head.consumer_id, incarnation, intake, b, out)
+            addressed(r, store, end, head.consumer_id, incarnation, intake, b, out)
         }
     }
 }
@@ -178,14 +189,14 @@ pub fn updated(
     if out.len() < difference::LONGEST {
         return session_record::refuse(r, Refusal::OutputTooShort);
     }
-    if !session_store::is_sound(r, store) {
+    let Tested::Sound(end) = session_store::test_store(r, store) else {
         return session_record::refuse(r, Refusal::MalformedStore);
-    }
+    };
     let mut b = [0u8; 2048];
     match session_intake::take_plain_message(store, message, 2, &mut b) {
         PlainMessage::Taken(id, n) => {
-            addressed(r, store, id, incarnation, Intake::Taken(n), &b, out)
+            addressed(r, store, end, id, incarnation, Intake::Taken(n), &b, out)
         }
-        PlainMessage::Other => scanned(r, store, message, incarnation, &mut b, out),
+        PlainMessage::Other => scanned(r, store, end, message, incarnation, &mut b, out),
     }
 }

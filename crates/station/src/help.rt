@@ -39,8 +39,8 @@ counted from 2000-01-01 00:00 UTC, a Saturday. A CONTRACT is the count of terms 
 windows, 16 bits each, then start and end of each, 64 bits each, most significant bit first; those
 of windows are in seconds from Saturday 00:00. DELTAS are packed one behind another; an entry of the
 LOG has 9 bytes: a bit (0 detach, 1 attach), the id, seven zero bits. A log of calls may have any
-number of lines, each of at most 524287 bytes. The session has a store of full size, with a queue of
-1024 pushes.
+number of lines, each of at most 524287 bytes. The session has a store of full size: 1024 pushes
+of up to 2046 bytes each may wait in its queue.
 
 For each call a line LINE CALL ANSWER, where LINE is its number in the log and ANSWER one of
 

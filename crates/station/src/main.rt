@@ -31,7 +31,7 @@ mod segments;
 mod step;
 mod window;
 
-// The bytes of a full-size store: three slots and a queue of 1,024.
+// The bytes of a full-size store: three slots, and a queue of 1,024 lists of up to 2,046 bytes.
 const STORE: usize = 2103296;
 
 // Does what the program's arguments ask: runs the log in standard input on a store, with a window of lost counts beside it, or shows the help page.

@@ -1,13 +1,15 @@
 -- `session_drain::drained` meets its contract: a test after the other, then what the walk over the queue found.
 -- Assumes nothing.
-use Prim.Native.Nat.{_+_, _<_}
+use Prim.Native.Nat.{_+_, _-_, _≤_, _<_}
 use native.Mathlib.Omega.{arith}
-use mathlib.Core.Path.{refl, sym, _∙_}
+use mathlib.Core.Path.{sym, ap, _∙_}
+use lib.ListN.{length}
 use borrow.Author.Needs.{needs}
 use borrow.Author.Tests.{not-false}
+use Rattle.session_store.specs.Places.{Lies, entryIn}
 use Rattle.session_store.proofs.StoreLaws.{position-in}
 use Rattle.session_drain.specs.Entries.{Entries}
-use Rattle.session_drain.proofs.DrainLaws.{before-low, before-there, before-room, entry-there, entry-room, part-holds, part-starts}
+use Rattle.session_drain.proofs.DrainLaws.{next-length, next-lies, next-inside}
 use Rattle.session_drain.proofs.DrainLaws.{told, store-short, output-short, store-bad}
 use Rattle.session_drain.proofs.DrainLaws.{Taken, unregistered, queue-there, none-left, replayed}
 use Rattle.session_drain.proofs.drained.Statement.{statement}
@@ -32,15 +34,36 @@ queue c =
     let s = start k in
     queue-there (s .args .r) (s .args .store .now) (s .args .out .now) (taken k) (c .if4 .left)
 
--- the entry that was found, and the slot before it
-low : (c : tie.Else5) → c .before .next-change .result < start (c .before .before .before .before) .args .r .«queue_count»
-low c = omega (arith, c .before .next-change .ensures .0, c .if5 .left)
+-- an entry was found
+abbrev walked : tie.Else5 → tie.After-next-change
+walked c = c .before .before
 
-few : (c : tie.Else5) → c .before .next-change .result < 1024
-few c = omega (arith, low c, queue (c .before .before) .few)
+abbrev begin : tie.After-next-change → tie.Start
+begin c = start (c .before .before .before)
 
-before-few : (c : tie.After-slot-before) → c .slot-before .result < 1027
-before-few c = rw (c .slot-before .ensures) (omega (arith, before-low (c .before .before .next-change .result), few (c .before)))
+low : (c : tie.Else5) → let m = walked c in m .next-change .result .i < begin m .args .r .«queue_count»
+low c = omega (arith, walked c .next-change .ensures .0 .1, c .if5 .left)
+
+-- where it begins
+begins : (c : tie.Else5) → let m = walked c in m .next-change .result .at + 2 ≤ length (begin m .args .store .now)
+begins c =
+    let m = walked c in next-length _ _ (m .next-change .result) (m .next-change .ensures .0 .0) (queue (m .before)) (low c)
+
+-- where it lies
+inside : (c : tie.After-read-u16)
+    → let m = walked (c .before) in m .next-change .result .at + 2 + c .read-u16 .result ≤ length (begin m .args .store .now)
+inside c =
+    let m = walked (c .before) in
+    next-inside _ _ (m .next-change .result) (m .next-change .ensures .0 .0) (queue (m .before)) (low (c .before)) (c .read-u16 .result) (c .read-u16 .ensures)
+
+lies : (c : tie.After-read-u16)
+    → let m = walked (c .before) in
+    let r = m .next-change .result in
+    let st = begin m .args .store .now in
+    Lies st (r .at + 2) (r .at + 2 + c .read-u16 .result - (r .at + 2)) (entryIn st (r .i))
+lies c =
+    let m = walked (c .before) in
+    next-lies _ _ (m .next-change .result) (m .next-change .ensures .0 .0) (queue (m .before)) (low (c .before)) (c .read-u16 .result) (c .read-u16 .ensures)
 
 refuse-requires : tie.Need-refuse-requires
 refuse-requires c κs = search needs
@@ -97,92 +120,47 @@ unchanged-requires-2 c κs = search needs
 
 returns-5 : tie.Need-returns-5
 returns-5 c =
-    let m = c .before .before .before in
+    let m = c .before .before .before .before in
     let k = m .before in
     let s = start (k .before .before) in
     told (s .args .r) (s .args .store .now) (s .args .out .now) (c .unchanged2 .ensures)
     (rw (c .before .with-position .ensures)
     (none-left (s .args .r) (s .args .store .now) (s .args .out .now) (taken (k .before .before)) (k .if4 .left)
-    (m .next-change .result) (m .next-change .ensures .1) (c .before .before .if5 .taken)))
+    (m .next-change .result .i) (m .next-change .ensures .1) (c .before .before .if5 .taken)))
 
-slot-before-requires : tie.Need-slot-before-requires
-slot-before-requires c κs = omega (arith, few c)
-
-mul-before : tie.Need-mul-before
-mul-before c = record { fits = omega (arith, before-few c) }
+read-u16-requires : tie.Need-read-u16-requires
+read-u16-requires c κs = begins c
 
 add-place : tie.Need-add-place
-add-place c = record { fits = omega (arith, few (c .before)) }
+add-place c =
+    let e = c .before .before in record { fits = omega (arith, begins e, begin (walked e) .good) }
 
-mul-place : tie.Need-mul-place
-mul-place c = record { fits = omega (arith, few (c .before)) }
-
-add-write-delta : tie.Need-add-write-delta
-add-write-delta c = record { fits = omega (arith, before-few c) }
-
-sub-write-delta : tie.Need-sub-write-delta
-sub-write-delta c = search needs
-
-part-write-delta-start : tie.Need-part-write-delta-start
-part-write-delta-start c = search needs
+add-end : tie.Need-add-end
+add-end c = let z = c .before in record { fits = omega (arith, inside z, begin (walked (z .before)) .good) }
 
 part-write-delta-end : tie.Need-part-write-delta-end
-part-write-delta-end c =
-    let k = c .before .before .before in
-    let s = start (k .before .before) in
-    rw (c .slot-before .ensures)
-    (before-room (s .args .store .now) (s .args .r .«queue_count») (queue k) (c .before .before .next-change .result) (low (c .before)))
-
-add-write-delta-2 : tie.Need-add-write-delta-2
-add-write-delta-2 c = record { fits = omega (arith, few (c .before .before)) }
-
-sub-write-delta-2 : tie.Need-sub-write-delta-2
-sub-write-delta-2 c = search needs
-
-part-write-delta-start-2 : tie.Need-part-write-delta-start-2
-part-write-delta-start-2 c = search needs
+part-write-delta-end c = let w = walked (c .before .before) .next-change .ensures .0 .0 in omega (arith, w .rises, w .lies .inside)
 
 part-write-delta-end-2 : tie.Need-part-write-delta-end-2
-part-write-delta-end-2 c =
-    let k = c .before .before .before .before in
-    let s = start (k .before .before) in
-    entry-room (s .args .store .now) (s .args .r .«queue_count») (c .before .before .before .next-change .result) (queue k)
-    (low (c .before .before))
+part-write-delta-end-2 c = inside (c .before .before)
 
 write-delta-requires : tie.Need-write-delta-requires
 write-delta-requires c κs =
-    let b = c .before .before .before in
-    let l = b .before in
-    let k = l .before .before in
-    let s = start (k .before .before) in
-    let st = s .args .store .now in
-    let n = s .args .r .«queue_count» in
-    let i = l .before .next-change .result in (
-      part-starts st (b .slot-before .result) _ (b .slot-before .ensures) (before-there st n (queue k) i (low l)),
-      (part-starts st (3 + i) (3 + i) refl (entry-there st n i (queue k) (low l)), k .before .before .before .before .if2 .left),
-    )
-
-add-with-position : tie.Need-add-with-position
-add-with-position c = search needs
-
-with-position-requires-2 : tie.Need-with-position-requires-2
-with-position-requires-2 c κs = search needs
-
-same-length : tie.Need-same-length
-same-length c = search needs
+    let z = c .before .before .before .before in
+    let m = walked (z .before) in
+    (m .next-change .ensures .0 .0 .lies .starts, (lies z .starts, m .before .before .before .before .before .if2 .left))
 
 returns-6 : tie.Need-returns-6
 returns-6 c =
-    let w = c .before .before .before in
-    let b = w .before .before .before .before in
-    let l = b .before in
-    let m = l .before in
+    let w = c .before .before .before .before in
+    let z = w .before .before .before .before .before in
+    let e = z .before in
+    let m = walked e in
     let k = m .before in
-    let s = start (k .before .before) in
-    let st = s .args .store .now in
-    let i = m .next-change .result in
-    replayed (s .args .r) st (s .args .out .now) (taken (k .before .before)) (k .if4 .left) i (m .next-change .ensures .1) (low l)
-    _ _ (part-holds st (b .slot-before .result) _ (b .slot-before .ensures)) (part-holds st (3 + i) (3 + i) refl)
+    let s = begin m in
+    let y = m .next-change .ensures .0 .0 in
+    replayed (s .args .r) (s .args .store .now) (s .args .out .now) (taken (k .before .before)) (k .if4 .left) (m .next-change .result .i)
+    (m .next-change .ensures .1) (low e) _ (ap (_+ 2) (y .here)) _ _ (y .lies .holds) (lies z .holds)
     _ (w .write-delta .ensures .0) _ (w .write-delta .ensures .1) _ (c .with-position2 .ensures)
 
 pub drained-spec : {M : Type 1} → statement M
@@ -202,20 +180,20 @@ drained-spec =
     with-position-requires
     unchanged-requires-2
     returns-5
-    slot-before-requires
-    mul-before
+    read-u16-requires
+    (λ c. search needs)
     add-place
-    mul-place
-    add-write-delta
-    sub-write-delta
-    part-write-delta-start
+    add-end
+    -- sub-write-delta, part-write-delta-start
+    (λ c. search needs)
+    (λ c. search needs)
     part-write-delta-end
-    add-write-delta-2
-    sub-write-delta-2
-    part-write-delta-start-2
+    -- sub-write-delta-2, part-write-delta-start-2
+    (λ c. search needs)
+    (λ c. search needs)
     part-write-delta-end-2
     write-delta-requires
-    add-with-position
-    with-position-requires-2
-    same-length
+    (λ c. search needs)
+    (λ c κs. search needs)
+    (λ c. search needs)
     returns-6)

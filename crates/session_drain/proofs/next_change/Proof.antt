@@ -1,75 +1,98 @@
 -- `session_drain::next_change` meets its contract: what is still to be found is found among the entries that are left.
 -- Assumes nothing.
-use Prim.Native.Nat.{_-_, _≤_}
+use Prim.Native.Nat.{ℕ, _+_, _-_, _≤_}
 use native.Mathlib.Omega.{arith}
-use mathlib.Core.Path.{_≡_, _∙_}
+use mathlib.Core.Path.{_≡_, sym, subst}
+use lib.ListN.{length}
 use borrow.Author.Needs.{needs}
-use Rattle.session.specs.Store.{listIn, listsIn}
+use Rattle.session.specs.Store.{listIn, queueIn}
 use Rattle.session.specs.Drain.{nextChange}
-use Rattle.session_drain.proofs.DrainLaws.{before-there, before-room, entry-there, entry-room}
-use Rattle.session_drain.proofs.DrainLaws.{rest, walk-begins, walk-ends, entry-same, entry-differs}
+use Rattle.session_drain.proofs.DrainLaws.{rest, walk-begins, next-length, next-lies, next-inside, Walked, ended, stops, goes-on}
 use Rattle.session_drain.proofs.next_change.Statement.{statement}
 use Rattle.session_drain.proofs.next_change.Tie as tie
 
 abbrev Inv-loop : tie.InvT-loop
-Inv-loop store from n i₀ i = (i ≤ n) × (nextChange 0 (listIn store 1) (listsIn store 3 n) from ≡ rest store (n - i) i)
+Inv-loop store from n before₀ until₀ at₀ i₀ before until at i =
+    Walked store from n (record { i = i; at = at; before = before; until = until })
 
 abbrev μ-loop : tie.MeasureT-loop
-μ-loop store from n i₀ i = n - i
+μ-loop store from n before₀ until₀ at₀ i₀ before until at i = n - i
+
+skip-to-requires : tie.Need-skip-to-requires Inv-loop μ-loop
+skip-to-requires c κs = search needs
 
 loop-holds : tie.Need-loop-holds Inv-loop μ-loop
-loop-holds c = let s = c .before in (s .pre .1, walk-begins (s .args .store .now) (s .args .n) (s .args .from) (s .pre .1))
+loop-holds c =
+    let s = c .before .before in
+    let e = c .skip-to .ensures .1 in
+    record {
+      low = omega (arith, e, s .pre .1);
+      reaches = c .skip-to .ensures .0;
+      found =
+          subst (λ (m : ℕ). nextChange 0 (listIn (s .args .store .now) 1) (queueIn (s .args .store .now) (s .args .n)) (s .args .from) ≡ rest (s .args .store .now) (s .args .n - m) m)
+          (sym e) (walk-begins (s .args .store .now) (s .args .n) (s .args .from) (s .pre .1));
+    }
 
-slot-before-requires : tie.Need-slot-before-requires Inv-loop μ-loop
-slot-before-requires c κs = omega (arith, c .before .before .before .pre .0 .few)
+-- where the loop began
+abbrev start : tie.In-loop Inv-loop μ-loop → tie.Start Inv-loop μ-loop
+start c = c .before .before .before .before
 
-add-same-slots : tie.Need-add-same-slots Inv-loop μ-loop
-add-same-slots c = record { fits = omega (arith, c .before .before .before .before .pre .0 .few) }
+read-u16-requires : tie.Need-read-u16-requires Inv-loop μ-loop
+read-u16-requires c κs = next-length _ _ _ (c .before .loop .inv .reaches) (start c .pre .0) (c .loop-test .taken)
 
-same-slots-requires : tie.Need-same-slots-requires Inv-loop μ-loop
-same-slots-requires c κs =
-    let l = c .before .before in
-    let s = l .before .before in
-    let st = s .args .store .now in
-    let h = c .before .loop-test .taken in
-    rw (c .slot-before .ensures) (
-      (before-room st (s .args .n) (s .pre .0) (l .loop .i) h, entry-room st (s .args .n) (l .loop .i) (s .pre .0) h),
-      (before-there st (s .args .n) (s .pre .0) (l .loop .i) h, entry-there st (s .args .n) (l .loop .i) (s .pre .0) h),
-    )
+add-place : tie.Need-add-place Inv-loop μ-loop
+add-place c =
+    let k = c .before in
+    record { fits = omega (arith, next-length _ _ _ (k .before .loop .inv .reaches) (start k .pre .0) (k .loop-test .taken), start k .good) }
+
+-- the entry lies in the store
+inside : (c : tie.After-read-u16 Inv-loop μ-loop)
+    → c .before .before .loop .at + 2 + c .read-u16 .result ≤ length (start (c .before) .args .store .now)
+inside c =
+    let k = c .before in
+    next-inside _ _ _ (k .before .loop .inv .reaches) (start k .pre .0) (k .loop-test .taken) (c .read-u16 .result) (c .read-u16 .ensures)
+
+add-end : tie.Need-add-end Inv-loop μ-loop
+add-end c = record { fits = omega (arith, inside c, start (c .before) .good) }
+
+part-same-assignment-start : tie.Need-part-same-assignment-start Inv-loop μ-loop
+part-same-assignment-start c = c .before .before .loop .inv .reaches .rises
+
+part-same-assignment-end : tie.Need-part-same-assignment-end Inv-loop μ-loop
+part-same-assignment-end c = let w = c .before .before .loop .inv .reaches in omega (arith, w .rises, w .lies .inside)
+
+part-same-assignment-end-2 : tie.Need-part-same-assignment-end-2 Inv-loop μ-loop
+part-same-assignment-end-2 c = inside (c .before)
+
+same-assignment-requires : tie.Need-same-assignment-requires Inv-loop μ-loop
+same-assignment-requires c κs =
+    let z = c .before .before in
+    let k = z .before in
+    let w = k .before .loop .inv .reaches in
+    (w .lies .starts, next-lies _ _ _ w (start k .pre .0) (k .loop-test .taken) (z .read-u16 .result) (z .read-u16 .ensures) .starts)
 
 returns : tie.Need-returns Inv-loop μ-loop
 returns c =
-    let b = c .before .before in
-    let l = b .before .before in
-    let s = l .before .before in (
-      omega arith,
-      l .loop .inv .1
-          ∙ entry-differs (s .args .store .now) (s .args .n) (l .loop .i) (b .before .loop-test .taken) (c .before .same-slots .result)
-          (b .slot-before .result) (b .slot-before .ensures) (c .before .same-slots .ensures) (c .if1 .taken),
+    let m = c .before in
+    let z = m .before .before .before in
+    let k = z .before in
+    let w = k .before .loop .inv in (
+      (w .reaches, w .low),
+      stops _ _ _ _ w (start k .pre .0) (k .loop-test .taken) (z .read-u16 .result) (z .read-u16 .ensures)
+          (m .same-assignment .result) (m .same-assignment .ensures) (c .if1 .taken),
     )
-
-add-i : tie.Need-add-i Inv-loop μ-loop
-add-i c = search needs
-
-loop-less : tie.Need-loop-less Inv-loop μ-loop
-loop-less c = search needs
 
 loop-again : tie.Need-loop-again Inv-loop μ-loop
 loop-again c =
-    let b = c .before .before in
-    let l = b .before .before in
-    let s = l .before .before in (
-      omega arith,
-      l .loop .inv .1
-          ∙ entry-same (s .args .store .now) (s .args .n) (l .loop .i) (b .before .loop-test .taken) (c .before .same-slots .result)
-          (b .slot-before .result) (b .slot-before .ensures) (c .before .same-slots .ensures) (c .if1 .left),
-    )
+    let m = c .before in
+    let z = m .before .before .before in
+    let k = z .before in
+    goes-on _ _ _ _ (k .before .loop .inv) (start k .pre .0) (k .loop-test .taken) (z .read-u16 .result) (z .read-u16 .ensures)
+    (m .same-assignment .result) (m .same-assignment .ensures) (c .if1 .left)
 
 returns-2 : tie.Need-returns-2 Inv-loop μ-loop
 returns-2 c =
-    let l = c .before in
-    let s = l .before .before in
-    (omega arith, l .loop .inv .1 ∙ walk-ends (s .args .store .now) (s .args .n) (l .loop .i) (c .loop-test .left))
+    let w = c .before .loop .inv in ((w .reaches, w .low), ended _ _ _ _ w (c .loop-test .left))
 
 pub next-change-spec : {M : Type 1} → statement M
 next-change-spec =
@@ -77,12 +100,23 @@ next-change-spec =
     (tie.spec
     Inv-loop
     μ-loop
+    skip-to-requires
     loop-holds
-    slot-before-requires
-    add-same-slots
-    same-slots-requires
+    read-u16-requires
+    (λ c. search needs)
+    add-place
+    add-end
+    -- sub-same-assignment
+    (λ c. search needs)
+    part-same-assignment-start
+    part-same-assignment-end
+    -- sub-same-assignment-2, part-same-assignment-start-2
+    (λ c. search needs)
+    (λ c. search needs)
+    part-same-assignment-end-2
+    same-assignment-requires
     returns
-    add-i
-    loop-less
+    (λ c. search needs)
+    (λ c. search needs)
     loop-again
     returns-2)

@@ -1,7 +1,8 @@
 -- `session_response::assigned` meets its contract: 26, then 27, or else the session is registered.
 -- Assumes nothing.
+use mathlib.Core.Path.{sym, _∙_}
 use Rattle.packed.specs.Assignment.{assignmentOf}
-use Rattle.session_response.proofs.ReplayLaws.{buffer-epoch, replayed-room}
+use Rattle.session_response.proofs.ReplayLaws.{buffer-epoch, replayed-reads, last-begins}
 use Rattle.session_response.proofs.CallLaws.{refused-out, given-out, Decided}
 use Rattle.session_response.proofs.CallLaws.{assignment-below, queue-decides, assignment-stale, assignment-on}
 use borrow.Author.Needs.{needs}
@@ -50,7 +51,7 @@ first-stale-requires : tie.Need-first-stale-requires
 first-stale-requires c κs =
     let k = c .before in
     let s = k .before .before .before .before .before .before in
-    replayed-room (s .args .r) (s .args .store .now) (k .replay-count .result) (k .replay-count .ensures) (s .pre .0 .1) (s .pre .0 .0)
+    (s .pre .0 .0, replayed-reads (s .args .r) (s .args .store .now) (k .replay-count .result) (k .replay-count .ensures) (s .pre .0 .1))
 
 enum-known-got : tie.Need-enum-known-got
 enum-known-got c = search needs
@@ -58,11 +59,18 @@ enum-known-got c = search needs
 refuse-requires-2 : tie.Need-refuse-requires-2
 refuse-requires-2 c κs = search needs
 
-enum-told : tie.Need-enum-told
-enum-told c = search needs
+enum-known-at : tie.Need-enum-known-at
+enum-known-at c = search needs
 
 register-requires : tie.Need-register-requires
-register-requires c κs = search needs
+register-requires c κs =
+    let a = c .before .before in
+    let n = a .before .before in
+    let k = n .before .before in
+    let s = k .before .before .before .before .before .before in (
+      s .pre .0,
+      (s .pre .1, (k .replay-count .ensures, last-begins (s .args .store .now) _ _ _ (sym (a .at .given .1) ∙ n .first-stale .ensures))),
+    )
 
 same-length : tie.Need-same-length
 same-length c = search needs
@@ -82,11 +90,11 @@ same-length-2 c = search needs
 returns-3 : tie.Need-returns-3
 returns-3 c =
     let g = c .before .before in
-    let n = g .before .before .before .before in
+    let n = g .before .before .before .before .before in
     let s = n .before .before .before .before .before .before .before .before in
     given-out (s .args .r) (s .args .store .now) (g .register .result) (g .register .last .1 .0) _ _
     (assignment-on (s .args .r) (s .args .store .now) (assignmentOf (s .args .b .now)) (n .first-stale .result) (past n)
-    (g .before .before .enum-told .given .1))
+    _ (g .before .before .before .at .given .1))
     (g .register .ensures)
 
 pub assigned-spec : {M : Type 1} → statement M
@@ -102,7 +110,7 @@ assigned-spec =
     first-stale-requires
     enum-known-got
     refuse-requires-2
-    enum-told
+    enum-known-at
     register-requires
     same-length
     returns-2

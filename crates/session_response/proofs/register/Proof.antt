@@ -1,7 +1,7 @@
 -- `session_response::register` meets its contract: the two slots are written one after the other.
 -- Assumes nothing.
 use mathlib.Core.Path.{refl}
-use Rattle.session_response.proofs.ReplayLaws.{buffer-epoch, replayed-room, replayed-start}
+use Rattle.session_response.proofs.ReplayLaws.{buffer-epoch, replayed-reads}
 use Rattle.session_response.proofs.CallLaws.{registered-out}
 use borrow.Author.Needs.{needs}
 use Rattle.session_response.proofs.register.Statement.{statement}
@@ -14,8 +14,8 @@ load-last-requires : tie.Need-load-last-requires
 load-last-requires c κs =
     let s = c .before .before .before .before in
     let st = s .args .store .now in (
-      replayed-room (s .args .r) st (s .args .count) (s .pre .1 .1) (s .pre .0 .1) (s .pre .0 .0),
-      (replayed-start (s .args .r) st (s .args .count) (s .pre .1 .1) (s .pre .0 .1), (s .pre .1 .0, refl)),
+      (s .pre .0 .0, replayed-reads (s .args .r) st (s .args .count) (s .pre .1 .1 .0) (s .pre .0 .1)),
+      (s .pre .1 .1 .1, (s .pre .1 .0, refl)),
     )
 
 slice-aggregate-read-u64 : tie.Need-slice-aggregate-read-u64
@@ -47,8 +47,8 @@ returns c =
     let l = e .before .before .before in
     let s = l .before .before .before .before .before in
     registered-out (s .args .r) (s .args .store .now) (c .registered-with .result) (v .write-slot .last .0) (w .write-slot2 .last .0)
-    (s .args .b .now) (l .load-last .last .1 .1 .1 .1 .0) (e .read-u64 .result) (s .args .count) (l .load-last .result)
-    (s .pre .1 .1) (l .load-last .ensures) (buffer-epoch (l .load-last .last .1 .1 .1 .1 .0) (e .read-u64 .result) (e .read-u64 .ensures))
+    (s .args .b .now) (l .load-last .last .1 .1 .1 .1 .1 .0) (e .read-u64 .result) (s .args .count) (l .load-last .result)
+    (s .pre .1 .1 .0) (l .load-last .ensures) (buffer-epoch (l .load-last .last .1 .1 .1 .1 .1 .0) (e .read-u64 .result) (e .read-u64 .ensures))
     (v .write-slot .ensures) (w .write-slot2 .ensures) (c .registered-with .ensures)
 
 pub register-spec : {M : Type 1} → statement M

@@ -37,7 +37,7 @@ held-requires c κs =
     let t = c .before .before in
     let b = t .before .before in
     let s = start (b .before .before) in
-    (s .pre .0, (list-good (s .args .r) (s .args .store .now) (s .pre .1 .0) (t .if3 .taken), buffer b))
+    (s .pre .0, (list-good (s .args .r) (s .args .store .now) (s .pre .1 .0 .0) (t .if3 .taken), buffer b))
 
 returns-3 : tie.Need-returns-3
 returns-3 c = λ u e q.
@@ -54,7 +54,7 @@ enqueued-requires : tie.Need-enqueued-requires
 enqueued-requires c κs =
     let b = c .before .before .before in
     let s = start (b .before .before) in
-    ((s .pre .0 .0, count-good (s .args .r) (s .args .store .now) (s .pre .1 .0)), buffer b)
+    (count-good (s .args .r) (s .args .store .now) (s .pre .1 .0 .0), (s .pre .1 .0 .1, buffer b))
 
 returns-4 : tie.Need-returns-4
 returns-4 c = λ u e q.

@@ -12,7 +12,7 @@ take-assignment-requires : tie.Need-take-assignment-requires
 take-assignment-requires c κs =
     let h = c .before .before in
     let s = h .before .before .before .before .before .before .before .before in (
-      (s .pre .0 .0, identity-good (s .args .r) (s .args .store .now) (s .pre .1 .0)),
+      (s .pre .0 .0, identity-good (s .args .r) (s .args .store .now) (s .pre .1 .0 .0)),
       ((inl refl, s .pre .1 .1), update-epoch (s .args .message .now) _ (h .read-update .ensures .epoch)),
     )
 

@@ -1,10 +1,11 @@
--- A fact of each entry of a list (`Each`): of lists joined (`each-append`), an entry inserted (`each-insert`), a list mapped (`each-map`).
+-- A fact of each entry of a list (`Each`): of lists joined (`each-append`), the first of them (`each-take`), an entry inserted (`each-insert`), a list mapped (`each-map`).
 -- Assumes nothing.
-use Prim.Native.Nat.{ℕ}
+use Prim.Native.Nat.{ℕ, zero, suc}
 use mathlib.Core.List.{List, [], _∷_, _++_, map}
+use lib.ListN.{take}
 use lib.Dec.{ltb, eqb}
 use Rattle.keyed.specs.Keyed.{insert}
 use Rattle.keyed.proofs.KeyedLaws.{choose}
 
 module _ {A : Type 0} (P : A → Type 0) where
   abbrev pub Each : List A → Type 0
@@ -14,6 +15,11 @@ module _ {A : Type 0} (P : A → Type 0) where
   pub each-append : (xs ys : List A) → Each xs → Each ys → Each (xs ++ ys)
   each-append [] ys f g = g
   each-append (x ∷ xs) ys f g = (f .0, each-append xs ys (f .1) g)
+
+  pub each-take : (n : ℕ) (xs : List A) → Each xs → Each (take n xs)
+  each-take zero xs f = tt
+  each-take (suc n) [] f = tt
+  each-take (suc n) (x ∷ xs) f = (f .0, each-take n xs (f .1))
 
   pub each-insert : (key : A → ℕ) (x : A) (ys : List A) → P x → Each ys → Each (insert key x ys)
   each-insert key x [] p f = (p, tt)
