@@ -26,9 +26,12 @@ pub record Packable (a : ConsumerAssignment) : Type 0 where
   pub fits : FitAssignment a
   pub ok : okAssignment a ≡ true
 
-pub packable-size : (a : ConsumerAssignment) → Packable a → sizeAssignment a ≤ 2048
+pub size-ok : (a : ConsumerAssignment) → okAssignment a ≡ true → sizeAssignment a ≤ 2048
 unfolding okAssignment
-packable-size a p = leb-true _ _ (both-true _ _ (p .ok) .0)
+size-ok a o = leb-true _ _ (both-true _ _ o .0)
+
+pub packable-size : (a : ConsumerAssignment) → Packable a → sizeAssignment a ≤ 2048
+packable-size a p = size-ok a (p .ok)
 
 -- ---- lengths
 

@@ -1,8 +1,8 @@
 -- Entries where they lie, from place to place.
 --
--- In order: the entry at a place, by its length (`place-length` to `entry-told`); what its size says (`size-none`, `size-some`); a walk over entries, by what is left of
--- it (`Walk`: `walk-start`, `walk-bad`, `walk-on`, `walk-end`); where entries that stand there end (`ends-inside`), which is what they need (`ends-by-size`); entries in
--- two parts (`ends-split`, `lists-split`, `start-split`), and one of them (`list-at`, `start-at`).
+-- In order: the entry at a place, by its length (`entry-none` to `entry-not`); what its size says (`size-none`, `size-some`); a walk over entries, by what is left of
+-- it (`Walk`: `walk-start` to `walk-done`), and what its answer says (`read-there`, `read-not`); where entries end (`ends-inside`), which is what their lists need
+-- (`ends-by-size`); entries in two parts (`ends-split` to `entries-take`), and one of them (`start-at`).
 -- Assumes nothing.
 use Prim.Native.Nat.{ℕ, zero, suc, _+_, _-_, _≤_, _<_}
 use native.Mathlib.Nat.{add-sub-cancel-left}
@@ -10,13 +10,13 @@ use native.Mathlib.Omega.{arith}
 use mathlib.Core.Path.{_≡_, refl, sym, ap, ap₂, _∙_}
 use mathlib.Core.Bool.{Bool, true, false, _&&_}
 use mathlib.Core.List.{List, _∷_}
-use lib.ListN.{length, take, drop, getD, length-drop}
+use lib.ListN.{length, take, drop, length-drop}
 use lib.Seq.{drop-drop, length-take-le}
 use lib.Dec.{leb}
 use borrow.Author.Tests.{le-leb, lt-leb, leb-true, eqb-true}
 use Rattle.ranges.specs.Meaning.{both-true}
 use Rattle.packed_int.specs.Be.{beAt}
-use Rattle.packed.specs.Assignment.{ConsumerAssignment, num, assignmentOf, sizeAssignment, startsAssignment, isAssignment}
+use Rattle.packed.specs.Assignment.{num, assignmentOf, sizeAssignment, startsAssignment, isAssignment}
 use Rattle.packed.specs.Answers.{wholeRead}
 use Rattle.packed.specs.declared.Packed.the-variants.{Assignment, Malformed}
 use Rattle.packed_queue.specs.declared.Entries.the-variants as entries
@@ -254,11 +254,3 @@ unfolding startEntries
 start-at n k l h i =
     let e : n ≡ k + suc (n - k - 1) = omega arith in
     both-true _ _ (start-split k (suc (n - k - 1)) l (ap (λ x. startEntries x l) (sym e) ∙ h) .1) .0
-
-pub list-at : (n k : ℕ) (l : List ℕ) (z : ConsumerAssignment) → k < n → getD (entriesOf n l) k z ≡ assignmentOf (sheetIn (drop (entriesEnd k l) l))
-unfolding entriesOf entriesEnd
-list-at zero k l z h = absurd (omega arith)
-list-at (suc n) zero l z h = refl
-list-at (suc n) (suc k) l z h =
-    let m = drop (entryEnd l) l in
-    list-at n k m z (omega arith) ∙ ap (λ x. assignmentOf (sheetIn x)) (drop-drop (entriesEnd k m) (entryEnd l) l)

@@ -1,9 +1,8 @@
 -- Slots and the queue, written and read.
 --
--- In order: a part of a store in which bytes were put (`part-same`, `part-before`, `part-behind`, `rest-behind`); a slot's length (`length-slot`); a slot behind bytes
--- that were put into one (`put-same`, `put-other`) or behind the slots (`put-above`); a list written to a slot (`length-slotted`, `list-same`, `starts-same`,
--- `list-other`, `starts-other`, `area-slotted`); the lists of the queue where they stand (`Queued`: `queued-lists` to `queued-sheet`), and one more
--- (`push-length`, `queued-push`).
+-- In order: a part of a store in which bytes were put (`part-same`, `part-before`, `part-behind`, `rest-behind`); a slot behind bytes
+-- that were put into one (`put-same`, `put-other`) or behind the slots (`put-above`); a list written to a slot (`length-slotted` to
+-- `area-slotted`); the lists of the queue where they stand (`Queued`: `queued-none` to `queued-same`), and one more (`length-pushed` to `queue-pushed`).
 -- Assumes nothing.
 use Prim.Native.Nat.{ℕ, _+_, _-_, _*_, _≤_, _<_}
 use native.Mathlib.Omega.{arith}
@@ -14,11 +13,10 @@ use mathlib.Core.List.{List, [], _∷_, _++_, append-assoc}
 use lib.ListN.{length, take, drop, getD, length-append, length-take, length-drop, take-append-drop}
 use lib.Seq.{length-take-le, take-append-le, drop-append-le, drop-append-add, take-append-add, drop-drop, drop-at, take-at, take-add, take-all}
 use lib.Dec.{ltb}
-use borrow.Author.Tests.{ltb-true, ltb-false, leb-true}
-use Rattle.ranges.specs.Meaning.{both-true}
+use borrow.Author.Tests.{ltb-true, ltb-false}
 use Rattle.packed_int.specs.Put.{put}
 use Rattle.packed_int.proofs.PutLaws.{length-put}
-use Rattle.packed.specs.Assignment.{ConsumerAssignment, slotSize, encodeAssignment, assignmentOf, sizeAssignment, okAssignment, startsAssignment}
+use Rattle.packed.specs.Assignment.{ConsumerAssignment, slotSize, encodeAssignment, assignmentOf, startsAssignment}
 use Rattle.packed.proofs.RoundLaws.{length-encodeAssignment, read-assignment, starts-encode}
 use Rattle.keyed.proofs.EachLaws.{Each, each-append}
 use Rattle.packed_queue.specs.Entries.{encodeEntry, encodeEntries, sizeEntry, sizeEntries, entriesOf}
@@ -71,12 +69,6 @@ rest-behind a b bytes st h l =
     λ x f. take-all (length st) (drop b x) (rw length-drop (omega arith)) in
     sym (whole (put st a bytes) e) ∙ part-behind a b (length st) bytes st h (omega arith) ∙ whole st refl
 
--- ---- slots inside the store
-
-pub length-slot : (st : List ℕ) (k : ℕ) → 2048 * k + 2048 ≤ length st → length (slot st k) ≡ 2048
-unfolding slot
-length-slot st k h = length-take-le 2048 (drop (2048 * k) st) (rw length-drop (omega arith))
-
 -- ---- a slot behind bytes that were put into one
 
 module _ (k : ℕ) (bytes st : List ℕ) (short : length bytes ≤ 2048) (inside : 2048 * k + 2048 ≤ length st) where
@@ -98,10 +90,6 @@ unfolding slot
 put-above place k bytes st h l = part-before place (2048 * k) 2048 bytes st h l
 
 -- ---- a list written to a slot
-
-pub size-ok : (a : ConsumerAssignment) → okAssignment a ≡ true → sizeAssignment a ≤ 2048
-unfolding okAssignment
-size-ok a o = leb-true _ _ (both-true _ _ o .0)
 
 module _ (k : ℕ) (a : ConsumerAssignment) (st : List ℕ) (p : Packable a) (inside : 2048 * k + 2048 ≤ length st) where
   short : length (encodeAssignment a) ≤ 2048

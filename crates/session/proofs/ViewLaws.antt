@@ -1,8 +1,8 @@
 -- A record and a store, read as a session, behind the writes of a call.
 --
--- In order: what a session that is not damaged has (`undamaged`), and slots in use (`in-use`); deltas of assignments that can be packed (`delta-fits`); a slot that
--- holds one (`Stands`), behind a write to a slot (`stands-written`, `stands-kept`, `queue-kept`); the invariant of a record and a store (`Kept`, `kept-fresh`, `sound-is`, `damaged-is`); for each kind of result the view behind it is `after`,
--- and the invariant is kept (`Follows`: `follow-still`, `follow-hold`, `follow-enqueue`, `follow-register`).
+-- In order: what a session that is not damaged has (`undamaged`); deltas of assignments that can be packed (`delta-fits`); a slot that holds one (`Stands`), behind a
+-- write to a slot (`stands-written`, `stands-kept`, `queue-kept`); the invariant of a record and a store (`Kept`, `kept-fresh`, `sound-is`, `damaged-is`); for each
+-- kind of result the view behind it is `after`, and the invariant is kept (`Follows`: `follow-still`, `follow-hold`, `follow-enqueue`, `follow-register`).
 -- Assumes nothing.
 use Prim.Native.Nat.{ℕ, _+_, _*_, _≤_, _<_}
 use native.Mathlib.Omega.{arith}
@@ -53,28 +53,6 @@ undamaged s e =
     let p = or-false (ltb 1024 (s .state .«queue_count»)) _ e in
     let q = or-false (ltb (s .state .«queue_count») (s .state .«drain_position»)) _ (p .1) in
     record { count = ltb-false _ _ (p .0); position = ltb-false _ _ (q .0); sound = not-false (s .sound) (q .1) }
-
--- ---- slots in use
-
-pub record InUse (r : SessionRecord) (st : List ℕ) : Type 0 where
-  pub identity : isIdentity (slot st 0) ≡ true
-  pub baseline : r .registered ≡ true → startsAssignment (slot st 1) ≡ true
-  pub list : r .registered ≡ true → startsAssignment (slot st 2) ≡ true
-  pub queue : queueReads st (r .«queue_count») ≡ true
-
-pub in-use : (r : SessionRecord) (st : List ℕ) → inUse r st ≡ true → InUse r st
-unfolding inUse
-in-use r st e =
-    let p = both-true (isIdentity (slot st 0)) _ e in
-    let q = both-true (listsStart (r .registered) st) _ (p .1) in
-    let lists : r .registered ≡ true → (startsAssignment (slot st 1) && startsAssignment (slot st 2)) ≡ true =
-    λ t. subst (λ b. listsStart b st ≡ true) t (q .0) in
-    record {
-      identity = p .0;
-      baseline = λ t. both-true (startsAssignment (slot st 1)) _ (lists t) .0;
-      list = λ t. both-true (startsAssignment (slot st 1)) _ (lists t) .1;
-      queue = q .1;
-    }
 
 -- ---- the deltas of lists that can be packed
 

@@ -48,7 +48,7 @@ use Rattle.plain_intake.specs.declared.PlainIntake.the-variants.{Taken}
 use Rattle.plain_intake.specs.Taken.{PlainTaken, PlainSays}
 use Rattle.session.specs.Store.{slot}
 use Rattle.session.specs.Identity.{topicOf, isIdentity}
-use Rattle.session.proofs.SlotLaws.{size-ok}
+use Rattle.packed_queue.proofs.EntryLaws.{size-ok}
 use Rattle.session_intake.specs.Taken.{AssignmentField, messageWith, contentIn, TopicEnd, Answers, PlainMessageTaken}
 
 -- ---- the topic

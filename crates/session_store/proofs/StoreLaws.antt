@@ -24,6 +24,7 @@ use Rattle.packed.proofs.RoundLaws.{write-assignment}
 use Rattle.packed_queue.specs.declared.Entries.the-variants.{End, Malformed as Malformed′}
 use Rattle.packed_queue.specs.Entries.{encodeEntry, sheetIn, entryEnd, entriesEnd, startsEntry, startEntries}
 use Rattle.packed_queue.specs.Answers.{entriesRead}
+use Rattle.packed_queue.proofs.EntryLaws.{size-ok}
 use Rattle.packed_queue.proofs.WalkLaws.{read-there, read-not, ends-inside, ends-by-size, ends-split, start-split, start-at, entry-inside, entry-whole, sheet-size}
 use Rattle.session.specs.declared.SessionRecord.{SessionRecord}
 use Rattle.session.specs.Store.{slot, queueIn, queueReads, queueEnd}
@@ -187,12 +188,12 @@ module _ (r : SessionRecord) (st : List ℕ) (e : not (damaged (view r st)) ≡ 
 
 -- a list that fills its length
 sheet-few : (l : List ℕ) → startsEntry l ≡ true → num 2 l ≤ 2048
-unfolding isAssignment startsAssignment okAssignment
+unfolding isAssignment startsAssignment
 sheet-few l h =
     let a = assignmentOf (sheetIn l) in
     let s = both-true (startsAssignment (sheetIn l)) _ (entry-whole l h) .0 in
     let o = both-true (leb (sizeAssignment a) (length (sheetIn l))) _ s .1 in
-    omega (arith, sheet-size l h, leb-true (sizeAssignment a) 2048 (both-true (leb (sizeAssignment a) 2048) _ o .0))
+    omega (arith, sheet-size l h, size-ok a o)
 
 module _ (st : List ℕ) (n : ℕ) (big : 6144 ≤ length st) (h : queueReads st n ≡ true) where
   -- the first of them
