@@ -54,7 +54,7 @@ static void update(const message *m) {
 
 static void respond(const message *m) { keep(cuddrewyn_response(record, store, sizeof store, m->bytes, m->length, record.incarnation)); }
 
-static bool drain(void) { return keep(cuddrewyn_drain(record, store, sizeof store, out, CUDDREWYN_MIN_OUTPUT)).answer == CUDDREWYN_REPLAY; }
+static bool drain(void) { return keep(cuddrewyn_drain_for(record, store, sizeof store, 0, out, CUDDREWYN_MIN_OUTPUT)).answer == CUDDREWYN_REPLAY; }
 
 static void watch(const message *m) {
     cuddrewyn_reply told = cuddrewyn_watch(7, set, sizeof set, used, m->bytes, m->length, out, sizeof out);
@@ -76,7 +76,7 @@ static void prepare_updates(bool registered, size_t queued) {
     record.queue_count = queued;
     if (registered) {
         respond(&EMPTY);
-        record.drain_position = queued;
+        record.drain_positions[0] = queued;
     }
     update(&messages[1]);
     memset(out, 0, CUDDREWYN_MIN_OUTPUT);

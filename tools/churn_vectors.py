@@ -12,6 +12,7 @@ from assignment_vectors import Assignment, Segment, contents, difference, number
 from assignment_vectors import whole_assignment
 from name_vectors import Refused
 
+READERS = 8
 QUEUE = 6144
 LENGTH = 2
 LATEST = 256
@@ -31,7 +32,7 @@ class Session:
         return self.unlinked()
 
     def unlinked(self):
-        self.baseline, self.held, self.queue, self.drained, self.lost = None, None, [], 0, []
+        self.baseline, self.held, self.queue, self.drained, self.lost = None, None, [], [0] * READERS, []
         return "accepted"
 
     def checked(self, incarnation, field, message):
@@ -45,10 +46,11 @@ class Session:
     def raise_floor(self, epoch):
         self.floor = max(epoch, self.floor or 0)
 
-    def changed(self, old, new):
-        """What a delta is told as; its count is kept."""
+    def changed(self, old, new, is_new=True):
+        """What a delta is told as; the count of a new one is kept."""
         delta = difference(old, new)
-        self.lost.append(len(delta.lost))
+        if is_new:
+            self.lost.append(len(delta.lost))
         return f"epoch {delta.epoch} lost {len(delta.lost)} gained {len(delta.gained)}"
 
     def update(self, incarnation, message):
@@ -74,18 +76,22 @@ class Session:
         for old, later in zip([new, *queue], queue):
             if later.epoch < old.epoch:
                 raise Refused(27, later.epoch, old.epoch)
-        self.baseline, self.queue, self.drained = new, queue, 0
+        self.baseline, self.queue, self.drained = new, queue, [0] * READERS
         self.held = [new, *queue][-1]
         self.raise_floor(self.held.epoch)
         return "accepted"
 
-    def drain(self):
-        while self.held and self.drained < len(self.queue):
-            place, self.drained = self.drained, self.drained + 1
+    def drain(self, reader):
+        if reader >= READERS:
+            raise Refused(33)
+        furthest = max(self.drained)
+        while self.held and self.drained[reader] < len(self.queue):
+            place = self.drained[reader]
+            self.drained[reader] += 1
             old, new = [self.baseline, *self.queue][place], self.queue[place]
             if new != old:
                 before = sum(LENGTH + len(pack_assignment(earlier)) for earlier in self.queue[:place])
-                return f"replay at {QUEUE + before + LENGTH} {self.changed(old, new)}"
+                return f"replay at {QUEUE + before + LENGTH} {self.changed(old, new, furthest <= place)}"
         return "none"
 
     def begin(self, incarnation):
@@ -105,7 +111,7 @@ class Session:
 def commands():
     """The calls of one session, which starts before it is opened."""
     session = Session()
-    forms = {"open": "nnbbbb", "update": "nb", "response": "nb", "drain": "", "begin": "n", "invalidate": "", CHURN: ""}
+    forms = {"open": "nnbbbb", "update": "nb", "response": "nb", "drain": "n", "begin": "n", "invalidate": "", CHURN: ""}
     return {name: (form, getattr(session, name)) for name, form in forms.items()}
 
 
@@ -143,6 +149,10 @@ def response(link, epoch, *numbers):
     return logs.line("response", link, listed(4, 1, epoch, *numbers))
 
 
+def drain(reader):
+    return logs.line("drain", reader)
+
+
 def asked(lines):
     """After each line the counts."""
     for line in lines:
@@ -153,9 +163,9 @@ def asked(lines):
 def first_link():
     yield "# ==== no session, a session without a delta, pushes that wait"
     yield CHURN
-    yield from asked([opened(), update(1, 2, 0, 1, 2), update(1, 3, 1), update(1, 3, 1), update(1, 4), "drain"])
-    yield "# a response; the replays, each once; none is left"
-    yield from asked([response(1, 1, 0, 8, 9), *["drain"] * 4])
+    yield from asked([opened(), update(1, 2, 0, 1, 2), update(1, 3, 1), update(1, 3, 1), update(1, 4), drain(0)])
+    yield "# a response; the replays, each counted once, whoever is handed it first; none is left"
+    yield from asked([response(1, 1, 0, 8, 9), *map(drain, (0, 7, 7, 0, 0, 7, 0, 7, 3))])
     yield "# segments gained, altered, lost; the same list again; an epoch alone, which is a delta that loses none"
     altered = (0, 1, 1002, 1003, 4, 5)
     yield from asked([update(1, 5, *range(6)), update(1, 5, *range(6)), update(1, 6, *altered), update(1, 7, *altered)])
@@ -163,7 +173,7 @@ def first_link():
     other = logs.line("update", 1, listed(2, 8, 9))
     yield from asked([update(1, 6), update(2, 8), other, logs.line("begin", 1), update(1, 8, 0)])
     yield "# a response to a registered session leaves the counts"
-    yield from asked([response(1, 8, *range(9)), "drain", update(1, 9, 8)])
+    yield from asked([response(1, 8, *range(9)), drain(0), update(1, 9, 8)])
 
 
 def clearings():

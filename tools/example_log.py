@@ -74,18 +74,21 @@ def hostile():
 
 def first_link():
     yield "# Before a session is open, no other call is run."
-    yield "drain",
+    yield "drain", 0
     yield "# The station opens its session: consumer 7, link 1 to the controller."
     yield "open", CONSUMER, 1, PARENT, b"passes", b"svalbard-2", b"stream"
     yield "# Two pushes come before the registration is answered: segment 0 at epoch 4, segments 0 and 1 at epoch 5. They wait in the queue."
     yield "update", 1, update(4, NORTH)
     yield "update", 1, update(5, NORTH, EAST)
     yield "# Nothing is handed out before the answer."
-    yield "drain",
+    yield "drain", 0
     yield "# The answer: segments 0 and 9 at epoch 3. The queue is replayed over it, so the list that is held is that of epoch 5."
     yield "response", 1, response(1, 3, NORTH, WEST)
-    yield "# The uploader takes the queued pushes, one by one, until none is left."
-    yield from [("drain",)] * 3
+    yield "# The uploader, reader 0, takes the queued pushes, one by one, until none is left."
+    yield from [("drain", 0)] * 3
+    yield "# The planning desk, reader 1, is handed the same. There is no reader 8."
+    yield from [("drain", 1)] * 3
+    yield "drain", 8
 
 
 def pushes():
@@ -104,7 +107,7 @@ def pushes():
     for comment, message in hostile():
         yield f"# {comment}"
         yield "update", 1, message
-    yield "# How restless the layout is: of four deltas, two of them replays, one lost a segment and one three."
+    yield "# How restless the layout is: of four deltas, two of them replays, which count once, one lost a segment and one three."
     yield "churn",
 
 

@@ -17,6 +17,7 @@ NAMES = {
     24: "ConsumerMismatch",
     25: "NonAdvancingIncarnation",
     27: "StaleEpoch",
+    33: "UnknownReader",
     35: "InvalidContract",
     36: "ChargeTooLarge",
     37: "InvalidLog",

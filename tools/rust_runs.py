@@ -84,7 +84,7 @@ def shown(block):
     """What is seen behind a call, from its lines."""
     answer = block[0].split(" ", 2)[2]
     state = block[1].split()
-    value = dict(zip(state[1::2], state[2::2]))
+    value = dict(zip(state[1:9:2], state[2:9:2]))
     held = next(r for r in block if r.startswith("  held"))
     segments = [segment(r.split()) for r in block if r.startswith("    ")]
     kept = "none" if held == "  held none" else f"(some (list {held.split()[2]} ({row(segments)})))"
@@ -98,7 +98,7 @@ def call(words):
     if name in ("update", "response"):
         end = " []" if name == "update" else ""
         return f"{name} ({octets(bytes.fromhex(words[2][2:]))}) (on {words[1]}){end}"
-    return {"drain": "drain []", "begin": f"begin (on {words[-1]})", "invalidate": "invalidate"}[name]
+    return {"drain": f"drain {words[-1]} []", "begin": f"begin (on {words[-1]})", "invalidate": "invalidate"}[name]
 
 
 def sessions():

@@ -5,7 +5,7 @@ the same of the logs of `station` in vectors/ (tools/logs.py).
 The vectors are the lines of their files stdin. Each subject has its judge: tools/name_vectors.py (texts, names, ranges), tools/wire_vectors.py,
 tools/assignment_vectors.py (packed assignments, deltas, the calls with an output, the intake), tools/watch_vectors.py and tools/key_vectors.py (hashes, the
 segment of a key, test keys); each log has one too: tools/charge_vectors.py (what holdings cost), tools/churn_vectors.py (lost counts), tools/hours_vectors.py
-(pass hours), tools/attach_log_vectors.py (uploaders' logs). `--write` writes anew what is compared. The ends of every row of Unicode's Table 3-7
+(pass hours), tools/attach_log_vectors.py (uploaders' logs), tools/reader_vectors.py (the readers of replays). `--write` writes anew what is compared. The ends of every row of Unicode's Table 3-7
 (tools/text_vectors.py) have to be among those of `vectors`, answered as their row says.
 """
 import pathlib
@@ -20,6 +20,7 @@ import hours_vectors
 import key_vectors
 import logs
 import name_vectors
+import reader_vectors
 import text_vectors
 import watch_vectors
 import wire_vectors
@@ -38,6 +39,7 @@ LOGS = {
     "charge": charge_vectors.COMMANDS,
     "churn": churn_vectors.COMMANDS,
     "hours": hours_vectors.COMMANDS,
+    "readers": reader_vectors.COMMANDS,
 }
 
 

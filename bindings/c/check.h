@@ -44,7 +44,8 @@ static inline void check_record(cuddrewyn_record got, cuddrewyn_record expected)
     check_number(got.incarnation, expected.incarnation, "incarnation");
     check_number(got.epoch_floor, expected.epoch_floor, "epoch_floor");
     check_number(got.queue_count, expected.queue_count, "queue_count");
-    check_number(got.drain_position, expected.drain_position, "drain_position");
+    for (size_t reader = 0; reader < CUDDREWYN_READERS; reader++)
+        check_number(got.drain_positions[reader], expected.drain_positions[reader], "drain_positions");
     check_number(got.has_floor, expected.has_floor, "has_floor");
     check_number(got.registered, expected.registered, "registered");
     check_number(got.invalidated, expected.invalidated, "invalidated");

@@ -14,6 +14,14 @@
 extern "C" {
 #endif
 
+/* The version of this header: the layout of its structs and the parameters of its calls. Version 1 had one drain position in the record.
+ * The library's function answers it, and the function's own name has it: header and library of two versions do not link. */
+#define CUDDREWYN_ABI 2
+#define cuddrewyn_abi cuddrewyn_abi_2
+uint32_t cuddrewyn_abi(void);
+/* Asks for that function in every file that includes this header. */
+__attribute__((used)) static uint32_t (*const cuddrewyn_abi_needed)(void) = cuddrewyn_abi;
+
 /* Sizes to lend. */
 #define CUDDREWYN_SLOT 2048
 #define CUDDREWYN_MIN_STORE 6144
@@ -34,6 +42,8 @@ extern "C" {
 #define CUDDREWYN_WEEK 604800
 /* The bytes of an entry of an uploader's log. */
 #define CUDDREWYN_LOG_ENTRY 9
+/* The readers of the replays, from 0 on. */
+#define CUDDREWYN_READERS 8
 /* Where the baseline and the list held stand in the store, and where the queue begins: up to the store's end the pushes that wait, each a length of
  * 2 bytes, most significant first, and its packed list. */
 #define CUDDREWYN_BASELINE 2048
@@ -54,13 +64,13 @@ enum {
     CUDDREWYN_FOUND = 8
 };
 
-/* A session's own numbers. epoch_floor is 0 where has_floor is false. */
+/* A session's own numbers. epoch_floor is 0 where has_floor is false; drain_positions says of each reader how many pushes of the queue it has drained. */
 typedef struct {
     uint64_t consumer_id;
     uint64_t incarnation;
     uint64_t epoch_floor;
     size_t queue_count;
-    size_t drain_position;
+    size_t drain_positions[CUDDREWYN_READERS];
     bool has_floor;
     bool registered;
     bool invalidated;
@@ -108,14 +118,16 @@ cuddrewyn_session_reply cuddrewyn_update(cuddrewyn_record r, uint8_t *store, siz
                                          uint64_t incarnation, uint8_t *out, size_t out_len);
 
 /* The answer to a registration (CommandScalableTopicSubscribeResponse).
- * ACCEPTED: the baseline stands in the store at CUDDREWYN_BASELINE; drain until UNCHANGED. Refuses 1, 22, 3 to 7, 23, 16 or 17, 9 to 11, 34, 12 to 15,
+ * ACCEPTED: the baseline stands in the store at CUDDREWYN_BASELINE; each reader drains until UNCHANGED. Refuses 1, 22, 3 to 7, 23, 16 or 17, 9 to 11, 34, 12 to 15,
  * 26, 27. */
 cuddrewyn_session_reply cuddrewyn_response(cuddrewyn_record r, uint8_t *store, size_t store_len, const uint8_t *message, size_t message_len,
                                            uint64_t incarnation);
 
-/* The next push of the queue that differs from the one before. Lend an output of at least 3,210 bytes.
- * REPLAY: first is the byte place of the list in the store, second the delta's length in out. UNCHANGED: none is left. Refuses 1, 2, 22. */
-cuddrewyn_session_reply cuddrewyn_drain(cuddrewyn_record r, const uint8_t *store, size_t store_len, uint8_t *out, size_t out_len);
+/* The next push of the queue, for one of the readers, that differs from the one before. Lend an output of at least 3,210 bytes. Only that reader's
+ * position moves: each is handed every replay.
+ * REPLAY: first is the byte place of the list in the store, second the delta's length in out. UNCHANGED: none is left for it. Refuses 1, 2, 33 (reader
+ * not below CUDDREWYN_READERS), 22. */
+cuddrewyn_session_reply cuddrewyn_drain_for(cuddrewyn_record r, const uint8_t *store, size_t store_len, size_t reader, uint8_t *out, size_t out_len);
 
 /* Whether the store was opened with these texts and this kind. YES or NO; refuses 1, 22 (the identity slot is malformed). */
 cuddrewyn_reply cuddrewyn_matches_registration(const uint8_t *store, size_t store_len, const uint8_t *topic, size_t topic_len,

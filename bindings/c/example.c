@@ -1,4 +1,4 @@
-/* A short pass of a station: a push before the response waits, the response is taken, what waited is drained, an old push is refused.
+/* A short pass of a station: a push before the response waits, the response is taken, two readers drain what waited, an old push is refused.
  * Every value is checked; the exit status is 0 only where all are as expected. */
 #include "check.h"
 #include "messages.h"
@@ -52,13 +52,17 @@ static cuddrewyn_record attach(void) {
     check_bytes(store + CUDDREWYN_BASELINE, EMPTY_BASELINE, sizeof EMPTY_BASELINE, "the baseline");
     check_bytes(store + CUDDREWYN_LIST, LIST, sizeof LIST, "the list held");
 
-    expected.drain_position = 1;
-    r = answered("drain", cuddrewyn_drain(r, store, sizeof store, out, sizeof out),
-                 (cuddrewyn_reply){.answer = CUDDREWYN_REPLAY, .count = 2, .first = PLACE, .second = sizeof DELTA}, expected);
+    for (size_t reader = 0; reader < 2; reader++) {
+        expected.drain_positions[reader] = 1;
+        memset(out, 0, sizeof out);
+        r = answered("drain", cuddrewyn_drain_for(r, store, sizeof store, reader, out, sizeof out),
+                     (cuddrewyn_reply){.answer = CUDDREWYN_REPLAY, .count = 2, .first = PLACE, .second = sizeof DELTA}, expected);
+        check_bytes(out, DELTA, sizeof DELTA, "the delta replayed");
+        r = answered("drain", cuddrewyn_drain_for(r, store, sizeof store, reader, out, sizeof out),
+                     (cuddrewyn_reply){.answer = CUDDREWYN_UNCHANGED}, expected);
+    }
     check_bytes(store + PLACE, LIST, sizeof LIST, "the list replayed");
-    check_bytes(out, DELTA, sizeof DELTA, "the delta replayed");
-    return answered("drain", cuddrewyn_drain(r, store, sizeof store, out, sizeof out), (cuddrewyn_reply){.answer = CUDDREWYN_UNCHANGED},
-                    expected);
+    return r;
 }
 
 /* A push of the list held, one of a newer epoch, and an old one, which changes nothing. */

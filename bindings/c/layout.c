@@ -7,15 +7,16 @@
 
 #define PLACE(type, field, at) _Static_assert(offsetof(type, field) == (at), #type "." #field)
 
-_Static_assert(sizeof(cuddrewyn_record) == 48, "size of a record");
+_Static_assert(sizeof(cuddrewyn_record) == 104, "size of a record");
 PLACE(cuddrewyn_record, consumer_id, 0);
 PLACE(cuddrewyn_record, incarnation, 8);
 PLACE(cuddrewyn_record, epoch_floor, 16);
 PLACE(cuddrewyn_record, queue_count, 24);
-PLACE(cuddrewyn_record, drain_position, 32);
-PLACE(cuddrewyn_record, has_floor, 40);
-PLACE(cuddrewyn_record, registered, 41);
-PLACE(cuddrewyn_record, invalidated, 42);
+PLACE(cuddrewyn_record, drain_positions, 32);
+PLACE(cuddrewyn_record, drain_positions[7], 88);
+PLACE(cuddrewyn_record, has_floor, 96);
+PLACE(cuddrewyn_record, registered, 97);
+PLACE(cuddrewyn_record, invalidated, 98);
 _Static_assert(sizeof(cuddrewyn_reply) == 40, "size of a reply");
 PLACE(cuddrewyn_reply, answer, 0);
 PLACE(cuddrewyn_reply, number, 1);
@@ -24,9 +25,9 @@ PLACE(cuddrewyn_reply, first, 8);
 PLACE(cuddrewyn_reply, second, 16);
 PLACE(cuddrewyn_reply, third, 24);
 PLACE(cuddrewyn_reply, fourth, 32);
-_Static_assert(sizeof(cuddrewyn_session_reply) == 88, "size of a session's reply");
+_Static_assert(sizeof(cuddrewyn_session_reply) == 144, "size of a session's reply");
 PLACE(cuddrewyn_session_reply, state, 0);
-PLACE(cuddrewyn_session_reply, reply, 48);
+PLACE(cuddrewyn_session_reply, reply, 104);
 _Static_assert(sizeof(cuddrewyn_part) == 16, "size of a part");
 PLACE(cuddrewyn_part, start, 0);
 PLACE(cuddrewyn_part, length, 8);
@@ -86,16 +87,18 @@ static void records(void) {
                                   .incarnation = 0x1112131415161718,
                                   .epoch_floor = flags & 1 ? 0x2122232425262728 : 0,
                                   .queue_count = 0x3132333435363738,
-                                  .drain_position = 0x4142434445464748,
                                   .has_floor = flags & 1,
                                   .registered = flags & 2,
                                   .invalidated = flags & 4};
+        for (size_t reader = 0; reader < CUDDREWYN_READERS; reader++)
+            given.drain_positions[reader] = 0x4142434445464748 + reader;
         cuddrewyn_session_reply got = cuddrewyn_begin(given, 5);
         check_record(got.state, given);
         check_reply(got.reply, refused(25, 2, 5, given.incarnation, 0, 0));
 
         got = cuddrewyn_invalidate(given);
-        given.queue_count = given.drain_position = 0;
+        given.queue_count = 0;
+        memset(given.drain_positions, 0, sizeof given.drain_positions);
         given.registered = false;
         given.invalidated = true;
         check_record(got.state, given);
@@ -135,8 +138,15 @@ static void replies(void) {
     got = cuddrewyn_open(7, 1, TOPIC, TOPIC_LEN, TOPIC, 0, TOPIC, 0, 1, store, STORE - 1);
     check_reply(got.reply, refused(1, 0, 0, 0, 0, 0));
     check_record(got.state, (cuddrewyn_record){.consumer_id = 7, .incarnation = 1});
-    got = cuddrewyn_drain(r, store, STORE, out, OUT - 1);
-    check_reply(got.reply, refused(2, 0, 0, 0, 0, 0));
+    check_reply(cuddrewyn_drain_for(r, store, STORE, CUDDREWYN_READERS, out, OUT - 1).reply, refused(2, 0, 0, 0, 0, 0));
+    check_reply(cuddrewyn_drain_for(r, store, STORE, CUDDREWYN_READERS - 1, out, OUT).reply, plain(CUDDREWYN_UNCHANGED));
+    r.drain_positions[7] = 1;
+    check_reply(cuddrewyn_drain_for(r, store, STORE, CUDDREWYN_READERS, out, OUT).reply, refused(33, 0, 0, 0, 0, 0));
+    check_reply(cuddrewyn_drain_for(r, store, STORE, SIZE_MAX, out, OUT).reply, refused(33, 0, 0, 0, 0, 0));
+    got = cuddrewyn_drain_for(r, store, STORE, 0, out, OUT);
+    check_reply(got.reply, refused(22, 0, 0, 0, 0, 0));
+    check_record(got.state, r);
+    r.drain_positions[7] = 0;
     got = cuddrewyn_response(r, store, STORE, (const uint8_t *)"\x08\x2a", 2, 1);
     check_reply(got.reply, refused(17, 1, 42, 0, 0, 0));
 }
@@ -353,6 +363,7 @@ static void ranges(void) {
 }
 
 int main(void) {
+    check_number(cuddrewyn_abi(), CUDDREWYN_ABI, "the library's version");
     store = lend(STORE);
     out = lend(OUT);
     records();

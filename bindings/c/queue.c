@@ -61,9 +61,9 @@ static void of_64_kib(void) {
     check_number(fill(&r, store, STORE, &old, &refusal), 645, "pushes of another epoch");
     message response = response_of(1, 4, NULL);
     r = cuddrewyn_response(r, store, STORE, response.bytes, response.length, r.incarnation).state;
-    cuddrewyn_session_reply got = cuddrewyn_drain(r, store, STORE, out, sizeof out);
+    cuddrewyn_session_reply got = cuddrewyn_drain_for(r, store, STORE, 0, out, sizeof out);
     check_reply(got.reply, (cuddrewyn_reply){.answer = CUDDREWYN_REPLAY, .count = 2, .first = 6146, .second = 92});
-    check_reply(cuddrewyn_drain(got.state, store, STORE, out, sizeof out).reply, (cuddrewyn_reply){.answer = CUDDREWYN_UNCHANGED});
+    check_reply(cuddrewyn_drain_for(got.state, store, STORE, 0, out, sizeof out).reply, (cuddrewyn_reply){.answer = CUDDREWYN_UNCHANGED});
     free(store);
 }
 

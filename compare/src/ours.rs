@@ -56,8 +56,8 @@ pub fn response(record: Record, store: &mut [u8], message: &mut [u8], incarnatio
     spoiled(Call::Response, given, &mut [store, message])
 }
 
-pub fn drain(record: Record, store: &mut [u8], out: &mut [u8]) -> SessionReply {
-    let given = unsafe { raw::cuddrewyn_drain(record, store.as_ptr(), store.len(), out.as_mut_ptr(), out.len()) };
+pub fn drain(record: Record, store: &mut [u8], reader: usize, out: &mut [u8]) -> SessionReply {
+    let given = unsafe { raw::cuddrewyn_drain_for(record, store.as_ptr(), store.len(), reader, out.as_mut_ptr(), out.len()) };
     spoiled(Call::Drain, given, &mut [store, out])
 }
 

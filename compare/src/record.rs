@@ -5,6 +5,7 @@ use crate::model::churn;
 use crate::model::messages;
 use crate::model::session::{QUEUE, content};
 use crate::oracle;
+use crate::raw::READERS;
 use crate::rng::Rng;
 use crate::scalable_consumer::{
     AssignedSegment, AssignmentDelta, AssignmentError, AssignmentReplay, ConsumerAssignment, ControllerIncarnation, ScalableConsumerSession, ScalableConsumerType,
@@ -29,7 +30,7 @@ struct Pages {
     refused: usize,
 }
 
-/// The Rust's session, with what the port counts: the queue, and the replays with their places.
+/// The Rust's session, with what the port counts: the queue, and the replays with their places. Reader 0 alone drains.
 struct Twin {
     session: ScalableConsumerSession,
     queue: Vec<ConsumerAssignment>,
@@ -116,12 +117,13 @@ impl Pages {
         writeln!(out, "{} {call} {answer}", self.line).expect("a string");
         writeln!(
             out,
-            "  state incarnation {} floor {floor} registered {} invalidated {} queue {} drained {} lost {} largest {}",
+            "  state incarnation {} floor {floor} registered {} invalidated {} queue {} drained {}{} lost {} largest {}",
             session.incarnation().0,
             yes(session.is_registered()),
             yes(session.is_invalidated()),
             twin.queue.len(),
             twin.drained,
+            " 0".repeat(READERS - 1),
             churn.first,
             churn.second
         )
@@ -204,13 +206,13 @@ impl Twin {
                 self.drained = at + 1;
                 self.lost.push(replay.delta.lost.len() as u64);
                 let answer = format!("replay at {} {}", self.place(at), change(&replay.delta));
-                pages.call("drain", "", &answer, Some(&replay.delta), self);
+                pages.call("drain", " 0", &answer, Some(&replay.delta), self);
             }
             None => {
                 if self.session.is_registered() {
                     self.drained = self.queue.len();
                 }
-                pages.call("drain", "", "none", None, self);
+                pages.call("drain", " 0", "none", None, self);
             }
         }
     }

@@ -25,7 +25,7 @@ pub fn word(value: i32) -> u64 {
 pub fn is_ours(reply: &Reply) -> bool {
     let number = if reply.answer == raw::REFUSED { reply.number } else { 0 };
     match number {
-        1..=8 | 15 | 20..=22 | 30..=32 | 34..=38 => true,
+        1..=8 | 15 | 20..=22 | 30..=38 => true,
         28 => reply.first < 1024,
         _ => false,
     }

@@ -1,7 +1,7 @@
 //! Whether the comparison notices a wrong bit, for each call and each place of what it gives.
 use crate::model::session::{LIST, SLOT};
 use crate::parts::{ATTACH_LOGS, CHARGES, CHURN, EITHER_ORDER, HOURS, KEYS, LISTS, NAMES, ORDERS, Parts, SMALL_STORES, WATCH};
-use crate::spoil::{Judge, Place, arm, armed, disarm, leave_to};
+use crate::spoil::{FIELDS, Judge, Place, arm, armed, disarm, leave_to};
 use crate::tally::{Call, Tally};
 
 const REPLY: &[Place] = &[Place::Answer, Place::Number, Place::Count, Place::Value(0), Place::Value(1), Place::Value(2), Place::Value(3)];
@@ -49,7 +49,7 @@ fn places() -> Vec<(Call, Place)> {
 fn places_of(wanted: fn(Call) -> bool) -> Vec<(Call, Place)> {
     let mut places = Vec::new();
     for (call, record, slices) in CALLS.iter().filter(|(call, ..)| wanted(*call)) {
-        let state = (0..if *record { 8 } else { 0 }).map(Place::State);
+        let state = (0..if *record { FIELDS } else { 0 }).map(Place::State);
         let lent = (0..*slices).flat_map(|slice| (0..3).map(move |part| Place::Lent(slice, part)));
         places.extend(REPLY.iter().copied().chain(state).chain(lent).map(|place| (*call, place)));
     }
@@ -73,7 +73,7 @@ fn places_of_the_rust() -> Vec<(Call, Place)> {
         (Call::Response, Place::Byte(0, SLOT + 7)),
     ];
     for call in [Call::Begin, Call::Invalidate, Call::Update, Call::Response, Call::Drain] {
-        places.extend(REPLY.iter().copied().chain([1, 2, 3, 5, 6, 7].map(Place::State)).map(|place| (call, place)));
+        places.extend(REPLY.iter().copied().chain([1, 2, 3, 4, 5, 6].map(Place::State)).map(|place| (call, place)));
     }
     places.extend(REPLY.iter().map(|place| (Call::Matches, *place)));
     places
@@ -84,7 +84,7 @@ fn places_of_the_order() -> Vec<(Call, Place)> {
     let mut places = Vec::new();
     for (call, slices) in [(Call::Update, &[0, 2][..]), (Call::Response, &[0])] {
         let lent = slices.iter().flat_map(|slice| (0..3).map(move |part| Place::Lent(*slice, part)));
-        places.extend(REPLY.iter().copied().chain((0..8).map(Place::State)).chain(lent).map(|place| (call, place)));
+        places.extend(REPLY.iter().copied().chain((0..FIELDS).map(Place::State)).chain(lent).map(|place| (call, place)));
     }
     places
 }

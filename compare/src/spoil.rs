@@ -1,5 +1,5 @@
 //! One wrong bit in what one call gave, for the self-test. Nothing is spoiled unless `arm` asked for it.
-use crate::raw::{Part, Record, Reply};
+use crate::raw::{Part, READERS, Record, Reply};
 use crate::tally::Call;
 use std::cell::Cell;
 
@@ -10,7 +10,7 @@ pub enum Place {
     Count,
     /// One of the four values.
     Value(usize),
-    /// One of the record's fields.
+    /// One of the record's fields; from `POSITIONS` on, one of its drain positions.
     State(usize),
     /// Of the lent slices one: its first byte, its middle, its last.
     Lent(usize, usize),
@@ -20,6 +20,10 @@ pub enum Place {
     TextLength,
     Kind,
 }
+
+/// The first of the record's drain positions among its fields, and how many fields there are.
+pub const POSITIONS: usize = 7;
+pub const FIELDS: usize = POSITIONS + READERS;
 
 thread_local! {
     static ARMED: Cell<Option<(Call, Place)>> = const { Cell::new(None) };
@@ -84,10 +88,10 @@ pub fn spoil_state(call: Call, state: &mut Record) {
         1 => state.incarnation ^= 1,
         2 => state.epoch_floor ^= 1,
         3 => state.queue_count ^= 1,
-        4 => state.drain_position ^= 1,
-        5 => state.has_floor ^= true,
-        6 => state.registered ^= true,
-        _ => state.invalidated ^= true,
+        4 => state.has_floor ^= true,
+        5 => state.registered ^= true,
+        6 => state.invalidated ^= true,
+        _ => state.drain_positions[k - POSITIONS] ^= 1,
     }
     ARMED.set(None);
 }

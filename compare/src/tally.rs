@@ -49,7 +49,7 @@ const REACH: &[(Call, &[u8], &[u8])] = &[
     (Update, &[1, 2, 3, 4, 5, 6, 7, 9, 10, 11, 12, 13, 14, 15, 22, 23, 24, 26, 27, 28, 34], &[raw::UNCHANGED, raw::DELTA]),
     (Response, &[1, 3, 4, 5, 6, 7, 9, 10, 11, 12, 13, 14, 15, 16, 17, 22, 23, 26, 27, 34], &[raw::ACCEPTED]),
     (ResponseText, &[], &[raw::FOUND]),
-    (Drain, &[1, 2, 22], &[raw::UNCHANGED, raw::REPLAY]),
+    (Drain, &[1, 2, 22, 33], &[raw::UNCHANGED, raw::REPLAY]),
     (Apply, &[15, 20, 21], &[raw::WRITTEN]),
     (Join, &[20, 21], &[raw::WRITTEN]),
     (JoinEitherOrder, &[20, 21], &[raw::WRITTEN]),
@@ -118,6 +118,8 @@ pub struct Tally {
     pub orders: [u64; 3],
     /// Held to the model alone, by 02 h: calls with such a parent or a name of one, lists written for one, sessions opened with one.
     pub left_out: [u64; 3],
+    /// Sessions drained by several readers, held to the model alone by 02 d.
+    pub several_readers: u64,
     /// The part of the run that is on, and its step.
     pub place: String,
     pub quiet: bool,
@@ -131,6 +133,7 @@ impl Tally {
             differences: 0,
             orders: [0; 3],
             left_out: [0; 3],
+            several_readers: 0,
             place: String::new(),
             quiet: false,
         }
@@ -170,6 +173,7 @@ impl Tally {
         println!("  messages in two orders of their segments: {accepted} accepted, {same} refused by the same number, {other} by two");
         let [names, lists, sessions] = self.left_out;
         println!("  parents that only ours refuses, by the model alone: {names} calls on names, {lists} lists written, {sessions} sessions");
+        println!("  sessions drained by several readers, by the model alone: {}", self.several_readers);
     }
 
     /// The answers that should have come and did not.
@@ -180,6 +184,9 @@ impl Tally {
         }
         if self.left_out.contains(&0) {
             missing.push("names, lists and sessions of parents that only ours refuses".into());
+        }
+        if self.several_readers == 0 {
+            missing.push("sessions drained by several readers".into());
         }
         for (call, numbers, answers) in reach() {
             let refusals = numbers.iter().map(|number| column(raw::REFUSED, *number));

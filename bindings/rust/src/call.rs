@@ -6,6 +6,10 @@
 
 use crate::raw::{self, Part, Record, Reply, SessionReply};
 
+/// Asks the linker for the archive's function of this crate's version.
+#[used]
+static VERSION: unsafe extern "C" fn() -> u32 = raw::cuddrewyn_abi;
+
 /// The three texts and the kind that a session is registered with.
 #[derive(Clone, Copy)]
 pub(crate) struct Identity<'a> {
@@ -68,9 +72,9 @@ pub(crate) fn response(record: Record, store: &mut [u8], message: &[u8], incarna
     }
 }
 
-pub(crate) fn drain(record: Record, store: &[u8], out: &mut [u8]) -> SessionReply {
+pub(crate) fn drain_for(record: Record, store: &[u8], reader: usize, out: &mut [u8]) -> SessionReply {
     // SAFETY: two slices as pointer and length of live references; `out`, the only one written, is exclusive.
-    unsafe { raw::cuddrewyn_drain(record, store.as_ptr(), store.len(), out.as_mut_ptr(), out.len()) }
+    unsafe { raw::cuddrewyn_drain_for(record, store.as_ptr(), store.len(), reader, out.as_mut_ptr(), out.len()) }
 }
 
 pub(crate) fn matches_registration(store: &[u8], identity: Identity<'_>) -> Reply {

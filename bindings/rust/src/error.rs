@@ -32,6 +32,7 @@ pub(crate) fn own_text(number: u8) -> &'static str {
         30 => "the topic set is malformed",
         31 => "the topic set does not fit its buffer, or a topic is longer than 65535 bytes",
         32 => "the key is longer than 65535 bytes",
+        33 => "the number of the reader is above 7",
         35 => "the contract has a span that ends before it starts, a window beyond the week or a count too large",
         36 => "the charge is beyond 64 bits, or the remainder is not below 235929600",
         37 => "the length of the log is no multiple of 9, or a filling bit is set",
@@ -254,6 +255,8 @@ pub enum AssignmentError<'m> {
     MalformedStore,
     /// 32: the key is longer than [`LONGEST_KEY`](crate::LONGEST_KEY).
     KeyTooLong,
+    /// 33: the reader's number is above 7.
+    UnknownReader,
     /// 35: the contract has an end not after its start, a window beyond the week or a count too large.
     InvalidContract,
     /// 36: the product and the remainder reach 2^64 together, or the remainder lent in is not below [`DIVISOR`](crate::DIVISOR).
@@ -298,6 +301,7 @@ impl<'m> AssignmentError<'m> {
             Self::StaleEpoch { .. } => 27,
             Self::PreBaselineBufferFull { .. } => 28,
             Self::KeyTooLong => 32,
+            Self::UnknownReader => 33,
             Self::BucketOutsideSegment { .. } => 34,
             Self::InvalidContract => 35,
             Self::ChargeTooLarge => 36,
@@ -327,6 +331,7 @@ impl<'m> AssignmentError<'m> {
             21 => Self::ResultTooLong,
             22 => Self::MalformedStore,
             32 => Self::KeyTooLong,
+            33 => Self::UnknownReader,
             35 => Self::InvalidContract,
             36 => Self::ChargeTooLarge,
             37 => Self::InvalidLog,

@@ -58,7 +58,7 @@
 //! | `handle_assignment_update(&upd)` | [`handle_assignment_update`](ScalableConsumerSession::handle_assignment_update)`(message, &mut out)` |
 //! | `handle_subscribe_response_for(incarnation, &resp)` | [`handle_subscribe_response_for`](ScalableConsumerSession::handle_subscribe_response_for)`(incarnation, message)` |
 //! | `handle_subscribe_response(&resp)` | [`handle_subscribe_response`](ScalableConsumerSession::handle_subscribe_response)`(message)` |
-//! | `take_replayed_updates()`, all in a `Vec` | [`take_replayed_update`](ScalableConsumerSession::take_replayed_update)`(&mut out)?` until `None`, or [`for_each_replayed_update`](ScalableConsumerSession::for_each_replayed_update)`(&mut out, f)?` |
+//! | `take_replayed_updates()`, all in a `Vec` | [`take_replayed_update`](ScalableConsumerSession::take_replayed_update)`(&mut out)?` until `None`, or [`for_each_replayed_update`](ScalableConsumerSession::for_each_replayed_update)`(&mut out, f)?`; for more readers than one [`take_replayed_update_for`](ScalableConsumerSession::take_replayed_update_for)`(reader, &mut out)?`, each [`Reader`] with a position of its own |
 //! | `begin_incarnation`, `invalidate_authority`, `is_registered`, `is_invalidated`, `incarnation`, `epoch_floor`, `matches_registration` | the same |
 //! | `assignment()` | the same; the response's own list is also [`baseline`](ScalableConsumerSession::baseline)`()` |
 //! | `topic()`, `subscription()`, `consumer_name()`, `consumer_type()` | the station's own: a text is never handed back from the store. `matches_registration` compares them |
@@ -108,7 +108,7 @@
 //! # Building
 //!
 //! `libexport.a`, for x86-64 Linux, is looked for in the folder that the setting `CUDDREWYN_LIB` names, else in `target/staticlib` of the
-//! repository, where `rt staticlib export` puts it. Features: `std` (default) is what needs an allocator, names as `String`; `watch` (default)
+//! repository, where `rt staticlib export` puts it. The archive has to be of this crate's version, [`raw::ABI`]. Features: `std` (default) is what needs an allocator, names as `String`; `watch` (default)
 //! is the topics watch.
 //!
 //! # What is proved, and what is not
@@ -149,7 +149,9 @@ pub use lists::{apply, join, key_for_hash, key_in_segment, segment_for_key, to_p
 pub use names::{SegmentSource, canonical_segment_topic, parent_topic};
 pub use raw::Record;
 pub use session::{AssignmentReplay, ScalableConsumerSession};
-pub use types::{ControllerIncarnation, KeyRange, KeyRangeError, MAX_HASH, MIN_HASH, ScalableConsumerType, SegmentId};
+pub use types::{
+    ControllerIncarnation, KeyRange, KeyRangeError, MAX_HASH, MIN_HASH, Reader, ScalableConsumerType, SegmentId,
+};
 pub use views::{AssignedSegment, AssignmentDelta, BucketRanges, ConsumerAssignment, Lost, Segments};
 #[cfg(feature = "watch")]
 pub use watch::{ScalableTopicsWatch, Topics, TopicsChange, TopicsWatchError};

@@ -1,5 +1,11 @@
 //! The exported functions as they are: numbers, pointers and plain structs. docs/EXPORTS.md says what each takes and answers.
 
+/// The version of the structs' layout and of the calls' parameters.
+pub const ABI: u32 = 2;
+
+/// How many readers the replays have.
+pub const READERS: usize = 8;
+
 /// A session's record.
 #[repr(C)]
 #[derive(Clone, Copy, Debug, Default, PartialEq, Eq)]
@@ -9,7 +15,8 @@ pub struct Record {
     /// 0 where there is no floor.
     pub epoch_floor: u64,
     pub queue_count: usize,
-    pub drain_position: usize,
+    /// How many pushes of the queue each reader has drained.
+    pub drain_positions: [usize; READERS],
     pub has_floor: bool,
     pub registered: bool,
     pub invalidated: bool,
@@ -55,6 +62,9 @@ pub const NO: u8 = 7;
 pub const FOUND: u8 = 8;
 
 unsafe extern "C" {
+    /// Answers [`ABI`]. The symbol's name has it too: an archive of another version does not link.
+    #[link_name = "cuddrewyn_abi_2"]
+    pub fn cuddrewyn_abi() -> u32;
     pub fn cuddrewyn_open(
         consumer_id: u64,
         incarnation: u64,
@@ -88,7 +98,14 @@ unsafe extern "C" {
         message_len: usize,
         incarnation: u64,
     ) -> SessionReply;
-    pub fn cuddrewyn_drain(r: Record, store: *const u8, store_len: usize, out: *mut u8, out_len: usize) -> SessionReply;
+    pub fn cuddrewyn_drain_for(
+        r: Record,
+        store: *const u8,
+        store_len: usize,
+        reader: usize,
+        out: *mut u8,
+        out_len: usize,
+    ) -> SessionReply;
     pub fn cuddrewyn_matches_registration(
         store: *const u8,
         store_len: usize,

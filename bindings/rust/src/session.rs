@@ -5,7 +5,7 @@ use core::fmt;
 use crate::call::{self, Identity};
 use crate::error::AssignmentError;
 use crate::raw::{self, Part, Record, SessionReply};
-use crate::types::{ControllerIncarnation, ScalableConsumerType};
+use crate::types::{ControllerIncarnation, Reader, ScalableConsumerType};
 use crate::views::{AssignmentDelta, ConsumerAssignment, front, known};
 use crate::{BASELINE, LIST};
 
@@ -264,20 +264,35 @@ impl<'s> ScalableConsumerSession<'s> {
         }
     }
 
-    /// The next queued push that changed the list, or `None` where none is left. Lend at least [`MIN_OUTPUT`](crate::MIN_OUTPUT) bytes.
-    ///
-    /// The original's `take_replayed_updates` gives all of them in one `Vec`. This call gives one, since nothing is allocated: call it until
-    /// it gives `None`, after every accepted response and before the next update, or use [`Self::for_each_replayed_update`]. A replay borrows
-    /// the session, so it has to be used before the next call. An update in between is taken, and its delta is then ahead of the replays.
+    /// The next replay for the first reader; see [`Self::take_replayed_update_for`].
     ///
     /// # Errors
     ///
-    /// [`AssignmentError::OutputTooShort`] (2); no replay is lost by it.
+    /// As [`Self::take_replayed_update_for`].
     pub fn take_replayed_update<'a>(
         &'a mut self,
         out: &'a mut [u8],
     ) -> Result<Option<AssignmentReplay<'a>>, AssignmentError<'static>> {
-        let SessionReply { state, reply } = call::drain(self.record, self.store, out);
+        self.take_replayed_update_for(Reader::default(), out)
+    }
+
+    /// The next queued push that changed the list, or `None` where none is left for `reader`: each [`Reader`] is handed every one. Lend at least
+    /// [`MIN_OUTPUT`](crate::MIN_OUTPUT) bytes.
+    ///
+    /// The original's `take_replayed_updates` gives all of them in one `Vec`, to whoever asks first. This call gives one, since nothing is
+    /// allocated: call it until it gives `None`, after every accepted response and before the next update, or use
+    /// [`Self::for_each_replayed_update_for`]. A replay borrows the session, so it has to be used before the next call. An update in between is
+    /// taken, and its delta is then ahead of the replays.
+    ///
+    /// # Errors
+    ///
+    /// [`AssignmentError::OutputTooShort`] (2); no replay is lost by it.
+    pub fn take_replayed_update_for<'a>(
+        &'a mut self,
+        reader: Reader,
+        out: &'a mut [u8],
+    ) -> Result<Option<AssignmentReplay<'a>>, AssignmentError<'static>> {
+        let SessionReply { state, reply } = call::drain_for(self.record, self.store, reader.number(), out);
         self.record = state;
         match reply.answer {
             raw::UNCHANGED => Ok(None),
@@ -290,18 +305,33 @@ impl<'s> ScalableConsumerSession<'s> {
         }
     }
 
-    /// Hands every replay that is left to `f`, in order, and gives their number. Lend at least [`MIN_OUTPUT`](crate::MIN_OUTPUT) bytes.
+    /// Hands the first reader's replays to `f`; see [`Self::for_each_replayed_update_for`].
+    ///
+    /// # Errors
+    ///
+    /// As [`Self::for_each_replayed_update_for`].
+    pub fn for_each_replayed_update(
+        &mut self,
+        out: &mut [u8],
+        f: impl FnMut(AssignmentReplay<'_>),
+    ) -> Result<usize, AssignmentError<'static>> {
+        self.for_each_replayed_update_for(Reader::default(), out, f)
+    }
+
+    /// Hands every replay that is left for `reader` to `f`, in order, and gives their number. Lend at least
+    /// [`MIN_OUTPUT`](crate::MIN_OUTPUT) bytes.
     ///
     /// # Errors
     ///
     /// [`AssignmentError::OutputTooShort`] (2), before any replay is taken.
-    pub fn for_each_replayed_update(
+    pub fn for_each_replayed_update_for(
         &mut self,
+        reader: Reader,
         out: &mut [u8],
         mut f: impl FnMut(AssignmentReplay<'_>),
     ) -> Result<usize, AssignmentError<'static>> {
         let mut count = 0;
-        while let Some(replay) = self.take_replayed_update(out)? {
+        while let Some(replay) = self.take_replayed_update_for(reader, out)? {
             f(replay);
             count += 1;
         }

@@ -3,6 +3,7 @@
 use core::fmt;
 
 use crate::call;
+use crate::error::AssignmentError;
 use crate::raw::{self, Reply};
 
 /// A segment's id, unique within a scalable topic.
@@ -20,6 +21,37 @@ impl fmt::Display for SegmentId {
 pub struct ControllerIncarnation(pub u64);
 
 impl fmt::Display for ControllerIncarnation {
+    fn fmt(&self, f: &mut fmt::Formatter<'_>) -> fmt::Result {
+        self.0.fmt(f)
+    }
+}
+
+/// One of the readers of a session's replays, as the uploader, a planning desk and a logger are. Each is handed every replay, and moves its own
+/// drain position alone. The first is the default.
+#[derive(Debug, Clone, Copy, PartialEq, Eq, Hash, PartialOrd, Ord, Default)]
+pub struct Reader(usize);
+
+impl Reader {
+    /// How many there are: their numbers are 0 to 7.
+    pub const COUNT: usize = raw::READERS;
+
+    /// The reader of a number.
+    ///
+    /// # Errors
+    ///
+    /// [`AssignmentError::UnknownReader`] (33) above 7.
+    pub const fn new(number: usize) -> Result<Self, AssignmentError<'static>> {
+        if number < Self::COUNT { Ok(Self(number)) } else { Err(AssignmentError::UnknownReader) }
+    }
+
+    /// Its number.
+    #[must_use]
+    pub const fn number(self) -> usize {
+        self.0
+    }
+}
+
+impl fmt::Display for Reader {
     fn fmt(&self, f: &mut fmt::Formatter<'_>) -> fmt::Result {
         self.0.fmt(f)
     }

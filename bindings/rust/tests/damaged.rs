@@ -118,7 +118,7 @@ fn random_stores_and_records() {
         }
         let numbers = [0, 1, 2, 3, 4, usize::MAX];
         record.queue_count = numbers[random.below(6)];
-        record.drain_position = numbers[random.below(6)];
+        record.drain_positions[random.below(Reader::COUNT)] = numbers[random.below(6)];
         record.has_floor = random.below(2) == 0;
         record.epoch_floor = random.next();
         exercise(record, &mut store);
@@ -131,13 +131,16 @@ fn random_stores_and_records() {
 #[test]
 fn counts_beyond_the_queue() {
     let (record, mut store) = sound(false);
-    for (queue_count, drain_position) in [(3, 0), (1_025, 0), (usize::MAX, 0), (2, 3), (2, usize::MAX)] {
-        let damaged = Record { queue_count, drain_position, ..record };
+    // The position of any reader counts.
+    let rows = [(3, 0, 0), (1_025, 0, 0), (usize::MAX, 0, 0), (2, 0, 3), (2, 7, 3), (2, 4, usize::MAX)];
+    for (queue_count, reader, position) in rows {
+        let mut damaged = Record { queue_count, ..record };
+        damaged.drain_positions[reader] = position;
         let refusal = ScalableConsumerSession::from_parts(damaged, &mut store).unwrap_err();
         assert_eq!(refusal, AssignmentError::MalformedStore);
         // A new connection starts with an empty queue, so it needs none of them.
         let session = ScalableConsumerSession::resume(damaged, &mut store, ControllerIncarnation(2)).unwrap();
-        assert_eq!((session.record().queue_count, session.record().drain_position), (0, 0));
+        assert_eq!((session.record().queue_count, session.record().drain_positions), (0, [0; Reader::COUNT]));
     }
     store[6] = 2;
     let refusal = ScalableConsumerSession::resume(record, &mut store, ControllerIncarnation(2)).unwrap_err();

@@ -68,6 +68,7 @@ fn texts_and_numbers_of_our_own() {
         (E::ResultTooLong, 21, "the result does not fit the output"),
         (E::MalformedStore, 22, "the record or a slot of the store is malformed"),
         (E::KeyTooLong, 32, "the key is longer than 65535 bytes"),
+        (E::UnknownReader, 33, "the number of the reader is above 7"),
         (
             E::BucketOutsideSegment { segment_id: SEVEN, index: 2 },
             34,

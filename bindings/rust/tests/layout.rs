@@ -8,16 +8,22 @@ use cuddrewyn::raw::*;
 use messages::*;
 
 #[test]
+fn version() {
+    // SAFETY: numbers alone.
+    assert_eq!(unsafe { cuddrewyn_abi() }, ABI);
+}
+
+#[test]
 fn sizes_and_offsets() {
-    assert_eq!((size_of::<Record>(), align_of::<Record>()), (48, 8));
+    assert_eq!((size_of::<Record>(), align_of::<Record>()), (104, 8));
     assert_eq!(
         [offset_of!(Record, consumer_id), offset_of!(Record, incarnation), offset_of!(Record, epoch_floor)],
         [0, 8, 16]
     );
-    assert_eq!([offset_of!(Record, queue_count), offset_of!(Record, drain_position)], [24, 32]);
+    assert_eq!([offset_of!(Record, queue_count), offset_of!(Record, drain_positions)], [24, 32]);
     assert_eq!(
         [offset_of!(Record, has_floor), offset_of!(Record, registered), offset_of!(Record, invalidated)],
-        [40, 41, 42]
+        [96, 97, 98]
     );
     assert_eq!((size_of::<Reply>(), align_of::<Reply>()), (40, 8));
     assert_eq!([offset_of!(Reply, answer), offset_of!(Reply, number), offset_of!(Reply, count)], [0, 1, 2]);
@@ -25,7 +31,10 @@ fn sizes_and_offsets() {
         [offset_of!(Reply, first), offset_of!(Reply, second), offset_of!(Reply, third), offset_of!(Reply, fourth)],
         [8, 16, 24, 32]
     );
-    assert_eq!([size_of::<SessionReply>(), offset_of!(SessionReply, state), offset_of!(SessionReply, reply)], [88, 0, 48]);
+    assert_eq!(
+        [size_of::<SessionReply>(), offset_of!(SessionReply, state), offset_of!(SessionReply, reply)],
+        [144, 0, 104]
+    );
     assert_eq!([size_of::<Part>(), offset_of!(Part, start), offset_of!(Part, length)], [16, 0, 8]);
 }
 
@@ -40,7 +49,7 @@ fn every_field_of_a_record() {
             incarnation: 0x1111_2222_3333_4444,
             epoch_floor: if has_floor { 0x2121_2222_2323_2424 } else { 0 },
             queue_count: 0x3131_3232_3333_3434,
-            drain_position: 0x4141_4242_4343_4444,
+            drain_positions: core::array::from_fn(|reader| 0x4141_4242_4343_4444 + reader),
             has_floor,
             registered,
             invalidated,
@@ -53,7 +62,7 @@ fn every_field_of_a_record() {
         assert_eq!(reply, expected);
         // SAFETY: numbers alone.
         let SessionReply { state, reply } = unsafe { cuddrewyn_invalidate(given) };
-        let ended = Record { queue_count: 0, drain_position: 0, registered: false, invalidated: true, ..given };
+        let ended = Record { queue_count: 0, drain_positions: [0; READERS], registered: false, invalidated: true, ..given };
         assert_eq!((state, reply), (ended, Reply { answer: ACCEPTED, ..Reply::default() }));
     }
 }

@@ -70,6 +70,44 @@ fn queue_response_replays_updates() {
 }
 
 #[test]
+fn numbers_of_readers() {
+    for number in 0..Reader::COUNT {
+        assert_eq!(Reader::new(number).map(Reader::number), Ok(number));
+    }
+    for number in [8, usize::MAX] {
+        assert_eq!(Reader::new(number), Err(AssignmentError::UnknownReader));
+    }
+    assert_eq!(Reader::new(0), Ok(Reader::default()));
+}
+
+#[test]
+fn each_reader_is_handed_every_replay() {
+    let (mut store, mut out) = ([0; store_len(2)], [0; MIN_OUTPUT]);
+    let mut session = open(&mut store);
+    for (epoch, ids) in [(3, &[1][..]), (4, &[1, 2])] {
+        assert_eq!(session.handle_assignment_update(&update(epoch, &list(ids)), &mut out), Ok(None));
+    }
+    session.handle_subscribe_response(&response(2, &[])[..]).unwrap();
+    let [uploader, desk, logger] = [0, 3, 7].map(|number| Reader::new(number).unwrap());
+    // The desk is one behind, the logger has asked for none; the uploader's none is its own.
+    let mut gained = |session: &mut ScalableConsumerSession<'_>, reader| {
+        session.take_replayed_update_for(reader, &mut out).unwrap().map(|replay| ids(replay.delta).1)
+    };
+    assert_eq!(gained(&mut session, uploader), Some(vec![1]));
+    assert_eq!(gained(&mut session, desk), Some(vec![1]));
+    assert_eq!(gained(&mut session, uploader), Some(vec![2]));
+    assert_eq!(gained(&mut session, uploader), None);
+    assert_eq!(session.record().drain_positions, [2, 0, 0, 1, 0, 0, 0, 0]);
+    assert_eq!(gained(&mut session, desk), Some(vec![2]));
+    assert_eq!(gained(&mut session, desk), None);
+    assert_eq!(session.for_each_replayed_update_for(logger, &mut [0; MIN_OUTPUT], |_| ()), Ok(2));
+    assert_eq!(session.take_replayed_update(&mut [0; MIN_OUTPUT]), Ok(None));
+    assert_eq!(session.record().drain_positions, [2, 0, 0, 2, 0, 0, 0, 2]);
+    session.begin_incarnation(ControllerIncarnation(2)).unwrap();
+    assert_eq!(session.record().drain_positions, [0; Reader::COUNT]);
+}
+
+#[test]
 fn a_stale_push_in_the_queue_refuses_the_response() {
     let (mut store, mut out) = ([0; store_len(2)], [0; MIN_OUTPUT]);
     let mut session = open(&mut store);

@@ -4,7 +4,7 @@ use super::messages::{WireAssignment, WireSegment};
 use super::sheet::{SHEET_MOST, Sheet, Taker, outside};
 use super::{identity, messages, names};
 use crate::oracle;
-use crate::raw::{self, Record, Reply};
+use crate::raw::{self, READERS, Record, Reply};
 use crate::reply::{refused, taken, word};
 
 pub const SLOT: usize = 2048;
@@ -85,14 +85,16 @@ struct Slots<'a> {
     queue: Queue,
 }
 
-/// 1 and 22, with 2 between where an output of `room` bytes is due.
-fn slots<'a>(record: &Record, store: &'a [u8], room: Option<usize>) -> Result<Slots<'a>, Reply> {
+/// 1, then 2 where an output of `room` bytes is due.
+fn long_enough(store: &[u8], room: Option<usize>) -> Result<(), Reply> {
     if store.len() < STORE_LEAST {
         return Err(refused(1, &[]));
     }
-    if room.is_some_and(|room| room < OUT_LEAST) {
-        return Err(refused(2, &[]));
-    }
+    if room.is_some_and(|room| room < OUT_LEAST) { Err(refused(2, &[])) } else { Ok(()) }
+}
+
+/// 22.
+fn slots<'a>(record: &Record, store: &'a [u8]) -> Result<Slots<'a>, Reply> {
     in_use(record, store).ok_or_else(|| refused(22, &[]))
 }
 
@@ -100,7 +102,7 @@ fn slots<'a>(record: &Record, store: &'a [u8], room: Option<usize>) -> Result<Sl
 fn in_use<'a>(record: &Record, store: &'a [u8]) -> Option<Slots<'a>> {
     let sheet = |place: usize| Sheet::at_front(&store[place..place + SLOT]);
     let ([topic, _, _], _) = identity::read(&store[..SLOT])?;
-    if record.queue_count > QUEUE_MOST || record.drain_position > record.queue_count {
+    if record.queue_count > QUEUE_MOST || record.drain_positions.iter().any(|position| *position > record.queue_count) {
         return None;
     }
     let held = if record.registered { Some((sheet(BASELINE)?, sheet(LIST)?)) } else { None };
@@ -148,7 +150,8 @@ pub fn update(record: &Record, store: &[u8], message: &[u8], incarnation: u64, r
 }
 
 fn updated(record: &Record, store: &[u8], message: &[u8], incarnation: u64, room: usize) -> Result<Prediction, Reply> {
-    let slots = slots(record, store, Some(room))?;
+    long_enough(store, Some(room))?;
+    let slots = slots(record, store)?;
     let update = messages::update(message).map_err(|number| refused(number, &[]))?;
     same_incarnation(record, incarnation)?;
     if update.consumer_id != record.consumer_id {
@@ -193,7 +196,8 @@ pub fn response(record: &Record, store: &[u8], message: &[u8], incarnation: u64)
 }
 
 fn responded(record: &Record, store: &[u8], message: &[u8], incarnation: u64) -> Result<Prediction, Reply> {
-    let slots = slots(record, store, None)?;
+    long_enough(store, None)?;
+    let slots = slots(record, store)?;
     let response = messages::response(message).map_err(|number| refused(number, &[]))?;
     same_incarnation(record, incarnation)?;
     let Some(assignment) = response.assignment else {
@@ -209,7 +213,7 @@ fn responded(record: &Record, store: &[u8], message: &[u8], incarnation: u64) ->
         }
         last = entry;
     }
-    let state = Record { registered: true, drain_position: 0, queue_count: replayed.len(), ..*record };
+    let state = Record { registered: true, drain_positions: [0; READERS], queue_count: replayed.len(), ..*record };
     Ok(Prediction {
         reply: taken(raw::ACCEPTED, &[]),
         state: with_floor(state, higher_floor(record, last.epoch)),
@@ -218,19 +222,26 @@ fn responded(record: &Record, store: &[u8], message: &[u8], incarnation: u64) ->
     })
 }
 
-pub fn drain(record: &Record, store: &[u8], room: usize) -> Prediction {
-    drained(record, store, room).unwrap_or_else(|reply| unchanged(record, reply))
+pub fn drain(record: &Record, store: &[u8], reader: usize, room: usize) -> Prediction {
+    drained(record, store, reader, room).unwrap_or_else(|reply| unchanged(record, reply))
 }
 
-fn drained(record: &Record, store: &[u8], room: usize) -> Result<Prediction, Reply> {
-    let slots = slots(record, store, Some(room))?;
+/// 1, 2, 33, 22; then the next change from the reader's own position on.
+fn drained(record: &Record, store: &[u8], reader: usize, room: usize) -> Result<Prediction, Reply> {
+    long_enough(store, Some(room))?;
+    let position = *record.drain_positions.get(reader).ok_or_else(|| refused(33, &[]))?;
+    let slots = slots(record, store)?;
     let Some((baseline, _)) = slots.held else {
         return Ok(unchanged(record, taken(raw::UNCHANGED, &[])));
     };
     let queue = &slots.queue.entries;
     let before = |index: usize| if index == 0 { &baseline } else { &queue[index - 1].1 };
-    let moved = |position| normal(Record { drain_position: position, ..*record });
-    let next = (record.drain_position..queue.len()).find(|index| &queue[*index].1 != before(*index));
+    let moved = |position| {
+        let mut state = normal(*record);
+        state.drain_positions[reader] = position;
+        state
+    };
+    let next = (position..queue.len()).find(|index| &queue[*index].1 != before(*index));
     let Some(index) = next else {
         return Ok(Prediction { state: moved(queue.len()), ..unchanged(record, taken(raw::UNCHANGED, &[])) });
     };
@@ -240,7 +251,7 @@ fn drained(record: &Record, store: &[u8], room: usize) -> Result<Prediction, Rep
 }
 
 fn unregistered(record: &Record, incarnation: u64, invalidated: bool) -> Prediction {
-    let state = Record { incarnation, invalidated, registered: false, queue_count: 0, drain_position: 0, ..*record };
+    let state = Record { incarnation, invalidated, registered: false, queue_count: 0, drain_positions: [0; READERS], ..*record };
     unchanged(&state, taken(raw::ACCEPTED, &[]))
 }
 

@@ -6,7 +6,7 @@ use crate::lists::{random_sheet, spoiled_sheet};
 use crate::model::identity::Texts;
 use crate::model::session::{QUEUE, SLOT, STORE_LEAST};
 use crate::model::sheet::Sheet;
-use crate::raw::Record;
+use crate::raw::{READERS, Record};
 use crate::rng::Rng;
 use crate::tally::Tally;
 
@@ -51,14 +51,17 @@ fn length(rng: &mut Rng) -> usize {
 /// A record over a queue of so many entries.
 fn record(entries: usize, rng: &mut Rng) -> Record {
     let queue_count = if rng.one_in(12) { rng.pick(&[entries + 1, entries + 2, 1024, 1025, usize::MAX, 1 << 32]) } else { rng.below(entries + 1) };
-    let drain_position = if rng.one_in(12) { rng.pick(&[queue_count.wrapping_add(1), usize::MAX, 0]) } else { rng.below(queue_count.min(8) + 1) };
+    let mut drain_positions = [(); READERS].map(|()| rng.below(queue_count.min(8) + 1));
+    if rng.one_in(12) {
+        drain_positions[rng.below(READERS)] = rng.pick(&[queue_count.wrapping_add(1), usize::MAX, 0]);
+    }
     let floor = rng.pick(&[0, 3, 4, 5, u64::MAX]);
     Record {
         consumer_id: 7,
         incarnation: rng.pick(&[1, 1, 1, u64::MAX]),
         epoch_floor: floor,
         queue_count,
-        drain_position,
+        drain_positions,
         has_floor: !rng.one_in(3),
         registered: !rng.one_in(3),
         invalidated: rng.one_in(3),
@@ -149,7 +152,7 @@ fn ask(stage: &Stage, world: &mut World, rng: &mut Rng) -> Ask {
             let message = list.response(1, Style::Plain, rng);
             Ask::Response { message: sent(message, rng), incarnation }
         }
-        6..8 => Ask::Drain { room },
+        6..8 => Ask::Drain { reader: if rng.one_in(12) { rng.pick(&[READERS, usize::MAX]) } else { rng.below(READERS) }, room },
         8 if rng.one_in(3) => Ask::Begin { incarnation: rng.pick(&[0, 1, 2, u64::MAX]) },
         8 if rng.one_in(3) => Ask::Invalidate,
         _ => {

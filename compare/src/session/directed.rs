@@ -18,6 +18,7 @@ pub fn run(tally: &mut Tally, seed: u64) {
     queue_room(tally, seed);
     link_traps(tally, seed);
     drain_traps(tally, seed);
+    readers(tally, seed);
     order_in_a_segment(tally, seed);
     marked_parents(tally, seed);
     stored_outside(tally, seed);
@@ -231,6 +232,31 @@ fn drain_traps(tally: &mut Tally, seed: u64) {
     s.expect("an accepted response drops replays", Call::Drain, given, taken(UNCHANGED, &[]));
 }
 
+/// Three readers: each is handed every replay, in its own time; 33 behind 2 and before 22; begin sets every position to 0.
+fn readers(tally: &mut Tally, seed: u64) {
+    let mut s = Script::open(tally, seed, 8 * SLOT, TOPIC);
+    s.without_the_rust();
+    for epoch in [5, 6] {
+        s.update(&list(epoch, &[(epoch, 0, 1)]));
+    }
+    s.response(&list(5, &[]));
+    for (reader, replays) in [(7, 1), (0, 1), (0, 1), (0, 0), (7, 1), (3, 1), (7, 0), (0, 0), (3, 1), (3, 0)] {
+        let given = s.drain_for(reader);
+        s.expect_number("a reader's own replays", Call::Drain, given, 0);
+        s.expect("how many values a replay has", Call::Drain, taken(REPLAY, &[given.count.into()]), taken(REPLAY, &[2 * replays]));
+    }
+    let positions = s.stage.record.drain_positions;
+    s.expect("the readers that drained", Call::Drain, taken(REPLAY, &positions.map(|at| at as u64)[..4]), taken(REPLAY, &[2, 0, 0, 2]));
+    s.stage.record.drain_positions[5] = 3;
+    for (reader, room, number) in [(8, ROOM - 1, 2), (8, ROOM, 33), (usize::MAX, ROOM, 33), (0, ROOM, 22), (5, ROOM, 22)] {
+        let given = s.ask(&Ask::Drain { reader, room });
+        s.expect("2, 33, 22", Call::Drain, given, refused(number, &[]));
+    }
+    s.begin(2);
+    let positions = s.stage.record.drain_positions;
+    s.expect("no reader has drained", Call::Begin, taken(REPLAY, &[positions.iter().sum::<usize>() as u64]), taken(REPLAY, &[0]));
+}
+
 /// Two faults in one segment: 9, 10, 11, 34, 12, 13, then 14. The same list as update and as response.
 fn order_in_a_segment(tally: &mut Tally, seed: u64) {
     let bad = |start: u32, buckets: Vec<(i32, i32)>| Assignment { epoch: 1, parts: vec![Part::new("x", 4, start, 9, buckets)] };
@@ -307,7 +333,7 @@ fn stored_outside(tally: &mut Tally, seed: u64) {
     s.response(&list(5, &[]));
     let mut stage = s.stage.clone();
     stage.poke(QUEUE, &entry(&outside));
-    let given = stage.ask(s.tally, &Ask::Drain { room: ROOM }, None).reply;
+    let given = stage.ask(s.tally, &Ask::Drain { reader: 0, room: ROOM }, None).reply;
     s.expect("a queued bucket outside", Call::Drain, given, taken(REPLAY, &[QUEUE as u64 + 2, 12 + 22]));
 }
 

@@ -5,7 +5,7 @@ use crate::generate::{Assignment, Part, Style};
 use crate::model::identity::Texts;
 use crate::model::session::{QUEUE, QUEUE_MOST, Queue, SLOT, STORE_FULL, STORE_LEAST, entry};
 use crate::model::sheet::Sheet;
-use crate::raw::Record;
+use crate::raw::{READERS, Record};
 use crate::rng::Rng;
 use crate::tally::Tally;
 
@@ -52,7 +52,7 @@ fn rooms(tally: &mut Tally, seed: u64) {
         for room in [0, 1, ROOM - 1, ROOM, ROOM + 1, 4096] {
             let message = list(1 + room as u64, &[(2, 0, 1)]).update(CONSUMER, Style::Plain, &mut s.rng);
             s.push(message, room);
-            s.ask(&Ask::Drain { room });
+            s.ask(&Ask::Drain { reader: 0, room });
         }
     }
 }
@@ -215,9 +215,12 @@ fn slots(tally: &mut Tally, seed: u64) {
             }
         }
         for (queue_count, drain_position) in [(3, 4), (4, 0), (5, 5), (6, 0), (usize::MAX, 0), (0, 1), (0, usize::MAX), (3, 3), (0, 0)] {
-            let mut stage = good.clone();
-            (stage.record.queue_count, stage.record.drain_position) = (queue_count, drain_position);
-            every_call(tally, &stage, &mut rng);
+            for reader in 0..READERS {
+                let mut stage = good.clone();
+                (stage.record.queue_count, stage.record.drain_positions) = (queue_count, [0; READERS]);
+                stage.record.drain_positions[reader] = drain_position;
+                every_call(tally, &stage, &mut rng);
+            }
         }
     }
 }
@@ -234,8 +237,10 @@ fn every_call(tally: &mut Tally, stage: &Stage, rng: &mut Rng) {
         Ask::Response { message: low, incarnation: 1 },
         Ask::Response { message: high, incarnation: 1 },
         Ask::Response { message: b"\xff".to_vec(), incarnation: 1 },
-        Ask::Drain { room: ROOM },
-        Ask::Drain { room: ROOM - 1 },
+        Ask::Drain { reader: 0, room: ROOM },
+        Ask::Drain { reader: READERS - 1, room: ROOM },
+        Ask::Drain { reader: READERS, room: ROOM },
+        Ask::Drain { reader: READERS, room: ROOM - 1 },
         Ask::Matches(texts),
         Ask::Begin { incarnation: 2 },
         Ask::Invalidate,
@@ -262,8 +267,8 @@ fn deep(tally: &mut Tally, seed: u64) {
         }
         for registered in [false, true] {
             for queue_count in [1022, 1023, 1024, 1025, 1026] {
-                stage.record =
-                    Record { consumer_id: CONSUMER, incarnation: 1, queue_count, drain_position: queue_count - 2, registered, ..Default::default() };
+                let drain_positions = [queue_count - 2; READERS];
+                stage.record = Record { consumer_id: CONSUMER, incarnation: 1, queue_count, drain_positions, registered, ..Default::default() };
                 every_call(tally, &stage, &mut rng);
             }
         }

@@ -77,8 +77,19 @@ impl<'a> Script<'a> {
         self.answer(message)
     }
 
+    /// A drain by the first reader.
     pub fn drain(&mut self) -> Reply {
-        self.ask(&Ask::Drain { room: ROOM })
+        self.drain_for(0)
+    }
+
+    pub fn drain_for(&mut self, reader: usize) -> Reply {
+        self.ask(&Ask::Drain { reader, room: ROOM })
+    }
+
+    /// From here on by the model alone: several readers drain.
+    pub fn without_the_rust(&mut self) {
+        self.tally.several_readers += 1;
+        self.twin = None;
     }
 
     /// Drains until none is left; how many replays came.

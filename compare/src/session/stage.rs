@@ -18,7 +18,7 @@ use crate::texts;
 pub enum Ask {
     Update { message: Vec<u8>, incarnation: u64, room: usize },
     Response { message: Vec<u8>, incarnation: u64 },
-    Drain { room: usize },
+    Drain { reader: usize, room: usize },
     Begin { incarnation: u64 },
     Invalidate,
     Matches(Texts),
@@ -54,7 +54,7 @@ impl Ask {
     /// How much of the output buffer is lent.
     fn room(&self) -> usize {
         match self {
-            Self::Update { room, .. } | Self::Drain { room } => *room,
+            Self::Update { room, .. } | Self::Drain { room, .. } => *room,
             _ => 0,
         }
     }
@@ -255,7 +255,7 @@ fn predict(ask: &Ask, record: &Record, store: &[u8]) -> Prediction {
     match ask {
         Ask::Update { message, incarnation, room } => session::update(record, store, message, *incarnation, *room),
         Ask::Response { message, incarnation } => session::response(record, store, message, *incarnation),
-        Ask::Drain { room } => session::drain(record, store, *room),
+        Ask::Drain { reader, room } => session::drain(record, store, *reader, *room),
         Ask::Begin { incarnation } => session::begin(record, *incarnation),
         Ask::Invalidate => session::invalidate(record),
         Ask::Matches(texts) => Prediction { reply: identity::matches(store, texts), state: *record, writes: Vec::new(), out: Vec::new() },
@@ -268,7 +268,7 @@ fn make(ask: &Ask, record: Record, store: &mut [u8], message: &mut [u8], out: &m
     match ask {
         Ask::Update { incarnation, .. } => ours::update(record, store, message, *incarnation, out),
         Ask::Response { incarnation, .. } => ours::response(record, store, message, *incarnation),
-        Ask::Drain { .. } => ours::drain(record, store, out),
+        Ask::Drain { reader, .. } => ours::drain(record, store, *reader, out),
         Ask::Begin { incarnation } => ours::begin(record, *incarnation),
         Ask::Invalidate => ours::invalidate(record),
         Ask::Matches(texts) => SessionReply { state: record, reply: ours::matches(texts, store) },

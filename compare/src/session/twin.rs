@@ -14,6 +14,8 @@ pub struct Twin {
     pending: Option<Vec<AssignmentReplay>>,
     /// How many of them ours has drained since the last accepted response.
     drained: usize,
+    /// The one reader that drains: 02 d keeps runs against the Rust to it.
+    reader: Option<usize>,
     fed: u64,
 }
 
@@ -51,7 +53,7 @@ impl Twin {
         let kind = ScalableConsumerType::from_pb_i32(texts.kind);
         let session =
             ScalableConsumerSession::new(consumer_id, topic, string(subscription)?, string(name)?, kind, ControllerIncarnation(incarnation));
-        Some(Self { session, pending: None, drained: 0, fed: 0 })
+        Some(Self { session, pending: None, drained: 0, reader: None, fed: 0 })
     }
 
     /// Feeds a call; an error says that prost reads the message otherwise.
@@ -63,7 +65,7 @@ impl Twin {
         match ask {
             Ask::Update { message, incarnation, .. } => self.update(message, *incarnation),
             Ask::Response { message, incarnation } => self.response(message, *incarnation),
-            Ask::Drain { .. } => Ok(self.drain()),
+            Ask::Drain { reader, .. } => Ok(self.drain(*reader)),
             Ask::Begin { incarnation } => {
                 let begun = self.session.begin_incarnation(ControllerIncarnation(*incarnation));
                 Ok(begun.map_or_else(|error| Fed::refused(&error), |()| Fed::plain(taken(raw::ACCEPTED, &[]))))
@@ -110,7 +112,8 @@ impl Twin {
     }
 
     /// The next replay; where it lies in the store is not the Rust's to say, so the first value is 0.
-    fn drain(&mut self) -> Fed {
+    fn drain(&mut self, reader: usize) -> Fed {
+        assert_eq!(*self.reader.get_or_insert(reader), reader, "a run against the Rust has drains by one reader");
         let pending = self.pending.get_or_insert_with(|| self.session.clone().take_replayed_updates());
         let Some(replay) = pending.get(self.drained) else {
             return Fed::plain(taken(raw::UNCHANGED, &[]));

@@ -6,6 +6,7 @@ use super::world::{TOPICS, World};
 use crate::generate::{Assignment, Style, damaged, refusing_response};
 use crate::model::identity::Texts;
 use crate::model::session::{SLOT, STORE_FULL, STORE_LEAST};
+use crate::raw::READERS;
 use crate::rng::Rng;
 use crate::tally::Tally;
 
@@ -37,6 +38,8 @@ pub struct Walk {
     patience: usize,
     /// Each message is also asked with its segments in another order.
     two_orders: bool,
+    /// The one reader that drains; where there is none, all of them do, and the model alone is asked.
+    reader: Option<usize>,
 }
 
 impl Walk {
@@ -58,6 +61,7 @@ impl Walk {
             pushed: 0,
             patience: 1,
             two_orders: false,
+            reader: None,
         }
     }
 
@@ -119,6 +123,11 @@ impl Walk {
             Size::Small => (rng.between(10, 200), rng.pick(&[0, 0, 2, 6])),
         };
         self.twin = self.stage.open(tally, self.consumer_id, incarnation, &self.texts);
+        self.reader = if self.rng.one_in(4) { None } else { Some(self.rng.below(READERS)) };
+        if self.reader.is_none() {
+            self.twin = None;
+            tally.several_readers += 1;
+        }
     }
 
     fn style(&mut self) -> Style {
@@ -156,6 +165,12 @@ impl Walk {
 
     fn room(&mut self) -> usize {
         if self.rng.one_in(30) { self.rng.pick(&[0, 1, ROOM - 1, ROOM + 1, 4096]) } else { ROOM }
+    }
+
+    /// A drain by the session's one reader, or by any, now and then one that there is not.
+    fn drain(&mut self) -> Ask {
+        let any = if self.rng.one_in(20) { self.rng.pick(&[READERS, READERS + 1, 256, usize::MAX]) } else { self.rng.below(READERS) };
+        Ask::Drain { reader: self.reader.unwrap_or(any), room: self.room() }
     }
 
     /// A push that is most likely queued.
@@ -239,11 +254,11 @@ impl Walk {
                 _ => {}
             }
         }
-        let replays = record.registered && record.drain_position < record.queue_count;
+        let replays = record.registered && record.drain_positions.iter().any(|position| *position < record.queue_count);
         match self.rng.below(30) {
             0 => self.matches(),
-            1..3 => Ask::Drain { room: self.room() },
-            3..20 if replays => Ask::Drain { room: self.room() },
+            1..3 => self.drain(),
+            3..20 if replays => self.drain(),
             _ => self.update(),
         }
     }

@@ -151,7 +151,7 @@ pub fn tested(at: u64, line: &[u8]) -> Line {
         b"open update response drain begin invalidate segment key charge churn is_open earliest_open check_log",
         name,
     );
-    let form = lines::word(b"cnnbbbk cnb cnb c cn c cb cn cbnnn c cbn cbn cbb", place);
+    let form = lines::word(b"cnnbbbk cnb cnb cn cn c cb cn cbnnn c cbn cbn cbb", place);
     if form.len() == 0 {
         damaged_word(at, b"unknown call ", name);
         return Line::Damaged;

@@ -6,7 +6,7 @@ use crate::print::text;
 use refusal::Refusal;
 use reply::Reply;
 
-// The names by the specification's numbers, word 0 for none; a dash where no call gives the number.
+// The names by the specification's numbers, word 0 for none.
 fn named(number: usize) {
     text(lines::word(
         b" StoreTooShort OutputTooShort InvalidWireFormat WrongWireType RepeatedField MissingField \
@@ -15,7 +15,7 @@ fn named(number: usize) {
               SegmentIdMismatch MalformedInput ResultTooLong MalformedStore IncarnationMismatch \
               ConsumerMismatch NonAdvancingIncarnation CrossIncarnationEpochRegression StaleEpoch \
               PreBaselineBufferFull WatchMismatch MalformedSet SetTooLong \
-              KeyTooLong - BucketOutsideSegment InvalidContract ChargeTooLarge InvalidLog InvalidWindow",
+              KeyTooLong UnknownReader BucketOutsideSegment InvalidContract ChargeTooLarge InvalidLog InvalidWindow",
         number,
     ));
 }

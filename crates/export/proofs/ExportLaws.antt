@@ -11,7 +11,6 @@ use mir.Facts.{toZ-ofZ}
 use Rattle.types.specs.declared.ScalableConsumerType.{ScalableConsumerType}
 use Rattle.types.specs.declared.ScalableConsumerType.the-variants.{Stream, Checkpoint}
 use Rattle.types.specs.ConsumerTypes.{toWire}
-use Rattle.types.specs.declared.ControllerIncarnation.{ControllerIncarnation}
 use Rattle.topic.specs.declared.NameAnswer.{NameAnswer}
 use Rattle.topic.specs.Build as build
 use Rattle.output.specs.declared.WriteAnswer.{WriteAnswer}
@@ -22,7 +21,6 @@ use Rattle.log_entries.specs.declared.LogAnswer.{LogAnswer}
 use Rattle.log_entries.specs.Passes.{Checked}
 use Rattle.session.specs.declared.SessionRecord.{SessionRecord}
 use Rattle.session.specs.declared.Answer.{Answer}
-use Rattle.session.specs.declared.Opened.{Opened}
 use Rattle.session.specs.Calls.{Outcome, OpenOutcome, outcome}
 use Rattle.hours.specs.declared.EarliestAnswer.{EarliestAnswer}
 use Rattle.hours.specs.Hours.{Earliest}
@@ -30,7 +28,7 @@ use Rattle.watch.specs.declared.WatchAnswer.{WatchAnswer}
 use Rattle.watch.specs.Watch as watch
 use Rattle.reply.specs.declared.Reply.{Reply}
 use Rattle.session_reply.specs.declared.SessionReply.{SessionReply}
-use Rattle.session_reply.specs.Replies.{sessionReply, openReply}
+use Rattle.session_reply.specs.Replies.{sessionReply}
 use Rattle.export.specs.Exports.{Output, Exported, Opening, writeReply, writeOf, nameReply, nameOf, exportOf, openOf}
 use Rattle.export.specs.Exports.{Watched, watchReply, watchOf, earliestReply, EarliestReply, logReply, LogReply}
 use Rattle.export.specs.Exports.{Windowed, churnReply, windowOf}
@@ -65,9 +63,9 @@ pub session-call :
 session-call {store = store} {out = out} e f = ap (λ (y : SessionReply). exported y store out) e ∙ ap exportOf f
 
 pub open-call :
-    (consumer : ℕ) (link : ControllerIncarnation) {x : SessionReply} {a : Opened} {store : List ℕ} {o : OpenOutcome} →
-    x ≡ openReply consumer link a → record { answer = a; store = store } ≡ o → opening x store ≡ openOf consumer link o
-open-call consumer link {store = store} e f = ap (λ (y : SessionReply). opening y store) e ∙ ap (openOf consumer link) f
+    {x : SessionReply} {a : Answer} {r : SessionRecord} {store : List ℕ} {o : OpenOutcome} →
+    x ≡ sessionReply a r → record { answer = a; next = r; store = store } ≡ o → opening x store ≡ openOf o
+open-call {store = store} e f = ap (λ (y : SessionReply). opening y store) e ∙ ap openOf f
 
 pub earliest-call :
     {contract : List ℕ} {second : ℕ} {x : Reply} (a : EarliestAnswer) →

@@ -4,7 +4,6 @@ use Prim.Native.Nat.{ℕ}
 use mathlib.Core.Path.{_≡_}
 use mathlib.Core.List.{List, [], _∷_}
 use lib.IntN.{pos}
-use Rattle.types.specs.declared.ControllerIncarnation.{ControllerIncarnation}
 use Rattle.key_range.specs.declared.LengthAnswer.{LengthAnswer}
 use Rattle.key_range.specs.declared.LengthAnswer.the-variants as length′
 use Rattle.key_range.specs.declared.TestAnswer.{TestAnswer}
@@ -44,7 +43,7 @@ use Rattle.watch.specs.Watch as watch
 use Rattle.reply.specs.declared.Reply.{Reply}
 use Rattle.reply.specs.Replies.{written, yes, no, found, refusedReply, takenReply, testReply}
 use Rattle.session_reply.specs.declared.SessionReply.{SessionReply}
-use Rattle.session_reply.specs.Replies.{sessionReply, openReply}
+use Rattle.session_reply.specs.Replies.{sessionReply}
 
 -- ---- answers in numbers
 
@@ -172,5 +171,5 @@ pub record Opening : Type 0 where
   pub call : SessionReply
   pub store : List ℕ
 
-abbrev pub openOf : ℕ → ControllerIncarnation → OpenOutcome → Opening
-openOf consumer incarnation o = record { call = openReply consumer incarnation (o .answer); store = o .store }
+abbrev pub openOf : OpenOutcome → Opening
+openOf o = record { call = sessionReply (o .answer) (o .next); store = o .store }

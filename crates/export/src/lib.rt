@@ -2,6 +2,8 @@
 // and answers.
 //
 // A session's record goes in by value and comes back in the reply; store, message and output are lent. A slice is a pointer and a length.
+ghost use mathlib.Core.Path.{_≡_};
+
 mod charge_calls;
 mod churn_calls;
 mod hours_calls;
@@ -18,4 +20,12 @@ mod watch_calls;
 pub struct Part {
     pub start: usize,
     pub length: usize,
+}
+
+// The version of the structs' layout and of the calls' parameters. The symbol's name has it too: a caller made for another version does not link.
+#[no_mangle]
+pub extern "C" fn cuddrewyn_abi_2() -> u32
+    ensures { λ x. ⌜ x ≡ 2 ⌝ }
+{
+    2
 }

@@ -16,7 +16,6 @@ use reply::Reply;
 use session::Match;
 use session_reply::Record;
 use session_reply::SessionReply;
-use session_reply::open_reply;
 use session_reply::record_of;
 use session_reply::session_reply;
 use types::ControllerIncarnation;
@@ -33,7 +32,7 @@ pub extern "C" fn cuddrewyn_open(
     kind: i32,
     store: &mut [u8],
 ) -> SessionReply
-    ensures { λ x. ⌜ record { call = x; store = now (store .exit) } ≡ openOf «consumer_id» (record { 0 = incarnation })
+    ensures { λ x. ⌜ record { call = x; store = now (store .exit) } ≡ openOf
         (openOutcome «consumer_id» (record { 0 = incarnation })
         (record {
           topic = now (topic .entry);
@@ -42,18 +41,18 @@ pub extern "C" fn cuddrewyn_open(
           consumerType = fromWire kind;
         }) (now (store .entry))) ⌝ }
 {
-    let link = ControllerIncarnation(incarnation);
     let kind = ScalableConsumerType::from_pb_i32(kind);
-    let o = session_open::open(
+    let opened = session_open::open(
         consumer_id,
-        link,
+        ControllerIncarnation(incarnation),
         topic,
         subscription,
         consumer_name,
         kind,
         store,
     );
-    open_reply(consumer_id, link, o)
+    let answer = opened.answer;
+    session_reply(answer, opened.next)
 }
 
 // A new link to the controller: `begin_incarnation`.
@@ -121,13 +120,18 @@ pub extern "C" fn cuddrewyn_response(
     session_reply(answer, responded.next)
 }
 
-// The next push of the queue that differs from its predecessor: `take_replayed_updates`, one per call.
+// The next push of the queue, for one of the readers, that differs from its predecessor: `take_replayed_updates`, one per call.
 #[no_mangle]
-pub extern "C" fn cuddrewyn_drain(r: Record, store: &[u8], out: &mut [u8]) -> SessionReply
+pub extern "C" fn cuddrewyn_drain_for(
+    r: Record,
+    store: &[u8],
+    reader: usize,
+    out: &mut [u8],
+) -> SessionReply
     ensures { λ x. ⌜ record { call = x; store = now (store .entry); out = now (out .exit) }
-        ≡ exportOf (drainOutcome (recordOf r) (now (store .entry)) (now (out .entry))) ⌝ }
+        ≡ exportOf (drainOutcome (recordOf r) (now (store .entry)) reader (now (out .entry))) ⌝ }
 {
-    let drained = session_drain::drained(record_of(r), store, out);
+    let drained = session_drain::drained(record_of(r), store, reader, out);
     let answer = drained.answer;
     session_reply(answer, drained.next)
 }

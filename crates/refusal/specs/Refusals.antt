@@ -19,7 +19,8 @@ use Rattle.refusal.specs.declared.Refusal.the-variants.{DuplicateSegment
 use Rattle.refusal.specs.declared.Refusal.the-variants.{SegmentIdMismatch, MalformedInput, ResultTooLong, MalformedStore, IncarnationMismatch}
 use Rattle.refusal.specs.declared.Refusal.the-variants.{ConsumerMismatch, NonAdvancingIncarnation, CrossIncarnationEpochRegression, StaleEpoch}
 use Rattle.refusal.specs.declared.Refusal.the-variants.{PreBaselineBufferFull, WatchMismatch, MalformedSet, SetTooLong, KeyTooLong}
-use Rattle.refusal.specs.declared.Refusal.the-variants.{BucketOutsideSegment, InvalidContract, ChargeTooLarge, InvalidLog, InvalidWindow}
+use Rattle.refusal.specs.declared.Refusal.the-variants.{UnknownReader, BucketOutsideSegment, InvalidContract, ChargeTooLarge, InvalidLog}
+use Rattle.refusal.specs.declared.Refusal.the-variants.{InvalidWindow}
 
 abbrev pub numberOf : Refusal → ℕ
 numberOf StoreTooShort = 1
@@ -56,6 +57,7 @@ numberOf (WatchMismatch got expected) = 29
 numberOf MalformedSet = 30
 numberOf SetTooLong = 31
 numberOf KeyTooLong = 32
+numberOf UnknownReader = 33
 numberOf (BucketOutsideSegment id index) = 34
 numberOf InvalidContract = 35
 numberOf ChargeTooLarge = 36
@@ -107,6 +109,7 @@ valuesOf (WatchMismatch got expected) = pos got ∷ pos expected ∷ []
 valuesOf MalformedSet = []
 valuesOf SetTooLong = []
 valuesOf KeyTooLong = []
+valuesOf UnknownReader = []
 valuesOf (BucketOutsideSegment id index) = idValue id ∷ pos index ∷ []
 valuesOf InvalidContract = []
 valuesOf ChargeTooLarge = []

@@ -123,6 +123,8 @@ pub enum Refusal {
     SetTooLong,
     // 32: a key is longer than 65,535 bytes.
     KeyTooLong,
+    // 33: a reader's number is above 7.
+    UnknownReader,
     // 34: a bucket range lies not wholly inside its segment's range; its place among the segment's buckets.
     BucketOutsideSegment {
         segment_id: SegmentId,
@@ -197,6 +199,7 @@ pub fn number(refusal: Refusal) -> u8
         Refusal::MalformedSet => 30,
         Refusal::SetTooLong => 31,
         Refusal::KeyTooLong => 32,
+        Refusal::UnknownReader => 33,
         Refusal::BucketOutsideSegment {
             segment_id: _,
             index: _,

@@ -68,7 +68,7 @@ bucket-reply {x = x} {n = n} {index = index} {id = id} {start = start} {end = en
 
 -- the tags of the variants without values
 abbrev bare : List ℕ
-bare = 0 ∷ 1 ∷ 2 ∷ 3 ∷ 4 ∷ 5 ∷ 6 ∷ 7 ∷ 12 ∷ 15 ∷ 19 ∷ 21 ∷ 22 ∷ 23 ∷ 31 ∷ 32 ∷ 33 ∷ 35 ∷ 36 ∷ 37 ∷ 38 ∷ []
+bare = 0 ∷ 1 ∷ 2 ∷ 3 ∷ 4 ∷ 5 ∷ 6 ∷ 7 ∷ 12 ∷ 15 ∷ 19 ∷ 21 ∷ 22 ∷ 23 ∷ 31 ∷ 32 ∷ 33 ∷ 34 ∷ 36 ∷ 37 ∷ 38 ∷ 39 ∷ []
 
 pub no-values : (x : Refusal) → OneOf bare (tagOf the-type x) → valuesOf x ≡ []
 no-values refusal.StoreTooShort h = refl
@@ -105,7 +105,8 @@ no-values (refusal.WatchMismatch a b) h = absurd (miss bare 30 tt h)
 no-values refusal.MalformedSet h = refl
 no-values refusal.SetTooLong h = refl
 no-values refusal.KeyTooLong h = refl
-no-values (refusal.BucketOutsideSegment a b) h = absurd (miss bare 34 tt h)
+no-values refusal.UnknownReader h = refl
+no-values (refusal.BucketOutsideSegment a b) h = absurd (miss bare 35 tt h)
 no-values refusal.InvalidContract h = refl
 no-values refusal.ChargeTooLarge h = refl
 no-values refusal.InvalidLog h = refl

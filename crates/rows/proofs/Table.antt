@@ -24,13 +24,13 @@ use Rattle.content.specs.Content.{bucketFault, firstOutside, nameFault, segment
 use Rattle.content.specs.Content.{assignedSegment, inIdOrder, consumerAssignment, contentOf}
 use Rattle.content.specs.Rows as content
 use Rattle.packed_queue.specs.Entries.{sizeEntries}
-use Rattle.session.specs.Session.{damaged}
+use Rattle.session.specs.Session.{anyBeyond, damaged}
 use Rattle.session.specs.Update.{updateUnregistered, updateRegistered, updateContent, updateValid, updateCall}
 use Rattle.rows.specs.Rows.{Rows}
 use Rattle.rows.proofs.BucketLaws.{buckets-taken, buckets-long}
 
 pub rows : Rows
-unfolding newKeyRange anyOverlap sameBytes startsWith table fits sequenceIn sequenceOf textAfter isUtf8 classOf beforeSlash behindSlash clean hasThreeParts frontClean isPath isParent hex4 decimalWithin decimal descriptor segmentTopic varintOf keyOf numberOf partOf fieldsOf ruleFor complete firstFault segmentOf assignmentOf updateOf sizeSegment sizeSegments sizeAssignment sameRanges sameSegment sameSegments sameAssignment hasSame without deltaBetween bucketFault firstOutside nameFault segmentFault firstRefusal assignedSegment inIdOrder consumerAssignment contentOf sizeEntries damaged updateUnregistered updateRegistered updateContent updateValid updateCall
+unfolding newKeyRange anyOverlap sameBytes startsWith table fits sequenceIn sequenceOf textAfter isUtf8 classOf beforeSlash behindSlash clean hasThreeParts frontClean isPath isParent hex4 decimalWithin decimal descriptor segmentTopic varintOf keyOf numberOf partOf fieldsOf ruleFor complete firstFault segmentOf assignmentOf updateOf sizeSegment sizeSegments sizeAssignment sameRanges sameSegment sameSegments sameAssignment hasSame without deltaBetween bucketFault firstOutside nameFault segmentFault firstRefusal assignedSegment inIdOrder consumerAssignment contentOf sizeEntries anyBeyond damaged updateUnregistered updateRegistered updateContent updateValid updateCall
 rows =
     record {
       a-valid = refl;

@@ -31,7 +31,7 @@ use Rattle.session.specs.declared.Floor.{Floor}
 use Rattle.session.specs.declared.Floor.the-variants.{Unset, At}
 use Rattle.session.specs.Store.{minOutput, listSlot, toSlot, push}
 use Rattle.session.specs.Session as session
-use Rattle.session.specs.Session.{Session, Result, refuse, floorFault}
+use Rattle.session.specs.Session.{Session, Result, atStart, refuse, floorFault}
 use Rattle.session.specs.Update.{updateUnregistered, updateCall}
 use Rattle.session.specs.Drain.{placeOf}
 
@@ -58,7 +58,7 @@ recordOf registered floor count =
       invalidated = false;
       «epoch_floor» = floor;
       «queue_count» = count;
-      «drain_position» = 0;
+      «drain_positions» = atStart;
     }
 
 -- "Full size"

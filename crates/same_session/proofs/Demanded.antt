@@ -21,7 +21,7 @@ use Rattle.session.specs.Store.{identitySlot, slot, queueIn, writeAll}
 use Rattle.session.specs.Identity.{topicOf, subscriptionOf, consumerNameOf, kindOf}
 use Rattle.session.specs.Session as session
 use Rattle.session.specs.Session.{Session, Reply, view}
-use Rattle.session.specs.Drain.{Found, end, entry, nextChange, drained}
+use Rattle.session.specs.Drain.{Found, end, entry, drained, nextFor}
 use Rattle.session.specs.Calls.{Outcome, answerOf, effectOf}
 use Rattle.session.specs.Trace.{Call, update, response, drain, begin, invalidate, stepOf}
 use Rattle.session.specs.DemandThree.{Fresh, AllOfBytes}
@@ -32,7 +32,7 @@ use Rattle.session.proofs.TraceLaws.{outOf, follow-call, step-is}
 use Rattle.same_names.specs.Agree.{isMarked}
 use Rattle.same_session.specs.Values.{asAssignment, asFloor, asType}
 use Rattle.same_session.specs.Demand.{topicIn, portShown, portRun, Caller, rustStep, rustRun, opened, isOurs, noneOurs, fedCalls}
-use Rattle.same_session.specs.Demand.{fedShown, DemandTwoFed, DemandTwo}
+use Rattle.same_session.specs.Demand.{fedShown, drainsBy, oneReader, DemandTwoFed, DemandTwo}
 use Rattle.same_session.proofs.ReplayAgrees.{Registration, sess}
 use Rattle.same_session.proofs.Mirror.{oursIn, Mirror, Good}
 use Rattle.same_session.proofs.ShownAgrees.{fair-call, shown-agrees, view-counted, bytes-show}
@@ -50,19 +50,18 @@ ours-is (session.replayed index place d) = refl
 abbrev Still : Session → session.Result → Type 0
 Still s x = oursIn (x .reply) ≡ true → (x .next ≡ s .state) × (x .writes ≡ [])
 
-found-still : (s : Session) (f : Found) → Still s (drained s f)
+found-still : (s : Session) (by : ℕ) (f : Found) → Still s (drained s by f)
 unfolding drained
-found-still s end = λ e. absurd (false≢true e)
-found-still s (entry i d) = λ e. absurd (false≢true e)
+found-still s by end = λ e. absurd (false≢true e)
+found-still s by (entry i d) = λ e. absurd (false≢true e)
 
 ours-still : (s : Session) (w : Call) → Still s (resultOf s w)
 ours-still s (update message link out) =
     update-cases s (Still s) (λ x e. (refl, refl)) message link (length out)
     (λ t u e. (refl, refl)) (λ t u e. absurd (false≢true e)) (λ t e. absurd (false≢true e))
 ours-still s (response message link) = response-cases s (Still s) (λ x e. (refl, refl)) message link (λ t u e. absurd (false≢true e))
-ours-still s (drain out) =
-    drain-cases s (Still s) (λ x e. (refl, refl)) (length out)
-    (λ t. found-still s (nextChange 0 (s .baseline) (s .queue) (s .state .«drain_position»))) (λ t e. (refl, refl))
+ours-still s (drain by out) =
+    drain-cases s (Still s) (λ x e. (refl, refl)) by (length out) (λ t. found-still s by (nextFor s by)) (λ t e. (refl, refl))
 ours-still s (begin link) =
     choose (Still s) (ltb (s .state .incarnation .0) (link .0)) (λ t e. absurd (false≢true e)) (λ t e. (refl, refl))
 ours-still s invalidate = λ e. absurd (false≢true e)
@@ -74,9 +73,9 @@ unfolding view
 state-view r st = refl
 
 -- of a call with that outcome, and the calls behind it
-abbrev FedFrom : Caller → Call → List Call → Outcome → Type 0
-FedFrom c w ws o =
-    cond (isOurs (o .answer)) (fedShown (o .next) (o .store) ws) (portShown w o ∷ fedShown (o .next) (o .store) ws)
+abbrev FedFrom : (reader : ℕ) → Caller → Call → List Call → Outcome → Type 0
+FedFrom reader c w ws o =
+    cond (isOurs (o .answer)) (fedShown reader (o .next) (o .store) ws) (portShown reader w o ∷ fedShown reader (o .next) (o .store) ws)
     ≡ rustRun c (cond (isOurs (o .answer)) (fedCalls (o .next) (o .store) ws) (w ∷ fedCalls (o .next) (o .store) ws))
 
 module _ (n : Registration) where
@@ -84,14 +83,19 @@ module _ (n : Registration) where
   abbrev Feeds : List Call → Type 0
   Feeds calls =
       (r : SessionRecord) (st : List ℕ) (c : Caller) → Kept r st → Mirror n (view r st) c → AllOfBytes calls
-      → fedShown r st calls ≡ rustRun c (fedCalls r st calls)
+      → oneReader (n .reader) calls ≡ true → fedShown (n .reader) r st calls ≡ rustRun c (fedCalls r st calls)
 
   fed-call : (w : Call) (ws : List Call) → Feeds ws → (r : SessionRecord) (st : List ℕ) (c : Caller) → Kept r st → Mirror n (view r st) c
-      → AllOfBytes (w ∷ ws) → FedFrom c w ws (effectOf (resultOf (view r st) w) st (outOf w))
-  fed-call w ws rest r st c k m b = go (isOurs (answerOf (x .reply))) refl
+      → AllOfBytes (w ∷ ws) → oneReader (n .reader) (w ∷ ws) ≡ true
+      → FedFrom (n .reader) c w ws (effectOf (resultOf (view r st) w) st (outOf w))
+  fed-call w ws rest r st c k m b o = go (isOurs (answerOf (x .reply))) refl
     where
       x : session.Result
       x = resultOf (view r st) w
+
+      -- the drains are the reader's
+      own : (drainsBy (n .reader) w ≡ true) × (oneReader (n .reader) ws ≡ true)
+      own = both-true (drainsBy (n .reader) w) (oneReader (n .reader) ws) o
 
       behind : List ℕ
       behind = writeAll (x .writes) st
@@ -100,49 +104,51 @@ module _ (n : Registration) where
       f = follow-call r st k w (b .0)
 
       good : isOurs (answerOf (x .reply)) ≡ false → Good n w (view r st) (resultOf (view r st) w) (rustStep c w)
-      good t = fair-call n w (view r st) c m (sym (ours-is (x .reply)) ∙ t)
+      good t = fair-call n w (view r st) c (own .0) m (sym (ours-is (x .reply)) ∙ t)
 
       go : (t : Bool) → isOurs (answerOf (x .reply)) ≡ t
-          → cond t (fedShown (x .next) behind ws) (portShown w (effectOf x st (outOf w)) ∷ fedShown (x .next) behind ws)
+          → cond t (fedShown (n .reader) (x .next) behind ws) (portShown (n .reader) w (effectOf x st (outOf w)) ∷ fedShown (n .reader) (x .next) behind ws)
           ≡ rustRun c (cond t (fedCalls (x .next) behind ws) (w ∷ fedCalls (x .next) behind ws))
       go true t =
           let e = ours-still (view r st) w (sym (ours-is (x .reply)) ∙ t) in
           let p : x .next ≡ r = e .0 ∙ state-view r st in
           let q : behind ≡ st = ap (λ l. writeAll l st) (e .1) in
-          ap₂ (λ a s. fedShown a s ws) p q ∙ rest r st c k m (b .1) ∙ ap₂ (λ a s. rustRun c (fedCalls a s ws)) (sym p) (sym q)
+          ap₂ (λ a s. fedShown (n .reader) a s ws) p q ∙ rest r st c k m (b .1) (own .1) ∙ ap₂ (λ a s. rustRun c (fedCalls a s ws)) (sym p) (sym q)
       go false t =
-          ap₂ _∷_ (bytes-show r st w f ∙ shown-agrees n w (view r st) x (rustStep c w) (good t))
+          ap₂ _∷_ (bytes-show (n .reader) r st w f ∙ shown-agrees n w (view r st) x (rustStep c w) (good t))
           (rest (x .next) behind (rustStep c w .next) (f .kept)
-          (subst (λ s. Mirror n s (rustStep c w .next)) (sym (f .session)) (good t .mirror)) (b .1))
+          (subst (λ s. Mirror n s (rustStep c w .next)) (sym (f .session)) (good t .mirror)) (b .1) (own .1))
 
   fed-run : (calls : List Call) → Feeds calls
-  fed-run [] r st c k m b = refl
-  fed-run (w ∷ ws) r st c k m b = subst (FedFrom c w ws) (sym (step-is r st w)) (fed-call w ws (fed-run ws) r st c k m b)
+  fed-run [] r st c k m b o = refl
+  fed-run (w ∷ ws) r st c k m b o = subst (FedFrom (n .reader) c w ws) (sym (step-is r st w)) (fed-call w ws (fed-run ws) r st c k m b o)
 
 -- ---- a fresh record, and the Rust's new session
 
-abbrev registrationOf : List ℕ → Registration
-registrationOf st =
+abbrev registrationOf : (reader : ℕ) → List ℕ → Registration
+registrationOf reader st =
     record {
+      reader = reader;
       subscription = subscriptionOf (slot st identitySlot);
       consumer-name = consumerNameOf (slot st identitySlot);
       consumer-type = asType (kindOf (slot st identitySlot));
     }
 
-start : (r : SessionRecord) → Fresh r → (st : List ℕ) → isMarked (topicIn st) ≡ false
-    → Mirror (registrationOf st) (view r st) (opened r st)
+start : (reader : ℕ) (r : SessionRecord) → Fresh r → (st : List ℕ) → isMarked (topicIn st) ≡ false
+    → Mirror (registrationOf reader st) (view r st) (opened r st)
 unfolding view queueIn entriesOf
-start r f st unmarked =
+start reader r f st unmarked =
     record {
       unmarked = unmarked;
       counted = view-counted r st;
+      eight = ap length (f .positions);
       state =
           inl (record {
             registered = f .unregistered;
             is = λ i.
                 record {
                   session =
-                      sess (registrationOf st) (r .«consumer_id») (topicOf (slot st 0)) (r .incarnation) none
+                      sess (registrationOf reader st) (r .«consumer_id») (topicOf (slot st 0)) (r .incarnation) none
                       (asFloor (sym (f .no-floor) i))
                       (map (asAssignment (topicOf (slot st 0))) (queueIn st (sym (f .no-queue) i))) [] (sym (f .not-invalidated) i);
                   taken = [];
@@ -152,25 +158,25 @@ start r f st unmarked =
     }
 
 pub demand-two-fed : DemandTwoFed
-demand-two-fed r f st unmarked calls bytes =
-    fed-run (registrationOf st) calls r st (opened r st) (kept-fresh r st f) (start r f st unmarked) bytes
+demand-two-fed r f st unmarked calls bytes reader o =
+    fed-run (registrationOf reader st) calls r st (opened r st) (kept-fresh r st f) (start reader r f st unmarked) bytes o
 
 -- ---- where none of ours is due, all calls are fed
 
-record AllFed (r : SessionRecord) (st : List ℕ) (calls : List Call) : Type 0 where
+record AllFed (reader : ℕ) (r : SessionRecord) (st : List ℕ) (calls : List Call) : Type 0 where
   all : fedCalls r st calls ≡ calls
-  shown : fedShown r st calls ≡ portRun r st calls
+  shown : fedShown reader r st calls ≡ portRun reader r st calls
 
-all-fed : (calls : List Call) (r : SessionRecord) (st : List ℕ) → noneOurs r st calls ≡ true → AllFed r st calls
-all-fed [] r st e = record { all = refl; shown = refl }
-all-fed (w ∷ ws) r st e =
+all-fed : (reader : ℕ) (calls : List Call) (r : SessionRecord) (st : List ℕ) → noneOurs r st calls ≡ true → AllFed reader r st calls
+all-fed reader [] r st e = record { all = refl; shown = refl }
+all-fed reader (w ∷ ws) r st e =
     let o : Outcome = stepOf r st w in
     let p = both-true (not (isOurs (o .answer))) (noneOurs (o .next) (o .store) ws) e in
     let t : isOurs (o .answer) ≡ false = not-true (isOurs (o .answer)) (p .0) in
-    let h : AllFed (o .next) (o .store) ws = all-fed ws (o .next) (o .store) (p .1) in
-    record { all = rw t (ap (w ∷_) (h .all)); shown = rw t (ap (portShown w o ∷_) (h .shown)) }
+    let h : AllFed reader (o .next) (o .store) ws = all-fed reader ws (o .next) (o .store) (p .1) in
+    record { all = rw t (ap (w ∷_) (h .all)); shown = rw t (ap (portShown reader w o ∷_) (h .shown)) }
 
 pub demand-two : DemandTwo
-demand-two r f st unmarked calls bytes e =
-    let a : AllFed r st calls = all-fed calls r st e in
-    sym (a .shown) ∙ demand-two-fed r f st unmarked calls bytes ∙ ap (rustRun (opened r st)) (a .all)
+demand-two r f st unmarked calls bytes reader o e =
+    let a : AllFed reader r st calls = all-fed reader calls r st e in
+    sym (a .shown) ∙ demand-two-fed r f st unmarked calls bytes reader o ∙ ap (rustRun (opened r st)) (a .all)

@@ -40,7 +40,7 @@ left n s link invalidated =
 leave-mirror : (n : Registration) (s : Session) (c : Caller) (link : ControllerIncarnation) (invalidated : Bool) → Mirror n s c
     → Mirror n (after s (leaving s link invalidated)) (left n s link invalidated)
 leave-mirror n s c link invalidated h =
-    record { unmarked = h .unmarked; counted = refl; state = inl (record { registered = refl; is = refl; proper = tt }) }
+    record { unmarked = h .unmarked; counted = refl; eight = refl; state = inl (record { registered = refl; is = refl; proper = tt }) }
 
 -- ---- begin
 

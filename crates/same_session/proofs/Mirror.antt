@@ -26,7 +26,7 @@ use Rattle.keyed.proofs.EachLaws.{Each}
 use Rattle.session.specs.declared.Floor.{Floor}
 use Rattle.session.specs.declared.Floor.the-variants.{Unset, At}
 use Rattle.session.specs.Session as session
-use Rattle.session.specs.Session.{Session, Reply, refuse, unless, floorFault}
+use Rattle.session.specs.Session.{Session, Reply, positionOf, refuse, unless, floorFault}
 use Rattle.session.specs.Trace.{Call, update, response, drain, begin, invalidate}
 use Rattle.session.specs.Observers.{isResponse}
 use Rattle.session.proofs.Model.{pushes, after, heldIn}
@@ -55,8 +55,8 @@ toldIn c session.nothing s = no-change
 toldIn c (session.changed d) s = delta (asDelta (s .topic) d)
 toldIn c (session.replayed index place d) s = replay (asReplay (s .topic) (getD (s .queue) index (s .baseline)) d)
 
-abbrev pub shownIn : Call → Reply → Session → Shown
-shownIn c reply s =
+abbrev pub shownIn : (reader : ℕ) → Call → Reply → Session → Shown
+shownIn reader c reply s =
     record {
       told = toldIn c reply s;
       assignment = Option·map (asAssignment (s .topic)) (heldIn s);
@@ -65,7 +65,7 @@ shownIn c reply s =
       registered = s .state .registered;
       invalidated = s .state .invalidated;
       waiting = cond (s .state .registered) [] (map (asAssignment (s .topic)) (s .queue));
-      undrained = cond (s .state .registered) (replays (s .topic) (s .baseline) (s .queue) (s .state .«drain_position»)) [];
+      undrained = cond (s .state .registered) (replays (s .topic) (s .baseline) (s .queue) (positionOf (s .state) reader)) [];
     }
 
 abbrev pub oursIn : Reply → Bool
@@ -97,17 +97,18 @@ pub record Idle (n : Registration) (s : Session) (c : Caller) : Type 0 where
   pub is : c ≡ caller n s none (s .queue) [] []
   pub proper : Each Proper (s .queue)
 
--- registered: the list is held, no push waits, and what the caller has not handed on is what is left to be drained
+-- registered: the list is held, no push waits, and what the caller has not handed on is what is left for the reader to drain
 pub record Live (n : Registration) (s : Session) (c : Caller) : Type 0 where
   pub registered : s .state .registered ≡ true
   pub is : c ≡ caller n s (holding s) [] (c .session .replayed-updates) (c .taken)
-  pub left : c .taken ++ c .session .replayed-updates ≡ replays (s .topic) (s .baseline) (s .queue) (s .state .«drain_position»)
+  pub left : c .taken ++ c .session .replayed-updates ≡ replays (s .topic) (s .baseline) (s .queue) (positionOf (s .state) (n .reader))
   pub proper : Proper (s .list)
 
 pub record Mirror (n : Registration) (s : Session) (c : Caller) : Type 0 where
   -- the Rust is compared on the parent
   pub unmarked : isMarked (s .topic) ≡ false
   pub counted : length (s .queue) ≡ s .state .«queue_count»
+  pub eight : length (s .state .«drain_positions») ≡ 8
   pub state : Idle n s c ⊎ Live n s c
 
 -- ---- of a call's result
@@ -174,7 +175,7 @@ refuse-fair n c s x e q p t m = λ o.
 no-text : (c : Call) (x : Refusal) → eqb (numberOf x) 16 ≡ false → textBeside c x ≡ []
 no-text (update message incarnation out) x h = refl
 no-text (response message incarnation) x h = rw h
-no-text (drain out) x h = refl
+no-text (drain by out) x h = refl
 no-text (begin incarnation) x h = refl
 no-text invalidate x h = refl
 

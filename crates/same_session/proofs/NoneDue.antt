@@ -10,7 +10,7 @@ use mathlib.Core.List.{List, [], _∷_}
 use mathlib.Core.Option.{Option, some, none}
 use lib.ListN.{length}
 use lib.Dec.{eqb, ltb, leb}
-use borrow.Author.Tests.{not-true, leb-true, le-leb, le-ltb, ltb-true, ltb-false, eqb-false}
+use borrow.Author.Tests.{not-true, leb-true, le-leb, lt-leb, le-ltb, ltb-true, ltb-false, eqb-false}
 use Rattle.types.specs.declared.ControllerIncarnation.{ControllerIncarnation}
 use Rattle.refusal.specs.declared.Refusal.{Refusal}
 use Rattle.schema.specs.declared.MessageKind.the-variants.{CommandScalableTopicAssignmentUpdate, CommandScalableTopicSubscribeResponse}
@@ -32,11 +32,11 @@ use Rattle.packed_queue.proofs.EntryLaws.{size-most}
 use Rattle.session.specs.Store.{minStore, minOutput, maxQueue, identitySlot, slot, queueIn, queueEnd, writeAll}
 use Rattle.session.specs.Identity.{isIdentity}
 use Rattle.session.specs.Session as session
-use Rattle.session.specs.Session.{Session, view, damaged, unless, floorFault}
+use Rattle.session.specs.Session.{Session, readers, view, damaged, unless, floorFault}
 use Rattle.session.specs.Update.{updateUnregistered, updateRegistered, updateContent, updateValid, updateChecked, updateCall}
 use Rattle.session.specs.Response.{staleFault, replayable, responseAssignment, responseContent, denied, responseValid, responseChecked}
 use Rattle.session.specs.Response.{responseCall}
-use Rattle.session.specs.Drain.{Found, end, entry, nextChange, drained, drainCall}
+use Rattle.session.specs.Drain.{Found, end, entry, drained, nextFor, drainCall}
 use Rattle.session.specs.Calls.{Outcome}
 use Rattle.session.specs.Trace.{Call, update, response, drain, begin, invalidate}
 use Rattle.session.specs.DemandThree.{Fresh, AllOfBytes}
@@ -73,10 +73,10 @@ module _ (room : ℕ) (most : room ≤ slotSize) where
   clean-unless none s x t c = c
   clean-unless (some r) s x t c = (t .0, tt)
 
-  clean-found : (s : Session) (f : Found) → Clean (drained s f)
+  clean-found : (s : Session) (by : ℕ) (f : Found) → Clean (drained s by f)
   unfolding drained
-  clean-found s end = (refl, tt)
-  clean-found s (entry i d) = (refl, tt)
+  clean-found s by end = (refl, tt)
+  clean-found s by (entry i d) = (refl, tt)
 
   clean-content : (limit : ℕ) → limit ≤ slotSize → (answer : Content → session.Result) (v : Option Refusal) (a : ConsumerAssignment)
       → fitsBy v (leb (sizeAssignment a) limit) ≡ true → ((x : Refusal) → ours x ≡ false → Clean (answer (refused x)))
@@ -170,12 +170,13 @@ module _ (room : ℕ) (most : room ≤ slotSize) where
         let q = both-true (isTaken k) (not (responseOf message .hasAssignment) || fits slotSize (s .topic) (responseOf message .assignment)) h in
         choose Clean (ltb (s .size) minStore) (no-true (ltb (s .size) minStore) large) (λ t.
         choose Clean (damaged s) (no-true (damaged s) sound) (λ t. clean-response message link k (q .0) (q .1)))
-    clean-call (drain out) h =
+    clean-call (drain by out) h =
+        let p = both-true (leb minOutput (length out)) (ltb by readers) h in
         choose Clean (ltb (s .size) minStore) (no-true (ltb (s .size) minStore) large) (λ t.
-        choose Clean (ltb (length out) minOutput) (no-true (ltb (length out) minOutput) (long out h)) (λ t.
+        choose Clean (ltb (length out) minOutput) (no-true (ltb (length out) minOutput) (long out (p .0))) (λ t.
+        choose Clean (leb readers by) (no-true (leb readers by) (lt-leb readers by (ltb-true by readers (p .1)))) (λ t.
         choose Clean (damaged s) (no-true (damaged s) sound) (λ t.
-        choose Clean (s .state .registered)
-        (λ u. clean-found s (nextChange 0 (s .baseline) (s .queue) (s .state .«drain_position»))) (λ u. (refl, tt)))))
+        choose Clean (s .state .registered) (λ u. clean-found s by (nextFor s by)) (λ u. (refl, tt))))))
     clean-call (begin link) h = choose Clean (ltb (s .state .incarnation .0) (link .0)) (λ t. (refl, tt)) (λ t. (refl, tt))
     clean-call invalidate h = (refl, tt)
 
@@ -247,8 +248,9 @@ unfolding view
 none-due r f st good room most big calls bytes e = none-from room most calls r st (well-fresh room r st f big good) bytes e
 
 pub demand-two-of-inputs : DemandTwoOfInputs
-demand-two-of-inputs r f st unmarked good room most big calls bytes e =
-    let n : noneOurs r st calls ≡ true = none-due r f st good room most big calls bytes e in (n, demand-two r f st unmarked calls bytes n)
+demand-two-of-inputs r f st unmarked good room most big calls bytes reader o e =
+    let n : noneOurs r st calls ≡ true = none-due r f st good room most big calls bytes e in
+    (n, demand-two r f st unmarked calls bytes reader o n)
 
 pub rooms : Rooms
 rooms = (refl, refl)

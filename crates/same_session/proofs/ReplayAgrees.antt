@@ -51,8 +51,9 @@ raise-agrees (At f) epoch = go (ltb f epoch) refl
 
 -- ---- a session of the Rust, by its fields
 
--- those that no method reads
+-- those that no method reads, and the reader that drains
 pub record Registration : Type 0 where
+  pub reader : ℕ
   pub subscription : Text
   pub consumer-name : Text
   pub consumer-type : ScalableConsumerType

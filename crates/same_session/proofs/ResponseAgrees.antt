@@ -34,6 +34,7 @@ use Rattle.session.specs.Session.{Session, damaged, refuse, unless, floorFault,
 use Rattle.session.specs.Response.{staleFault, lastList, replayable, register, responseAssignment, responseContent, denied, responseValid}
 use Rattle.session.specs.Response.{responseChecked, responseCall}
 use Rattle.session.specs.Trace.{Call, response}
+use Rattle.session.proofs.PositionLaws.{start-zero}
 use Rattle.session.proofs.QueueLaws.{raise-over, stale-last, last-proper}
 use Rattle.session.proofs.CallLaws.{read-proper}
 use Rattle.magnetar.specs.Result.{Result, ok-or}
@@ -141,11 +142,12 @@ module _ (n : Registration) (message : List ℕ) (link : ControllerIncarnation) 
           record {
             unmarked = h .unmarked;
             counted = counted;
+            eight = refl;
             state =
                 inr (record {
                   registered = refl;
                   is = ap (λ f. record { session = registered f; taken = [] }) (sym (raised e));
-                  left = refl;
+                  left = ap (replays (s .topic) b q) (sym (start-zero (n .reader)));
                   proper = last-proper b q pb each;
                 });
           }

@@ -11,13 +11,14 @@ use mathlib.Core.Option.{some, none, Option·map}
 use lib.ListN.{length, drop, getD}
 use lib.Seq.{take-at}
 use lib.Dec.{ltb}
+use borrow.Author.Tests.{eqb-true}
 use Rattle.packed.specs.Assignment as port
 use Rattle.session.specs.declared.SessionRecord.{SessionRecord}
 use Rattle.packed_queue.proofs.EntryLaws.{length-entriesOf}
 use Rattle.session.specs.Store.{listIn, queueIn, writeAll}
 use Rattle.session.specs.Session as session
-use Rattle.session.specs.Session.{Session, Reply, view}
-use Rattle.session.specs.Drain.{Found, end, entry, nextChange, placeOf, drained}
+use Rattle.session.specs.Session.{Session, Reply, positionOf, view}
+use Rattle.session.specs.Drain.{Found, end, entry, placeOf, drained, nextFor}
 use Rattle.session.specs.Calls.{answerOf, outputOf, effectOf}
 use Rattle.session.specs.Trace.{Call, update, response, drain, begin, invalidate}
 use Rattle.session.proofs.Model.{resultOf, after}
@@ -27,7 +28,7 @@ use Rattle.session.proofs.ViewLaws.{Kept, FitReply, Follows}
 use Rattle.session.proofs.TraceLaws.{delta-back, outOf}
 use Rattle.keyed.proofs.KeyedLaws.{choose}
 use Rattle.same_session.specs.Values.{asAssignment, asDelta, asReplay, asFloor, replays}
-use Rattle.same_session.specs.Demand.{Told, delta, replay, Shown, topicIn, sheetAt, toldBy, portShown, Caller, Turn, rustStep, rustShown}
+use Rattle.same_session.specs.Demand.{Told, delta, replay, Shown, topicIn, sheetAt, toldBy, portShown, drainsBy, Caller, Turn, rustStep, rustShown}
 use Rattle.same_session.proofs.ReplayAgrees.{Registration, Next, replays-entry}
 use Rattle.same_session.proofs.Mirror.{toldIn, shownIn, Idle, Live, Mirror, Good, Fair}
 use Rattle.same_session.proofs.UpdateAgrees.{fair-update}
@@ -35,17 +36,20 @@ use Rattle.same_session.proofs.ResponseAgrees.{fair-response}
 use Rattle.same_session.proofs.DrainAgrees.{fair-drain}
 use Rattle.same_session.proofs.LinkAgrees.{fair-begin, fair-invalidate}
 
-pub fair-call : (n : Registration) (w : Call) (s : Session) (c : Caller) → Mirror n s c → Fair n w s (resultOf s w) (rustStep c w)
-fair-call n (update message link out) s c h = fair-update n message link out s c h
-fair-call n (response message link) s c h = fair-response n message link s c h
-fair-call n (drain out) s c h = fair-drain n out s c h
-fair-call n (begin link) s c h = fair-begin n link s c h
-fair-call n invalidate s c h = fair-invalidate n s c h
+pub fair-call : (n : Registration) (w : Call) (s : Session) (c : Caller) → drainsBy (n .reader) w ≡ true → Mirror n s c
+    → Fair n w s (resultOf s w) (rustStep c w)
+fair-call n (update message link out) s c o h = fair-update n message link out s c h
+fair-call n (response message link) s c o h = fair-response n message link s c h
+fair-call n (drain by out) s c o h =
+    subst (λ k. Fair n (drain k out) s (resultOf s (drain k out)) (rustStep c (drain k out))) (sym (eqb-true by (n .reader) o))
+    (fair-drain n out s c h)
+fair-call n (begin link) s c o h = fair-begin n link s c h
+fair-call n invalidate s c o h = fair-invalidate n s c h
 
 -- ---- what is shown
 
 pub shown-agrees : (n : Registration) (w : Call) (s : Session) (x : session.Result) (y : Turn) → Good n w s x y
-    → shownIn w (x .reply) (after s x) ≡ rustShown y
+    → shownIn (n .reader) w (x .reply) (after s x) ≡ rustShown y
 shown-agrees n w s x y g = go (g .mirror .state)
   where
     z : Session
@@ -62,10 +66,10 @@ shown-agrees n w s x y g = go (g .mirror .state)
           registered = b;
           invalidated = z .state .invalidated;
           waiting = cond b [] (map (asAssignment (z .topic)) (z .queue));
-          undrained = cond b (replays (z .topic) (z .baseline) (z .queue) (z .state .«drain_position»)) [];
+          undrained = cond b (replays (z .topic) (z .baseline) (z .queue) (positionOf (z .state) (n .reader))) [];
         }
 
-    go : Idle n (after s x) (y .next) ⊎ Live n (after s x) (y .next) → shownIn w (x .reply) (after s x) ≡ rustShown y
+    go : Idle n (after s x) (y .next) ⊎ Live n (after s x) (y .next) → shownIn (n .reader) w (x .reply) (after s x) ≡ rustShown y
     go (inl d) =
         (λ i. shown (g .told i) (d .registered i))
         ∙ ap (λ c. rustShown (record { told = y .told; next = c })) (sym (d .is))
@@ -98,12 +102,12 @@ module _ (s : Session) (counted : length (s .queue) ≡ s .state .«queue_count�
   abbrev PlacedIn : session.Result → Type 0
   PlacedIn x = Placed (after s x .queue) (x .reply)
 
-  placed-found : (f : Found) → nextChange 0 (s .baseline) (s .queue) (s .state .«drain_position») ≡ f → PlacedIn (drained s f)
+  placed-found : (by : ℕ) (f : Found) → nextFor s by ≡ f → PlacedIn (drained s by f)
   unfolding drained
-  placed-found end e = tt
-  placed-found (entry j d) e =
-      let h : Next [] (s .baseline) 0 (s .baseline) (s .queue) (s .state .«drain_position») j d =
-      replays-entry [] (s .baseline) 0 (s .baseline) (s .queue) (s .state .«drain_position») j d e in
+  placed-found by end e = tt
+  placed-found by (entry j d) e =
+      let h : Next [] (s .baseline) 0 (s .baseline) (s .queue) (positionOf (s .state) by) j d =
+      replays-entry [] (s .baseline) 0 (s .baseline) (s .queue) (positionOf (s .state) by) j d e in
       subst (λ q. Placed q (session.replayed j (placeOf (s .queue) j) d)) (sym (take-at (s .queue) [] (s .state .«queue_count») counted))
       (refl, omega (arith, h .at, h .inside))
 
@@ -111,9 +115,7 @@ module _ (s : Session) (counted : length (s .queue) ≡ s .state .«queue_count�
   placed-call (update message link out) =
       update-cases s PlacedIn (λ x. tt) message link (length out) (λ t u. tt) (λ t u. tt) (λ t. tt)
   placed-call (response message link) = response-cases s PlacedIn (λ x. tt) message link (λ t u. tt)
-  placed-call (drain out) =
-      drain-cases s PlacedIn (λ x. tt) (length out)
-      (λ t. placed-found (nextChange 0 (s .baseline) (s .queue) (s .state .«drain_position»)) refl) (λ t. tt)
+  placed-call (drain by out) = drain-cases s PlacedIn (λ x. tt) by (length out) (λ t. placed-found by (nextFor s by) refl) (λ t. tt)
   placed-call (begin link) = choose PlacedIn (ltb (s .state .incarnation .0) (link .0)) (λ t. tt) (λ t. tt)
   placed-call invalidate = tt
 
@@ -138,28 +140,28 @@ module _ (r : SessionRecord) (st : List ℕ) (k : Kept r st) (w : Call) (out : L
       ap₂ (λ a x. replay (asReplay (topicIn st) a x)) (ap (sheetAt st) (p .0) ∙ sheet-entry index (p .1)) (delta-back d out f)
 
 -- a result as bytes shows what the record and the store show when they are read
-result-shows : (st : List ℕ) (w : Call) (out : List ℕ) (x : session.Result) → Kept (x .next) (writeAll (x .writes) st) → FitReply (x .reply)
+result-shows : (reader : ℕ) (st : List ℕ) (w : Call) (out : List ℕ) (x : session.Result) → Kept (x .next) (writeAll (x .writes) st) → FitReply (x .reply)
     → Placed (view (x .next) (writeAll (x .writes) st) .queue) (x .reply)
-    → portShown w (effectOf x st out) ≡ shownIn w (x .reply) (view (x .next) (writeAll (x .writes) st))
+    → portShown reader w (effectOf x st out) ≡ shownIn reader w (x .reply) (view (x .next) (writeAll (x .writes) st))
 unfolding view
-result-shows st w out x k f p = λ i.
+result-shows reader st w out x k f p = λ i.
     let s = view (x .next) (writeAll (x .writes) st) in
     record {
       told = told-is (x .next) (writeAll (x .writes) st) k w out (x .reply) f p i;
-      assignment = shownIn w (x .reply) s .assignment;
-      epoch-floor = shownIn w (x .reply) s .epoch-floor;
-      incarnation = shownIn w (x .reply) s .incarnation;
-      registered = shownIn w (x .reply) s .registered;
-      invalidated = shownIn w (x .reply) s .invalidated;
-      waiting = shownIn w (x .reply) s .waiting;
-      undrained = shownIn w (x .reply) s .undrained;
+      assignment = shownIn reader w (x .reply) s .assignment;
+      epoch-floor = shownIn reader w (x .reply) s .epoch-floor;
+      incarnation = shownIn reader w (x .reply) s .incarnation;
+      registered = shownIn reader w (x .reply) s .registered;
+      invalidated = shownIn reader w (x .reply) s .invalidated;
+      waiting = shownIn reader w (x .reply) s .waiting;
+      undrained = shownIn reader w (x .reply) s .undrained;
     }
 
-pub bytes-show : (r : SessionRecord) (st : List ℕ) (w : Call) → Follows r st (resultOf (view r st) w)
-    → portShown w (effectOf (resultOf (view r st) w) st (outOf w))
-    ≡ shownIn w (resultOf (view r st) w .reply) (after (view r st) (resultOf (view r st) w))
-bytes-show r st w f =
+pub bytes-show : (reader : ℕ) (r : SessionRecord) (st : List ℕ) (w : Call) → Follows r st (resultOf (view r st) w)
+    → portShown reader w (effectOf (resultOf (view r st) w) st (outOf w))
+    ≡ shownIn reader w (resultOf (view r st) w .reply) (after (view r st) (resultOf (view r st) w))
+bytes-show reader r st w f =
     let x : session.Result = resultOf (view r st) w in
     let p : Placed (view (x .next) (writeAll (x .writes) st) .queue) (x .reply) =
     subst (λ (s : Session). Placed (s .queue) (x .reply)) (sym (f .session)) (placed-call (view r st) (view-counted r st) w) in
-    result-shows st w (outOf w) x (f .kept) (f .reply) p ∙ ap (shownIn w (x .reply)) (f .session)
+    result-shows reader st w (outOf w) x (f .kept) (f .reply) p ∙ ap (shownIn reader w (x .reply)) (f .session)

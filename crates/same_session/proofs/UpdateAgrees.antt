@@ -32,7 +32,7 @@ use Rattle.session.specs.declared.Floor.{Floor}
 use Rattle.packed_queue.specs.Entries.{sizeEntry}
 use Rattle.session.specs.Store.{minStore, minOutput, maxQueue, queueEnd}
 use Rattle.session.specs.Session as session
-use Rattle.session.specs.Session.{Session, damaged}
+use Rattle.session.specs.Session.{Session, positionOf, damaged}
 use Rattle.session.specs.Update.{enqueue, hold, updateUnregistered, updateRegistered, updateContent, updateValid, updateChecked, updateCall}
 use Rattle.session.specs.Trace.{Call, update}
 use Rattle.session.proofs.Model.{after}
@@ -126,6 +126,7 @@ module _ (n : Registration) (message : List ℕ) (link : ControllerIncarnation) 
         record {
           unmarked = h .unmarked;
           counted = omega (arith, h .counted, length-append (s .queue) (a ∷ []));
+          eight = h .eight;
           state = inl (record { registered = idle; is = refl; proper = each-append Proper (s .queue) (a ∷ []) each (pa, tt) });
         }
 
@@ -160,7 +161,7 @@ module _ (n : Registration) (message : List ℕ) (link : ControllerIncarnation) 
         (λ w f. absurd (true≢false (sym (no-room (s .state .«queue_count») v) ∙ f))) (λ w. enqueue-fair))))
 
   module _ (live : s .state .registered ≡ true) (pl : Proper (s .list)) (r t : List AssignmentReplay)
-      (left : t ++ r ≡ replays (s .topic) (s .baseline) (s .queue) (s .state .«drain_position»))
+      (left : t ++ r ≡ replays (s .topic) (s .baseline) (s .queue) (positionOf (s .state) (n .reader)))
       (h : Mirror n s (caller n s (holding s) [] r t)) (a : port.ConsumerAssignment) (pa : Proper a) where
     abbrev held : ScalableConsumerSession
     held = rust n s (holding s) [] r
@@ -198,6 +199,7 @@ module _ (n : Registration) (message : List ℕ) (link : ControllerIncarnation) 
               (record {
                 unmarked = h .unmarked;
                 counted = h .counted;
+                eight = h .eight;
                 state = inr (record { registered = live; is = refl; left = left; proper = pa });
               });
         })

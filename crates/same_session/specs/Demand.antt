@@ -18,7 +18,7 @@ use mathlib.Core.List.{List, [], _∷_, _++_, map}
 use mathlib.Core.Option.{Option, some, none, Option·map}
 use lib.ListN.{length, take, drop, getD}
 use lib.IntN.{pos, natAbs}
-use lib.Dec.{eqb, leb}
+use lib.Dec.{eqb, leb, ltb}
 use Rattle.types.specs.declared.ControllerIncarnation.{ControllerIncarnation}
 use Rattle.refusal.specs.declared.Refusal.{Refusal}
 use Rattle.refusal.specs.Refusals.{numberOf, valuesOf}
@@ -36,6 +36,7 @@ use Rattle.session.specs.declared.SessionRecord.{SessionRecord}
 use Rattle.session.specs.declared.Answer.{Answer}
 use Rattle.session.specs.declared.Answer.the-variants.{Refused, Accepted, Unchanged, Delta, Replay}
 use Rattle.session.specs.Store.{minStore, minOutput, maxQueue, identitySlot, baselineSlot, slot, listIn, queueIn}
+use Rattle.session.specs.Session.{readers, positionOf}
 use Rattle.session.specs.Identity.{topicOf, subscriptionOf, consumerNameOf, kindOf, isIdentity}
 use Rattle.session.specs.Calls.{Outcome}
 use Rattle.session.specs.Trace.{Call, update, response, drain, begin, invalidate, stepOf}
@@ -85,7 +86,7 @@ topicIn store = topicOf (slot store identitySlot)
 abbrev pub textBeside : Call → Refusal → Text
 textBeside (update message incarnation out) x = []
 textBeside (response message incarnation) x = cond (eqb (numberOf x) 16) (responseOf message .message) []
-textBeside (drain out) x = []
+textBeside (drain by out) x = []
 textBeside (begin incarnation) x = []
 textBeside invalidate x = []
 
@@ -101,8 +102,9 @@ toldBy c Unchanged store out = no-change
 toldBy c (Delta n) store out = delta (asDelta (topicIn store) (deltaOf (take n out)))
 toldBy c (Replay place n) store out = replay (asReplay (topicIn store) (sheetAt store place) (deltaOf (take n out)))
 
-abbrev pub portShown : Call → Outcome → Shown
-portShown c x =
+-- with what is left for that reader to drain
+abbrev pub portShown : (reader : ℕ) → Call → Outcome → Shown
+portShown reader c x =
     record {
       told = toldBy c (x .answer) (x .store) (x .out);
       assignment = Option·map (asAssignment (topicIn (x .store))) (held (record { state = x .next; store = x .store }));
@@ -113,12 +115,13 @@ portShown c x =
       waiting = cond (x .next .registered) [] (map (asAssignment (topicIn (x .store))) (queueIn (x .store) (x .next .«queue_count»)));
       undrained =
           cond (x .next .registered)
-          (replays (topicIn (x .store)) (listIn (x .store) baselineSlot) (queueIn (x .store) (x .next .«queue_count»)) (x .next .«drain_position»)) [];
+          (replays (topicIn (x .store)) (listIn (x .store) baselineSlot) (queueIn (x .store) (x .next .«queue_count»)) (positionOf (x .next) reader)) [];
     }
 
-abbrev pub portRun : SessionRecord → List ℕ → List Call → List Shown
-portRun r store [] = []
-portRun r store (c ∷ cs) = portShown c (stepOf r store c) ∷ portRun (stepOf r store c .next) (stepOf r store c .store) cs
+abbrev pub portRun : (reader : ℕ) → SessionRecord → List ℕ → List Call → List Shown
+portRun reader r store [] = []
+portRun reader r store (c ∷ cs) =
+    portShown reader c (stepOf r store c) ∷ portRun reader (stepOf r store c .next) (stepOf r store c .store) cs
 
 -- ---- the Rust's run
 
@@ -174,7 +177,7 @@ rustResponse c incarnation message checked.Valid =
 abbrev pub rustStep : Caller → Call → Turn
 rustStep c (update message incarnation out) = rustUpdate c incarnation message (firstFault CommandScalableTopicAssignmentUpdate message)
 rustStep c (response message incarnation) = rustResponse c incarnation message (firstFault CommandScalableTopicSubscribeResponse message)
-rustStep c (drain out) = let d = take-replayed-updates (c .session) in afterTake (c .taken) (d .after) (d .result)
+rustStep c (drain by out) = let d = take-replayed-updates (c .session) in afterTake (c .taken) (d .after) (d .result)
 rustStep c (begin incarnation) = let d = begin-incarnation incarnation (c .session) in afterLink (c .taken) (d .after) (d .result)
 rustStep c invalidate = let d = invalidate-authority (c .session) in afterLink (c .taken) (d .after) (d .result)
 
@@ -206,11 +209,11 @@ opened r store =
       taken = [];
     }
 
--- ---- "Ours, due in these cases only: 1 to 8, 15, 20 to 22, 30, 31."; 34 (02 e: "The Rust accepts it, so runs in which 34 is due are not
+-- ---- "Ours, due in these cases only: 1 to 8, 15, 20 to 22, 30, 31."; 33 (02 d: the Rust has no readers); 34 (02 e: "The Rust accepts it, so runs in which 34 is due are not
 -- compared with it"); and 28 where length and list do not fit the free end, which its max tells: "1,024 or the number queued" (02 j)
 
 abbrev pub oursByNumber : ℕ → Bool
-oursByNumber n = (leb 1 n && leb n 8) || (eqb n 15 || ((leb 20 n && leb n 22) || (eqb n 30 || (eqb n 31 || eqb n 34))))
+oursByNumber n = (leb 1 n && leb n 8) || (eqb n 15 || ((leb 20 n && leb n 22) || (eqb n 30 || (eqb n 31 || (eqb n 33 || eqb n 34)))))
 
 -- the first attached number
 abbrev pub firstValue : Refusal → ℕ
@@ -241,11 +244,24 @@ fedCalls r store (c ∷ cs) =
     let x = stepOf r store c in
     cond (isOurs (x .answer)) (fedCalls (x .next) (x .store) cs) (c ∷ fedCalls (x .next) (x .store) cs)
 
-abbrev pub fedShown : SessionRecord → List ℕ → List Call → List Shown
-fedShown r store [] = []
-fedShown r store (c ∷ cs) =
+abbrev pub fedShown : (reader : ℕ) → SessionRecord → List ℕ → List Call → List Shown
+fedShown reader r store [] = []
+fedShown reader r store (c ∷ cs) =
     let x = stepOf r store c in
-    cond (isOurs (x .answer)) (fedShown (x .next) (x .store) cs) (portShown c x ∷ fedShown (x .next) (x .store) cs)
+    cond (isOurs (x .answer)) (fedShown reader (x .next) (x .store) cs) (portShown reader c x ∷ fedShown reader (x .next) (x .store) cs)
+
+-- ---- "Runs against the Rust keep to drains by one reader." (02 d)
+
+abbrev pub drainsBy : (reader : ℕ) → Call → Bool
+drainsBy reader (update message incarnation out) = true
+drainsBy reader (response message incarnation) = true
+drainsBy reader (drain by out) = eqb by reader
+drainsBy reader (begin incarnation) = true
+drainsBy reader invalidate = true
+
+abbrev pub oneReader : (reader : ℕ) → List Call → Bool
+oneReader reader [] = true
+oneReader reader (c ∷ cs) = drainsBy reader c && oneReader reader cs
 
 -- ---- the inputs of a call on which none of ours is due
 
@@ -269,7 +285,7 @@ roomy room parent (update message incarnation out) =
 roomy room parent (response message incarnation) =
     isTaken (firstFault CommandScalableTopicSubscribeResponse message)
     && (not (responseOf message .hasAssignment) || fits slotSize parent (responseOf message .assignment))
-roomy room parent (drain out) = leb minOutput (length out)
+roomy room parent (drain by out) = leb minOutput (length out) && ltb by readers
 roomy room parent (begin incarnation) = true
 roomy room parent invalidate = true
 
@@ -287,15 +303,15 @@ storeFor room = minStore + maxQueue * (2 + room)
 abbrev pub DemandTwoFed : Type 0
 DemandTwoFed =
     (r : SessionRecord) → Fresh r → (store : List ℕ) → isMarked (topicIn store) ≡ false
-    → (calls : List Call) → AllOfBytes calls
-    → fedShown r store calls ≡ rustRun (opened r store) (fedCalls r store calls)
+    → (calls : List Call) → AllOfBytes calls → (reader : ℕ) → oneReader reader calls ≡ true
+    → fedShown reader r store calls ≡ rustRun (opened r store) (fedCalls r store calls)
 
 -- where none of ours is due
 abbrev pub DemandTwo : Type 0
 DemandTwo =
     (r : SessionRecord) → Fresh r → (store : List ℕ) → isMarked (topicIn store) ≡ false
-    → (calls : List Call) → AllOfBytes calls
-    → noneOurs r store calls ≡ true → portRun r store calls ≡ rustRun (opened r store) calls
+    → (calls : List Call) → AllOfBytes calls → (reader : ℕ) → oneReader reader calls ≡ true
+    → noneOurs r store calls ≡ true → portRun reader r store calls ≡ rustRun (opened r store) calls
 
 -- which is so by the inputs alone: with a well-formed identity, outputs of at least 3,210 bytes, messages that the reader takes, and
 -- assignments that are refused for their content or are no longer than the store has room for. In a store of 01's full size, 2,103,296
@@ -304,8 +320,8 @@ abbrev pub DemandTwoOfInputs : Type 0
 DemandTwoOfInputs =
     (r : SessionRecord) → Fresh r → (store : List ℕ) → isMarked (topicIn store) ≡ false
     → isIdentity (slot store identitySlot) ≡ true → (room : ℕ) → room ≤ slotSize → storeFor room ≤ length store
-    → (calls : List Call) → AllOfBytes calls → allRoomy room (topicIn store) calls ≡ true
-    → (noneOurs r store calls ≡ true) × (portRun r store calls ≡ rustRun (opened r store) calls)
+    → (calls : List Call) → AllOfBytes calls → (reader : ℕ) → oneReader reader calls ≡ true → allRoomy room (topicIn store) calls ≡ true
+    → (noneOurs r store calls ≡ true) × (portRun reader r store calls ≡ rustRun (opened r store) calls)
 
 abbrev pub Rooms : Type 0
 Rooms = (storeFor 2046 ≡ 2103296) × (storeFor 2048 ≡ 2105344)

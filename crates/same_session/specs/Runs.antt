@@ -100,10 +100,10 @@ pub record Runs : Type 0 where
   pub registered-again : tells (answered 5 ∷ answered 4 ∷ answered 5 ∷ [])
       ≡ baseline (none-at 5) ∷ refuses (CrossIncarnationEpochRegression 4 5) [] ∷ baseline (none-at 5) ∷ []
   -- equal pushes are queued, and not handed out
-  pub equal-pushes : tells (pushed 5 ∷ pushed 5 ∷ answered 4 ∷ drain [] ∷ drain [] ∷ [])
+  pub equal-pushes : tells (pushed 5 ∷ pushed 5 ∷ answered 4 ∷ drain 0 [] ∷ drain 0 [] ∷ [])
       ≡ no-change ∷ no-change ∷ baseline (none-at 4) ∷ replay (record { assignment = none-at 5; delta = change 5 [] }) ∷ no-change ∷ []
   -- an update before the drain: the drain still hands out the older delta
-  pub update-between : tells (pushed 5 ∷ answered 4 ∷ pushed 6 ∷ drain [] ∷ [])
+  pub update-between : tells (pushed 5 ∷ answered 4 ∷ pushed 6 ∷ drain 0 [] ∷ [])
       ≡ no-change ∷ baseline (none-at 4) ∷ delta (change 6 []) ∷ replay (record { assignment = none-at 5; delta = change 5 [] }) ∷ []
   -- the floor is the last list's epoch before any drain, and outlives begin
   pub floor-kept : floors (pushed 9 ∷ answered 3 ∷ begin (link 2) ∷ []) ≡ none ∷ some 9 ∷ some 9 ∷ []

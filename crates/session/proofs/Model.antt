@@ -32,7 +32,7 @@ invalidateCall s = record { reply = accepted; next = unregistered (s .state) (s 
 abbrev pub resultOf : Session → Call → Result
 resultOf s (update message incarnation out) = updateCall s message incarnation (length out)
 resultOf s (response message incarnation) = responseCall s message incarnation
-resultOf s (drain out) = drainCall s (length out)
+resultOf s (drain reader out) = drainCall s reader (length out)
 resultOf s (begin incarnation) = beginCall s incarnation
 resultOf s invalidate = invalidateCall s
 

@@ -13,7 +13,7 @@ use mathlib.Core.List.{List, [], _∷_, append-nil}
 use mathlib.Core.Option.{Option, some, none}
 use lib.ListN.{length, take}
 use lib.Seq.{take-at}
-use lib.Dec.{eqb, ltb}
+use lib.Dec.{eqb, ltb, leb}
 use borrow.Author.Tests.{ltb-false, eqb-false}
 use Rattle.types.specs.declared.ControllerIncarnation.{ControllerIncarnation}
 use Rattle.refusal.specs.declared.Refusal.{Refusal}
@@ -38,7 +38,7 @@ use Rattle.content.proofs.WideLaws.{Wide, update-wide, response-wide}
 use Rattle.content.proofs.ContentLaws.{content-fits}
 use Rattle.session.specs.declared.SessionRecord.{SessionRecord}
 use Rattle.session.specs.Store.{maxQueue, listIn, queueIn, queueEnd, writeAll}
-use Rattle.session.specs.Session.{Session, view, damaged, Result, refuse, unless, floorFault}
+use Rattle.session.specs.Session.{Session, readers, positionOf, view, damaged, Result, refuse, unless, floorFault}
 use Rattle.session.specs.Session.{Reply, refused, accepted, nothing, changed, replayed}
 use Rattle.session.specs.Update.{updateUnregistered, updateRegistered, updateContent, updateValid, updateChecked, updateCall}
 use Rattle.session.specs.Response.{staleFault, lastList, replayable}
@@ -50,6 +50,7 @@ use Rattle.session.specs.Trace.{Call, update, response, drain, begin, in
 use Rattle.session.specs.Trace.{isAccepted, isNone, handedOut, eventOf, trace, final}
 use Rattle.session.specs.DemandThree.{OfBytes, AllOfBytes}
 use Rattle.session.proofs.Model.{beginCall, resultOf, accepts, isNothing, handed, valueEvent, valueTrace, valueFinal}
+use Rattle.session.proofs.PositionLaws.{within-start, within-moved}
 use Rattle.session.proofs.SlotLaws.{queued-lists, queued-packable}
 use Rattle.session.proofs.ViewLaws.{delta-fits, last-packable, stands-packable, Kept, FitReply, Follows}
 use Rattle.session.proofs.ViewLaws.{follow-still, follow-hold, follow-enqueue, follow-register}
@@ -80,11 +81,11 @@ module _ (r : SessionRecord) (st : List ℕ) (k : Kept r st) where
 
   follow-refuse : (x : Refusal) → Follows r st (refuse x now)
   unfolding view
-  follow-refuse x = follow-still r st k (refused x) r tt (λ t. t) (omega arith) (k .position)
+  follow-refuse x = follow-still r st k (refused x) r tt (λ t. t) (omega arith) (k .positions)
 
   follow-none : Follows r st (record { reply = nothing; next = now .state; writes = [] })
   unfolding view
-  follow-none = follow-still r st k nothing r tt (λ t. t) (omega arith) (k .position)
+  follow-none = follow-still r st k nothing r tt (λ t. t) (omega arith) (k .positions)
 
   follow-unless : (o : Option Refusal) (x : Result) → Follows r st x → Follows r st (unless o now x)
   follow-unless none x h = h
@@ -169,37 +170,42 @@ module _ (r : SessionRecord) (st : List ℕ) (k : Kept r st) where
         choose (Follows r st) (damaged now) (λ t. follow-refuse _) (λ t.
         response-checked (ltb-false (length st) 6144 small) (firstFault CommandScalableTopicSubscribeResponse message)))
 
-  follow-found : (f : Found) → FoundBefore (r .«queue_count») f → Follows r st (drained now f)
+  follow-found : (reader : ℕ) (f : Found) → FoundBefore (r .«queue_count») f → Follows r st (drained now reader f)
   unfolding drained view
-  follow-found end p = follow-still r st k nothing _ tt (λ t. t) (omega arith) (omega arith)
-  follow-found (entry i d) p = follow-still r st k (replayed _ _ d) _ (p .0) (λ t. t) (omega arith) (p .1)
+  follow-found reader end p =
+      follow-still r st k nothing _ tt (λ t. t) (omega arith)
+      (within-moved (r .«queue_count») (r .«queue_count») (r .«drain_positions») reader (omega arith) (k .positions))
+  follow-found reader (entry i d) p =
+      follow-still r st k (replayed _ _ d) _ (p .0) (λ t. t) (omega arith)
+      (within-moved (r .«queue_count») (suc i) (r .«drain_positions») reader (p .1) (k .positions))
 
-  pub follow-drain : (output : ℕ) → Follows r st (drainCall now output)
+  pub follow-drain : (reader output : ℕ) → Follows r st (drainCall now reader output)
   unfolding drainCall view
-  follow-drain output =
+  follow-drain reader output =
       choose (Follows r st) (ltb (length st) 6144) (λ t. follow-refuse _) (λ small.
       choose (Follows r st) (ltb output 3210) (λ t. follow-refuse _) (λ t.
+      choose (Follows r st) (leb readers reader) (λ t. follow-refuse _) (λ t.
       choose (Follows r st) (damaged now) (λ t. follow-refuse _) (λ t.
       choose (Follows r st) (r .registered)
-      (λ t. follow-found (nextChange 0 (listIn st 1) queued (r .«drain_position»))
-      (found-before (r .«queue_count») 0 (listIn st 1) queued (r .«drain_position») (omega (arith, k .queue .counted, ap length (queued-lists st (r .«queue_count») (k .queue))))
+      (λ t. follow-found reader (nextChange 0 (listIn st 1) queued (positionOf r reader))
+      (found-before (r .«queue_count») 0 (listIn st 1) queued (positionOf r reader) (omega (arith, k .queue .counted, ap length (queued-lists st (r .«queue_count») (k .queue))))
       (stands-packable st 1 (k .baseline t)) (queued-packable st (r .«queue_count») (k .queue))))
-      (λ t. follow-none))))
+      (λ t. follow-none)))))
 
   pub follow-begin : (incarnation : ControllerIncarnation) → Follows r st (beginCall now incarnation)
   unfolding view
   follow-begin incarnation =
       choose (Follows r st) (ltb (r .incarnation .0) (incarnation .0))
-      (λ t. follow-still r st k accepted _ tt (λ e. absurd (false≢true e)) (omega arith) (omega arith))
+      (λ t. follow-still r st k accepted _ tt (λ e. absurd (false≢true e)) (omega arith) (within-start 0))
       (λ t. follow-refuse _)
 
   pub follow-call : (c : Call) → OfBytes c → Follows r st (resultOf now c)
   unfolding view
   follow-call (update message incarnation out) b = follow-update message b incarnation (length out)
   follow-call (response message incarnation) b = follow-response message b incarnation
-  follow-call (drain out) b = follow-drain (length out)
+  follow-call (drain reader out) b = follow-drain reader (length out)
   follow-call (begin incarnation) b = follow-begin incarnation
-  follow-call invalidate b = follow-still r st k accepted _ tt (λ e. absurd (false≢true e)) (omega arith) (omega arith)
+  follow-call invalidate b = follow-still r st k accepted _ tt (λ e. absurd (false≢true e)) (omega arith) (within-start 0)
 
 -- ---- answer and output say what the reply says
 
@@ -236,7 +242,7 @@ handed-is (replayed index place d) out f = ap some (delta-back d out f)
 abbrev pub outOf : Call → List ℕ
 outOf (update message incarnation out) = out
 outOf (response message incarnation) = []
-outOf (drain out) = out
+outOf (drain reader out) = out
 outOf (begin incarnation) = []
 outOf invalidate = []
 
@@ -244,7 +250,7 @@ pub step-is : (r : SessionRecord) (st : List ℕ) (c : Call) → stepOf r st c �
 unfolding updateOutcome responseOutcome drainOutcome beginOf invalidateOf view
 step-is r st (update message incarnation out) = refl
 step-is r st (response message incarnation) = refl
-step-is r st (drain out) = refl
+step-is r st (drain reader out) = refl
 step-is r st (begin incarnation) = go (ltb (r .incarnation .0) (incarnation .0)) refl
   where
     go : (b : Bool) → ltb (r .incarnation .0) (incarnation .0) ≡ b

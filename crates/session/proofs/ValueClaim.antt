@@ -1,12 +1,13 @@
 -- Demand 3 over the session in values, by induction over the list of calls; and that an accepted response's baseline is its own assignment.
 -- Assumes nothing.
-use Prim.Native.Nat.{ℕ}
+use Prim.Native.Nat.{ℕ, _<_}
 use mathlib.Core.Path.{_≡_, refl, ap, sym, _∙_, subst}
 use mathlib.Core.Bool.{Bool, true, false, not, _&&_, _||_, false≢true}
 use mathlib.Core.List.{List, [], _∷_}
 use mathlib.Core.Logic.{inl, inr}
 use mathlib.Core.Option.{some, none, Option·none-ne-some}
 use lib.ListN.{length}
+use lib.Dec.{eqb}
 use Rattle.types.specs.declared.ControllerIncarnation.{ControllerIncarnation}
 use Rattle.ranges.specs.Meaning.{both-true}
 use Rattle.readers.specs.Messages.{responseOf}
@@ -22,7 +23,9 @@ use Rattle.session.specs.DemandThree.{Fresh, Claim}
 use Rattle.session.proofs.Model.{resultOf, after, accepts, valueEvent, valueTrace, valueFinal, heldIn}
 use Rattle.session.proofs.QueueLaws.{lastIn}
 use Rattle.session.proofs.CallLaws.{response-cases}
-use Rattle.session.proofs.KeptLaws.{Uploaded, Good, keep-call, owed-drain}
+use Rattle.session.proofs.HoldLaws.{Uploaded, Good}
+use Rattle.session.proofs.DrainLaws.{owed-drain}
+use Rattle.session.proofs.KeptLaws.{keep-call}
 
 -- ---- the claim, with no drain owed
 
@@ -32,8 +35,8 @@ held-live s e = rw e
 held-idle : (s : Session) → s .state .registered ≡ false → heldIn s ≡ none
 held-idle s e = rw e
 
-settled : (s : Session) (o : Seen) → Good false s o → Claim (heldIn s) (s .state .«epoch_floor») o
-settled s o (inl h) =
+settled : (reader : ℕ) (s : Session) (o : Seen) → Good reader false s o → Claim (heldIn s) (s .state .«epoch_floor») o
+settled reader s o (inl h) =
     record {
       sent = held-idle s (h .registered) ∙ sym (h .list);
       uploaded = held-idle s (h .registered) ∙ sym (h .uploader);
@@ -45,7 +48,7 @@ settled s o (inl h) =
   where
     no : (l : ConsumerAssignment) → heldIn s ≡ some l → ⊥
     no l e = Option·none-ne-some l (sym (held-idle s (h .registered)) ∙ e)
-settled s o (inr h) =
+settled reader s o (inr h) =
     record {
       sent = held-live s (h .held .live) ∙ sym (h .held .sent);
       uploaded = held-live s (h .held .live) ∙ sym (v .has);
@@ -79,28 +82,30 @@ still-owes : (a b : Bool) → (a || b) ≡ true → not a ≡ true → b ≡ tru
 still-owes true b e p = absurd (false≢true p)
 still-owes false b e p = e
 
-claim-from : (calls : List Call) (w : Bool) (s : Session) (o : Seen) → Good w s o
-    → (w ≡ true → drainsToNone (valueTrace s calls) ≡ true) → allDrained (valueTrace s calls) ≡ true
-    → Claim (heldIn (valueFinal s calls)) (valueFinal s calls .state .«epoch_floor») (watch o (valueTrace s calls))
-claim-from [] true s o g d a = absurd (false≢true (d refl))
-claim-from [] false s o g d a = settled s o g
-claim-from (c ∷ cs) false s o g d a =
+claim-from : (reader : ℕ) → reader < 8 → (calls : List Call) (w : Bool) (s : Session) (o : Seen) → Good reader w s o
+    → (w ≡ true → drainsToNone reader (valueTrace s calls) ≡ true) → allDrained reader (valueTrace s calls) ≡ true
+    → Claim (heldIn (valueFinal s calls)) (valueFinal s calls .state .«epoch_floor») (watch reader o (valueTrace s calls))
+claim-from reader low [] true s o g d a = absurd (false≢true (d refl))
+claim-from reader low [] false s o g d a = settled reader s o g
+claim-from reader low (c ∷ cs) false s o g d a =
     let e = valueEvent s c in
     let n = after s (resultOf s c) in
     let b = isResponse c && e .accepted in
-    let p = both-true (not b || drainsToNone (valueTrace n cs)) (allDrained (valueTrace n cs)) a in
-    claim-from cs b n (see e o) (keep-call c s o g) (owes b (drainsToNone (valueTrace n cs)) (p .0)) (p .1)
-claim-from (drain out ∷ cs) true s o g d a =
-    let e = valueEvent s (drain out) in
-    let n = after s (resultOf s (drain out)) in
-    claim-from cs (not (e .none)) n (see e o) (owed-drain out s o g) (still-owes (e .none) (drainsToNone (valueTrace n cs)) (d refl)) a
-claim-from (update message incarnation out ∷ cs) true s o g d a = absurd (false≢true (d refl))
-claim-from (response message incarnation ∷ cs) true s o g d a = absurd (false≢true (d refl))
-claim-from (begin incarnation ∷ cs) true s o g d a = absurd (false≢true (d refl))
-claim-from (invalidate ∷ cs) true s o g d a = absurd (false≢true (d refl))
+    let p = both-true (not b || drainsToNone reader (valueTrace n cs)) (allDrained reader (valueTrace n cs)) a in
+    claim-from reader low cs b n (see reader e o) (keep-call reader low c s o g) (owes b (drainsToNone reader (valueTrace n cs)) (p .0)) (p .1)
+claim-from reader low (drain by out ∷ cs) true s o g d a =
+    let e = valueEvent s (drain by out) in
+    let n = after s (resultOf s (drain by out)) in
+    let own = eqb by reader && e .none in
+    claim-from reader low cs (not own) n (see reader e o) (owed-drain reader low by out s o g)
+    (still-owes own (drainsToNone reader (valueTrace n cs)) (d refl)) a
+claim-from reader low (update message incarnation out ∷ cs) true s o g d a = absurd (false≢true (d refl))
+claim-from reader low (response message incarnation ∷ cs) true s o g d a = absurd (false≢true (d refl))
+claim-from reader low (begin incarnation ∷ cs) true s o g d a = absurd (false≢true (d refl))
+claim-from reader low (invalidate ∷ cs) true s o g d a = absurd (false≢true (d refl))
 
-fresh-good : (s : Session) → Fresh (s .state) → s .queue ≡ [] → Good false s unseen
-fresh-good s f q =
+fresh-good : (reader : ℕ) (s : Session) → Fresh (s .state) → s .queue ≡ [] → Good reader false s unseen
+fresh-good reader s f q =
     inl (record {
       registered = f .unregistered;
       list = refl;
@@ -111,9 +116,11 @@ fresh-good s f q =
       counted = ap length q ∙ sym (f .no-queue);
     })
 
-pub values-demand-three : (s : Session) → Fresh (s .state) → s .queue ≡ [] → (calls : List Call) → allDrained (valueTrace s calls) ≡ true
-    → Claim (heldIn (valueFinal s calls)) (valueFinal s calls .state .«epoch_floor») (watch unseen (valueTrace s calls))
-values-demand-three s f q calls a = claim-from calls false s unseen (fresh-good s f q) (λ e. absurd (false≢true e)) a
+pub values-demand-three : (reader : ℕ) → reader < 8 → (s : Session) → Fresh (s .state) → s .queue ≡ [] → (calls : List Call)
+    → allDrained reader (valueTrace s calls) ≡ true
+    → Claim (heldIn (valueFinal s calls)) (valueFinal s calls .state .«epoch_floor») (watch reader unseen (valueTrace s calls))
+values-demand-three reader low s f q calls a =
+    claim-from reader low calls false s unseen (fresh-good reader s f q) (λ e. absurd (false≢true e)) a
 
 -- ---- an accepted response's baseline is its own assignment
 

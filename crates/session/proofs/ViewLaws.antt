@@ -8,7 +8,7 @@ use Prim.Native.Nat.{ℕ, _+_, _*_, _≤_, _<_}
 use native.Mathlib.Omega.{arith}
 use mathlib.Core.Path.{_≡_, refl, sym, ap, ap₂, _∙_, subst}
 use mathlib.Core.Logic.{_≢_}
-use mathlib.Core.Bool.{Bool, true, false, cond, not, _&&_, _||_, false≢true, true≢false}
+use mathlib.Core.Bool.{Bool, true, false, cond, not, _&&_, false≢true}
 use mathlib.Core.List.{List, [], _∷_, _++_, append-nil}
 use lib.ListN.{length, take, length-append}
 use lib.Seq.{take-all}
@@ -26,33 +26,30 @@ use Rattle.keyed.proofs.EachLaws.{Each}
 use Rattle.session.specs.declared.SessionRecord.{SessionRecord}
 use Rattle.session.specs.Store.{slot, listIn, queueIn, queueReads, queueEnd, toSlot, push, writeOne, writeAll}
 use Rattle.session.specs.Identity.{topicOf, isIdentity}
-use Rattle.session.specs.Session.{Session, listsStart, inUse, view, damaged, Result}
+use Rattle.session.specs.Session.{Session, listsStart, inUse, view, anyBeyond, damaged, Result}
 use Rattle.session.specs.Session.{Reply, refused, accepted, nothing, changed, replayed}
 use Rattle.session.specs.Update.{enqueue, hold}
 use Rattle.session.specs.Response.{lastList, register}
 use Rattle.session.specs.DemandThree.{Fresh}
 use Rattle.session.proofs.Model.{inSlot, pushes, after}
+use Rattle.session.proofs.PositionLaws.{Within, within-start, within-more, none-beyond, or-false}
 use Rattle.session.proofs.SlotLaws.{length-slotted, slot-other, list-same, starts-same, area-slotted}
 use Rattle.session.proofs.SlotLaws.{Queued, queued-none, queued-lists, queued-reads, queued-front, queued-take, queued-same, queue-same}
 use Rattle.session.proofs.SlotLaws.{length-pushed, slot-pushed, queued-push, queue-pushed}
 
 -- ---- a session that is not damaged
 
-or-false : (a b : Bool) → (a || b) ≡ false → (a ≡ false) × (b ≡ false)
-or-false true b e = absurd (true≢false e)
-or-false false b e = (refl, e)
-
 pub record Undamaged (s : Session) : Type 0 where
   pub count : s .state .«queue_count» ≤ 1024
-  pub position : s .state .«drain_position» ≤ s .state .«queue_count»
+  pub positions : anyBeyond 8 (s .state .«queue_count») (s .state .«drain_positions») ≡ false
   pub sound : s .sound ≡ true
 
 pub undamaged : (s : Session) → damaged s ≡ false → Undamaged s
 unfolding damaged
 undamaged s e =
     let p = or-false (ltb 1024 (s .state .«queue_count»)) _ e in
-    let q = or-false (ltb (s .state .«queue_count») (s .state .«drain_position»)) _ (p .1) in
-    record { count = ltb-false _ _ (p .0); position = ltb-false _ _ (q .0); sound = not-false (s .sound) (q .1) }
+    let q = or-false (anyBeyond 8 (s .state .«queue_count») (s .state .«drain_positions»)) _ (p .1) in
+    record { count = ltb-false _ _ (p .0); positions = q .0; sound = not-false (s .sound) (q .1) }
 
 -- ---- the deltas of lists that can be packed
 
@@ -149,7 +146,7 @@ pub record Kept (r : SessionRecord) (st : List ℕ) : Type 0 where
   pub list : r .registered ≡ true → Stands st 2
   pub queue : Queued st (r .«queue_count»)
   pub count : r .«queue_count» ≤ 1024
-  pub position : r .«drain_position» ≤ r .«queue_count»
+  pub positions : Within (r .«queue_count») (r .«drain_positions»)
 
 pub kept-fresh : (r : SessionRecord) (st : List ℕ) → Fresh r → Kept r st
 kept-fresh r st f =
@@ -158,7 +155,7 @@ kept-fresh r st f =
       list = λ t. absurd (false≢true (sym (f .unregistered) ∙ t));
       queue = subst (Queued st) (sym (f .no-queue)) (queued-none st);
       count = omega (arith, f .no-queue);
-      position = omega (arith, f .position);
+      positions = subst (Within (r .«queue_count»)) (sym (f .positions)) (within-start (r .«queue_count»));
     }
 
 -- the identity alone decides whether the store is sound
@@ -184,7 +181,7 @@ unfolding damaged view
 damaged-is r st k =
     simp (
       le-ltb 1024 (r .«queue_count») (k .count),
-      le-ltb (r .«queue_count») (r .«drain_position») (k .position),
+      none-beyond 8 (r .«queue_count») (r .«drain_positions») (k .positions),
       sound-is r st k,
     )
 
@@ -227,7 +224,7 @@ module _ (r : SessionRecord) (st : List ℕ) (k : Kept r st) where
 
   -- nothing is written
   pub follow-still : (reply : Reply) (next : SessionRecord) → FitReply reply → (next .registered ≡ true → r .registered ≡ true)
-      → next .«queue_count» ≤ r .«queue_count» → next .«drain_position» ≤ next .«queue_count»
+      → next .«queue_count» ≤ r .«queue_count» → Within (next .«queue_count») (next .«drain_positions»)
       → Follows r st (record { reply = reply; next = next; writes = [] })
   follow-still reply next f g h p =
       let n : Kept next st =
@@ -236,7 +233,7 @@ module _ (r : SessionRecord) (st : List ℕ) (k : Kept r st) where
         list = λ t. k .list (g t);
         queue = queued-front st (r .«queue_count») (k .queue) (next .«queue_count») h;
         count = omega (arith, k .count);
-        position = p;
+        positions = p;
       } in
       record {
         kept = n;
@@ -260,7 +257,7 @@ module _ (r : SessionRecord) (st : List ℕ) (k : Kept r st) where
           list = λ e. stands-written 2 a st u;
           queue = q;
           count = k .count;
-          position = k .position;
+          positions = k .positions;
         } in
         record {
           kept = n;
@@ -288,7 +285,7 @@ module _ (r : SessionRecord) (st : List ℕ) (k : Kept r st) where
           list = λ e. stands-written 2 l su v;
           queue = left;
           count = omega (arith, k .count);
-          position = omega arith;
+          positions = within-start c;
         } in
         record {
           kept = n;
@@ -317,7 +314,7 @@ module _ (r : SessionRecord) (st : List ℕ) (k : Kept r st) where
           list = λ t. stands-same st su 2 (still 2 (omega arith)) (k .list t);
           queue = q;
           count = omega arith;
-          position = omega (arith, k .position);
+          positions = within-more n (n + 1) (r .«drain_positions») (omega arith) (k .positions);
         } in
         let z : length (queued ++ (a ∷ [])) ≤ n + 1 =
         rw length-append (omega (arith, k .queue .counted, ap length (queued-lists st n (k .queue)))) in

@@ -17,13 +17,11 @@ use Rattle.session.specs.declared.SessionRecord.{SessionRecord}
 use Rattle.session.specs.declared.Floor.the-variants.{Unset}
 use Rattle.session.specs.declared.Answer.{Answer}
 use Rattle.session.specs.declared.Answer.the-variants as answer
-use Rattle.session.specs.declared.Opened.{Opened}
-use Rattle.session.specs.declared.Opened.the-variants as opened
 use Rattle.session.specs.declared.Match.{Match}
 use Rattle.session.specs.declared.Match.the-variants as match′
 use Rattle.session.specs.Store.{minStore, identitySlot, slot, writeAll}
 use Rattle.session.specs.Identity.{Identity, maxTexts, kindByte, textsLength, encodeIdentity, topicOf, subscriptionOf, consumerNameOf, kindOf, isIdentity}
-use Rattle.session.specs.Session.{Session, view, Reply, refused, accepted, nothing, changed, replayed, Result}
+use Rattle.session.specs.Session.{Session, atStart, view, Reply, refused, accepted, nothing, changed, replayed, Result}
 use Rattle.session.specs.Update.{updateCall}
 use Rattle.session.specs.Response.{responseCall}
 use Rattle.session.specs.Drain.{drainCall}
@@ -65,16 +63,18 @@ updateOutcome r store message incarnation out = effectOf (updateCall (view r sto
 unfoldable pub responseOutcome : SessionRecord → List ℕ → List ℕ → ControllerIncarnation → List ℕ → Outcome
 responseOutcome r store message incarnation out = effectOf (responseCall (view r store) message incarnation) store out
 
-unfoldable pub drainOutcome : SessionRecord → List ℕ → List ℕ → Outcome
-drainOutcome r store out = effectOf (drainCall (view r store) (length out)) store out
+unfoldable pub drainOutcome : SessionRecord → List ℕ → (reader : ℕ) → List ℕ → Outcome
+drainOutcome r store reader out = effectOf (drainCall (view r store) reader (length out)) store out
 
 -- ---- open: 1, 7, 8
 
+-- a refused open leaves a record with its numbers, which is no session
 pub record OpenOutcome : Type 0 where
-  pub answer : Opened
+  pub answer : Answer
+  pub next : SessionRecord
   pub store : List ℕ
 
--- "Fresh record: unregistered, no floor, not invalidated, queue 0, drain position 0."
+-- "Fresh record: unregistered, no floor, not invalidated, queue 0, drain position 0": of every reader (02 d)
 abbrev pub freshRecord : ℕ → ControllerIncarnation → SessionRecord
 freshRecord consumer incarnation =
     record {
@@ -84,23 +84,24 @@ freshRecord consumer incarnation =
       invalidated = false;
       «epoch_floor» = Unset;
       «queue_count» = 0;
-      «drain_position» = 0;
+      «drain_positions» = atStart;
     }
 
-abbrev pub notOpened : Refusal → List ℕ → OpenOutcome
-notOpened x store = record { answer = opened.Refused x; store = store }
+abbrev pub notOpened : Refusal → SessionRecord → List ℕ → OpenOutcome
+notOpened x r store = record { answer = answer.Refused x; next = r; store = store }
 
 abbrev pub allUtf8 : Identity → Bool
 allUtf8 i = isUtf8 (i .topic) && (isUtf8 (i .subscription) && isUtf8 (i .consumerName))
 
 unfoldable pub openOutcome : ℕ → ControllerIncarnation → Identity → List ℕ → OpenOutcome
 openOutcome consumer incarnation i store =
-    cond (ltb (length store) minStore) (notOpened StoreTooShort store)
+    let fresh = freshRecord consumer incarnation in
+    cond (ltb (length store) minStore) (notOpened StoreTooShort fresh store)
     (cond (allUtf8 i)
     (cond (leb (textsLength i) maxTexts)
-    (record { answer = opened.Session (freshRecord consumer incarnation); store = put store 0 (encodeIdentity i) })
-    (notOpened IdentityTooLong store))
-    (notOpened InvalidUtf8 store))
+    (record { answer = answer.Accepted; next = fresh; store = put store 0 (encodeIdentity i) })
+    (notOpened IdentityTooLong fresh store))
+    (notOpened InvalidUtf8 fresh store))
 
 -- ---- matches_registration: 1, then 22 for the identity slot alone
 

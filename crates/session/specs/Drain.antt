@@ -1,14 +1,15 @@
 -- Drain: `take_replayed_updates`, one per call.
 --
 -- "the next queue entry, from the position on, that differs from its predecessor (for the first, the baseline), as the byte place of its sheet in the store and the
--- delta; the position moves just behind that entry. Else none, with the position at the queue's end. Unregistered: none, and nothing moves." Refused in order: 1, 2, 22.
+-- delta; the position moves just behind that entry. Else none, with the position at the queue's end. Unregistered: none, and nothing moves."
+-- The position is the reader's own (02 d). Refused in order: 1, 2, 33, 22.
 -- Assumes nothing.
 use Prim.Native.Nat.{ℕ, zero, suc, _+_}
 use mathlib.Core.Bool.{cond}
 use mathlib.Core.List.{List, [], _∷_}
-use lib.ListN.{take}
-use lib.Dec.{ltb}
-use Rattle.refusal.specs.declared.Refusal.the-variants.{StoreTooShort, OutputTooShort, MalformedStore}
+use lib.ListN.{take, set}
+use lib.Dec.{ltb, leb}
+use Rattle.refusal.specs.declared.Refusal.the-variants.{StoreTooShort, OutputTooShort, UnknownReader, MalformedStore}
 use Rattle.packed.specs.Assignment.{ConsumerAssignment}
 use Rattle.packed.specs.Equal.{sameAssignment}
 use Rattle.delta.specs.Delta.{AssignmentDelta}
@@ -16,7 +17,7 @@ use Rattle.delta.specs.Change.{deltaBetween}
 use Rattle.session.specs.declared.SessionRecord.{SessionRecord}
 use Rattle.session.specs.Store.{minStore, minOutput, queueEnd}
 use Rattle.session.specs.Session as session
-use Rattle.session.specs.Session.{Session, Result, damaged, refuse}
+use Rattle.session.specs.Session.{Session, Result, readers, positionOf, damaged, refuse}
 
 pub data Found : Type 0 where
   end : Found
@@ -28,8 +29,9 @@ nextChange i before [] k = end
 nextChange i before (a ∷ queue) (suc k) = nextChange (suc i) a queue k
 nextChange i before (a ∷ queue) zero = cond (sameAssignment before a) (nextChange (suc i) a queue zero) (entry i (deltaBetween before a))
 
-abbrev pub withPosition : SessionRecord → ℕ → SessionRecord
-withPosition r k =
+-- a reader's position moved, and no other: "each moved only by its own reader" (02 d)
+abbrev pub withPosition : SessionRecord → (reader k : ℕ) → SessionRecord
+withPosition r reader k =
     record {
       «consumer_id» = r .«consumer_id»;
       incarnation = r .incarnation;
@@ -37,21 +39,27 @@ withPosition r k =
       invalidated = r .invalidated;
       «epoch_floor» = r .«epoch_floor»;
       «queue_count» = r .«queue_count»;
-      «drain_position» = k;
+      «drain_positions» = set (r .«drain_positions») reader k;
     }
 
 -- "the byte place of its sheet in the store": behind those before it and its own length
 abbrev pub placeOf : List ConsumerAssignment → ℕ → ℕ
 placeOf queue i = queueEnd (take i queue) + 2
 
-unfoldable pub drained : Session → Found → Result
-drained s end = record { reply = session.nothing; next = withPosition (s .state) (s .state .«queue_count»); writes = [] }
-drained s (entry i d) = record { reply = session.replayed i (placeOf (s .queue) i) d; next = withPosition (s .state) (suc i); writes = [] }
+unfoldable pub drained : Session → (reader : ℕ) → Found → Result
+drained s reader end = record { reply = session.nothing; next = withPosition (s .state) reader (s .state .«queue_count»); writes = [] }
+drained s reader (entry i d) =
+    record { reply = session.replayed i (placeOf (s .queue) i) d; next = withPosition (s .state) reader (suc i); writes = [] }
 
-unfoldable pub drainCall : Session → ℕ → Result
-drainCall s output =
+-- what a reader finds
+abbrev pub nextFor : Session → (reader : ℕ) → Found
+nextFor s reader = nextChange 0 (s .baseline) (s .queue) (positionOf (s .state) reader)
+
+unfoldable pub drainCall : Session → (reader output : ℕ) → Result
+drainCall s reader output =
     cond (ltb (s .size) minStore) (refuse StoreTooShort s)
     (cond (ltb output minOutput) (refuse OutputTooShort s)
+    (cond (leb readers reader) (refuse UnknownReader s)
     (cond (damaged s) (refuse MalformedStore s)
-    (cond (s .state .registered) (drained s (nextChange 0 (s .baseline) (s .queue) (s .state .«drain_position»)))
-    (record { reply = session.nothing; next = s .state; writes = [] }))))
+    (cond (s .state .registered) (drained s reader (nextFor s reader))
+    (record { reply = session.nothing; next = s .state; writes = [] })))))

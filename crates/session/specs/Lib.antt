@@ -5,6 +5,7 @@ pub mod Update
 pub mod Response
 pub mod Drain
 pub mod Link
+pub mod Rows
 pub mod Calls
 pub mod Trace
 pub mod Observers

@@ -1,7 +1,7 @@
 -- Begin and invalidate: `begin_incarnation` and `invalidate_authority`.
 --
 -- "unregistered, queue and position 0, no store byte touched, floor kept. Begin sets the incarnation and clears invalidated; invalidate sets it." Begin: 25;
--- "invalidate refuses nothing". Neither looks at the store.
+-- "invalidate refuses nothing". The position is every reader's (02 d). Neither looks at the store.
 -- Assumes nothing.
 use mathlib.Core.Bool.{Bool, true, false, cond}
 use lib.Dec.{ltb}
@@ -10,6 +10,7 @@ use Rattle.refusal.specs.declared.Refusal.the-variants.{NonAdvancingIncarnation
 use Rattle.session.specs.declared.SessionRecord.{SessionRecord}
 use Rattle.session.specs.declared.Answer.the-variants.{Refused, Accepted}
 use Rattle.session.specs.declared.Changed.{Changed}
+use Rattle.session.specs.Session.{atStart}
 
 abbrev pub unregistered : SessionRecord → ControllerIncarnation → Bool → SessionRecord
 unregistered r incarnation invalidated =
@@ -20,7 +21,7 @@ unregistered r incarnation invalidated =
       invalidated = invalidated;
       «epoch_floor» = r .«epoch_floor»;
       «queue_count» = 0;
-      «drain_position» = 0;
+      «drain_positions» = atStart;
     }
 
 unfoldable pub beginOf : SessionRecord → ControllerIncarnation → Changed

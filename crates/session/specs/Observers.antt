@@ -1,9 +1,10 @@
--- The sender and the uploader of demand 3, exactly as 01 has them, and what else is told from outside. None of them sees the record.
+-- The sender of demand 3 and the uploader of each reader, exactly as 01 and 02 d have them, and what else is told from outside. None of them sees the record.
 -- Assumes nothing.
 use Prim.Native.Nat.{ℕ}
 use mathlib.Core.Bool.{Bool, true, false, cond, not, _&&_, _||_}
 use mathlib.Core.List.{List, [], _∷_, _++_}
 use mathlib.Core.Option.{Option, some, none, Option·map}
+use lib.Dec.{eqb}
 use Rattle.keyed.specs.Keyed.{orElse, isSome}
 use Rattle.readers.specs.Messages.{updateOf, responseOf}
 use Rattle.packed.specs.Assignment.{ConsumerAssignment}
@@ -38,7 +39,7 @@ sendResponse own s = record { list = orElse (s .pending) (some own); pending = n
 abbrev pub sent : Call → Sender → Sender
 sent (update message incarnation out) s = sendUpdate (consumerAssignment (updateOf message .assignment)) s
 sent (response message incarnation) s = sendResponse (consumerAssignment (responseOf message .assignment)) s
-sent (drain out) s = s
+sent (drain reader out) s = s
 sent (begin incarnation) s = silent
 sent invalidate s = silent
 
@@ -51,30 +52,31 @@ abbrev pub onDelta : {A : Type 0} → Option AssignmentDelta → (AssignmentDelt
 onDelta none step kept = kept
 onDelta (some d) step kept = step d kept
 
--- what an event does to something that is kept: an accepted response starts it anew, accepted begin or invalidate end it, a delta answered by update or drain goes on
--- from it, "all else changes nothing"
-abbrev pub followed : {A : Type 0} → Call → Event → (started ended : A) → (AssignmentDelta → A → A) → A → A
-followed (update message incarnation out) e started ended step kept = onDelta (e .delta) step kept
-followed (response message incarnation) e started ended step kept = cond (e .accepted) started kept
-followed (drain out) e started ended step kept = onDelta (e .delta) step kept
-followed (begin incarnation) e started ended step kept = cond (e .accepted) ended kept
-followed invalidate e started ended step kept = cond (e .accepted) ended kept
+-- "Each reader has an uploader of its own, which applies the deltas of updates and of that reader's drains, never another's" (02 d). What an event does to something that
+-- is kept for a reader: an accepted response starts it anew, accepted begin or invalidate end it, a delta answered by update or by its own drain goes on from it, "all else
+-- changes nothing"
+abbrev pub followed : {A : Type 0} → (reader : ℕ) → Call → Event → (started ended : A) → (AssignmentDelta → A → A) → A → A
+followed reader (update message incarnation out) e started ended step kept = onDelta (e .delta) step kept
+followed reader (response message incarnation) e started ended step kept = cond (e .accepted) started kept
+followed reader (drain by out) e started ended step kept = cond (eqb by reader) (onDelta (e .delta) step kept) kept
+followed reader (begin incarnation) e started ended step kept = cond (e .accepted) ended kept
+followed reader invalidate e started ended step kept = cond (e .accepted) ended kept
 
 -- "An accepted response gives its baseline, the sheet then in that slot; accepted begin or invalidate, no list; a delta answered by update or drain is applied"
-abbrev pub uploaderStep : Event → Option ConsumerAssignment → Option ConsumerAssignment
-uploaderStep e list = followed (e .call) e (some (e .baseline)) none (λ d l. Option·map (apply d) l) list
+abbrev pub uploaderStep : (reader : ℕ) → Event → Option ConsumerAssignment → Option ConsumerAssignment
+uploaderStep reader e list = followed reader (e .call) e (some (e .baseline)) none (λ d l. Option·map (apply d) l) list
 
 -- the baseline itself
-abbrev pub baselineStep : Event → Option ConsumerAssignment → Option ConsumerAssignment
-baselineStep e b = followed (e .call) e (some (e .baseline)) none (λ d b′. b′) b
+abbrev pub baselineStep : (reader : ℕ) → Event → Option ConsumerAssignment → Option ConsumerAssignment
+baselineStep reader e b = followed reader (e .call) e (some (e .baseline)) none (λ d b′. b′) b
 
 -- the deltas handed out since the baseline, in their order
-abbrev pub deltasStep : Event → List AssignmentDelta → List AssignmentDelta
-deltasStep e ds = followed (e .call) e [] [] (λ d l. l ++ (d ∷ [])) ds
+abbrev pub deltasStep : (reader : ℕ) → Event → List AssignmentDelta → List AssignmentDelta
+deltasStep reader e ds = followed reader (e .call) e [] [] (λ d l. l ++ (d ∷ [])) ds
 
 -- "the highest epoch among baselines and deltas handed out since the first call, none before any"
-abbrev pub highestStep : Event → Floor → Floor
-highestStep e h = followed (e .call) e (raise h (e .baseline .layoutEpoch)) h (λ d f. raise f (d .layoutEpoch)) h
+abbrev pub highestStep : (reader : ℕ) → Event → Floor → Floor
+highestStep reader e h = followed reader (e .call) e (raise h (e .baseline .layoutEpoch)) h (λ d f. raise f (d .layoutEpoch)) h
 
 -- ---- all of them over a list of events
 
@@ -89,40 +91,48 @@ pub record Seen : Type 0 where
 abbrev pub unseen : Seen
 unseen = record { sender = silent; uploader = none; baseline = none; deltas = []; highest = Unset }
 
-abbrev pub see : Event → Seen → Seen
-see e o =
+abbrev pub see : (reader : ℕ) → Event → Seen → Seen
+see reader e o =
     record {
       sender = senderStep e (o .sender);
-      uploader = uploaderStep e (o .uploader);
-      baseline = baselineStep e (o .baseline);
-      deltas = deltasStep e (o .deltas);
-      highest = highestStep e (o .highest);
+      uploader = uploaderStep reader e (o .uploader);
+      baseline = baselineStep reader e (o .baseline);
+      deltas = deltasStep reader e (o .deltas);
+      highest = highestStep reader e (o .highest);
     }
 
-abbrev pub watch : Seen → List Event → Seen
-watch o [] = o
-watch o (e ∷ es) = watch (see e o) es
+-- what the sender and a reader's uploader come to
+abbrev pub watch : (reader : ℕ) → Seen → List Event → Seen
+watch reader o [] = o
+watch reader o (e ∷ es) = watch reader (see reader e o) es
 
--- ---- "each accepted response in it is followed by drains alone, up to and including one that answers none"
+-- ---- "each accepted response in it is followed by drains alone, up to and including one that answers none": of that reader, with drains of any reader in between
 
 abbrev pub isDrain : Call → Bool
 isDrain (update message incarnation out) = false
 isDrain (response message incarnation) = false
-isDrain (drain out) = true
+isDrain (drain by out) = true
 isDrain (begin incarnation) = false
 isDrain invalidate = false
 
 abbrev pub isResponse : Call → Bool
 isResponse (update message incarnation out) = false
 isResponse (response message incarnation) = true
-isResponse (drain out) = false
+isResponse (drain by out) = false
 isResponse (begin incarnation) = false
 isResponse invalidate = false
 
-abbrev pub drainsToNone : List Event → Bool
-drainsToNone [] = false
-drainsToNone (e ∷ es) = isDrain (e .call) && (e .none || drainsToNone es)
+abbrev pub isDrainBy : (reader : ℕ) → Call → Bool
+isDrainBy reader (update message incarnation out) = false
+isDrainBy reader (response message incarnation) = false
+isDrainBy reader (drain by out) = eqb by reader
+isDrainBy reader (begin incarnation) = false
+isDrainBy reader invalidate = false
 
-abbrev pub allDrained : List Event → Bool
-allDrained [] = true
-allDrained (e ∷ es) = (not (isResponse (e .call) && e .accepted) || drainsToNone es) && allDrained es
+abbrev pub drainsToNone : (reader : ℕ) → List Event → Bool
+drainsToNone reader [] = false
+drainsToNone reader (e ∷ es) = isDrain (e .call) && ((isDrainBy reader (e .call) && e .none) || drainsToNone reader es)
+
+abbrev pub allDrained : (reader : ℕ) → List Event → Bool
+allDrained reader [] = true
+allDrained reader (e ∷ es) = (not (isResponse (e .call) && e .accepted) || drainsToNone reader es) && allDrained reader es

@@ -25,7 +25,7 @@ use Rattle.content.specs.Content.{Content, refused, taken, contentOf}
 use Rattle.session.specs.declared.SessionRecord.{SessionRecord}
 use Rattle.session.specs.Store.{minStore, baselineSlot, listSlot, toSlot}
 use Rattle.session.specs.Session as session
-use Rattle.session.specs.Session.{Session, Result, damaged, refuse, unless, floorFault, raise}
+use Rattle.session.specs.Session.{Session, Result, atStart, damaged, refuse, unless, floorFault, raise}
 
 -- 27: the first push of the queue whose epoch lies below that of the list before it, which for the first is the baseline
 unfoldable pub staleFault : ConsumerAssignment → List ConsumerAssignment → Option Refusal
@@ -52,7 +52,7 @@ registeredWith s last count =
       invalidated = s .state .invalidated;
       «epoch_floor» = raise (s .state .«epoch_floor») (last .layoutEpoch);
       «queue_count» = count;
-      «drain_position» = 0;
+      «drain_positions» = atStart;
     }
 
 abbrev pub register : Session → ConsumerAssignment → ConsumerAssignment → Result

@@ -1,10 +1,10 @@
 -- A session (01, Session): the record, and what the slots and queue entries in use hold. A call gives a reply, the next record, and the lists that it writes.
 -- Assumes nothing.
-use Prim.Native.Nat.{ℕ, _+_}
+use Prim.Native.Nat.{ℕ, zero, suc, _+_}
 use mathlib.Core.Bool.{Bool, true, false, cond, not, _&&_, _||_}
 use mathlib.Core.List.{List, [], _∷_}
 use mathlib.Core.Option.{Option, some, none}
-use lib.ListN.{length}
+use lib.ListN.{length, getD, replicate}
 use lib.Dec.{ltb}
 use Rattle.refusal.specs.declared.Refusal.{Refusal}
 use Rattle.refusal.specs.declared.Refusal.the-variants.{CrossIncarnationEpochRegression}
@@ -50,10 +50,29 @@ view r store =
       queue = queueIn store (r .«queue_count»);
     }
 
--- 22: "queued lengths or sheets do not read .. or whose queue count is above 1,024" (02 j), another slot in use malformed, or a position beyond the queue
+-- ---- the readers (02 d)
+
+-- "The record gets eight positions instead of one"
+abbrev pub readers : ℕ
+readers = 8
+
+-- how far a reader has drained the queue
+abbrev pub positionOf : SessionRecord → (reader : ℕ) → ℕ
+positionOf r reader = getD (r .«drain_positions») reader 0
+
+-- "all set to 0 by response, begin and invalidate"
+abbrev pub atStart : List ℕ
+atStart = replicate readers 0
+
+-- one of the first n readers is beyond a queue of so many
+unfoldable pub anyBeyond : (n count : ℕ) → (positions : List ℕ) → Bool
+anyBeyond zero count positions = false
+anyBeyond (suc n) count positions = ltb count (getD positions n 0) || anyBeyond n count positions
+
+-- 22: "queued lengths or sheets do not read .. or whose queue count is above 1,024" (02 j), another slot in use malformed, or "any position beyond the queue" (02 d)
 unfoldable pub damaged : Session → Bool
 damaged s =
-    ltb maxQueue (s .state .«queue_count») || (ltb (s .state .«queue_count») (s .state .«drain_position») || not (s .sound))
+    ltb maxQueue (s .state .«queue_count») || (anyBeyond readers (s .state .«queue_count») (s .state .«drain_positions») || not (s .sound))
 
 -- ---- what a call gives
 

@@ -36,7 +36,7 @@ withQueueCount r n =
       invalidated = r .invalidated;
       «epoch_floor» = r .«epoch_floor»;
       «queue_count» = n;
-      «drain_position» = r .«drain_position»;
+      «drain_positions» = r .«drain_positions»;
     }
 
 abbrev pub withFloor : SessionRecord → Floor → SessionRecord
@@ -48,7 +48,7 @@ withFloor r floor =
       invalidated = r .invalidated;
       «epoch_floor» = floor;
       «queue_count» = r .«queue_count»;
-      «drain_position» = r .«drain_position»;
+      «drain_positions» = r .«drain_positions»;
     }
 
 -- it joins the queue and answers none

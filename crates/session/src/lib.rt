@@ -4,6 +4,9 @@
 use refusal::Refusal;
 use types::ControllerIncarnation;
 
+// How many readers take the replays, each by its own drain position.
+pub const READERS: usize = 8;
+
 // The highest epoch that was accepted, kept over every link to the controller.
 pub enum Floor {
     Unset,
@@ -17,9 +20,9 @@ pub struct SessionRecord {
     pub registered: bool,
     pub invalidated: bool,
     pub epoch_floor: Floor,
-    // How many pushes the queue holds, and how many of them are drained.
+    // How many pushes the queue holds, and how many of them each reader has drained.
     pub queue_count: usize,
-    pub drain_position: usize,
+    pub drain_positions: [usize; 8],
 }
 
 // What a call answers.
@@ -40,12 +43,6 @@ pub enum Answer {
 pub struct Changed {
     pub next: SessionRecord,
     pub answer: Answer,
-}
-
-// What `open` gives.
-pub enum Opened {
-    Session(SessionRecord),
-    Refused(Refusal),
 }
 
 // What `matches_registration` answers.

@@ -12,8 +12,8 @@ use mathlib.Core.Bool.{Bool, true, false, cond, not}
 use mathlib.Core.List.{List, [], _∷_}
 use lib.ListN.{length, take, drop}
 use lib.Seq.{drop-drop}
-use borrow.Author.Tests.{lt-ltb, le-ltb, not-true, not-false}
-use Rattle.refusal.specs.declared.Refusal.the-variants.{StoreTooShort, OutputTooShort, MalformedStore}
+use borrow.Author.Tests.{lt-ltb, le-ltb, le-leb, lt-leb, not-true, not-false}
+use Rattle.refusal.specs.declared.Refusal.the-variants.{StoreTooShort, OutputTooShort, UnknownReader, MalformedStore}
 use Rattle.packed_int.specs.Be.{beAt}
 use Rattle.packed_int.specs.Put.{put}
 use Rattle.packed.specs.Assignment.{ConsumerAssignment, assignmentOf}
@@ -26,7 +26,7 @@ use Rattle.session.specs.declared.SessionRecord.{SessionRecord}
 use Rattle.session.specs.declared.Changed.{Changed}
 use Rattle.session.specs.declared.Answer.the-variants.{Refused, Unchanged, Replay}
 use Rattle.session.specs.Store.{slot, listIn, queueIn, queueEnd}
-use Rattle.session.specs.Session.{view, damaged}
+use Rattle.session.specs.Session.{positionOf, view, damaged}
 use Rattle.session.specs.Drain.{Found, end, entry, nextChange, withPosition, placeOf, drained, drainCall}
 use Rattle.session.specs.Calls.{outcome, effectOf, drainOutcome}
 use Rattle.session_store.specs.Places.{Lies, entryIn, listBefore}
@@ -183,43 +183,55 @@ placed st n i h = ap (λ q. queueEnd q + 2) (entries-take i n (drop 6144 st) (om
 -- ---- the call
 
 -- what is answered, with the record, is what the call gives
-pub told : (r : SessionRecord) (st out : List ℕ) {x y : Changed} → x ≡ y → outcome (y .answer) (y .next) st out ≡ drainOutcome r st out
-    → outcome (x .answer) (x .next) st out ≡ drainOutcome r st out
-told r st out e h = rw e h
+pub told : (r : SessionRecord) (st : List ℕ) (reader : ℕ) (out : List ℕ) {x y : Changed} → x ≡ y → outcome (y .answer) (y .next) st out ≡ drainOutcome r st reader out
+    → outcome (x .answer) (x .next) st out ≡ drainOutcome r st reader out
+told r st reader out e h = rw e h
 
-module _ (r : SessionRecord) (st out : List ℕ) where
-  pub store-short : length st < 6144 → outcome (Refused StoreTooShort) r st out ≡ drainOutcome r st out
+module _ (r : SessionRecord) (st : List ℕ) (reader : ℕ) (out : List ℕ) where
+  pub store-short : length st < 6144 → outcome (Refused StoreTooShort) r st out ≡ drainOutcome r st reader out
   unfolding drainOutcome drainCall view
   store-short h = rw (lt-ltb (length st) 6144 h)
 
   module _ (h : 6144 ≤ length st) where
-    pub output-short : length out < 3210 → outcome (Refused OutputTooShort) r st out ≡ drainOutcome r st out
+    pub output-short : length out < 3210 → outcome (Refused OutputTooShort) r st out ≡ drainOutcome r st reader out
     unfolding drainOutcome drainCall view
     output-short k = rw (le-ltb (length st) 6144 h, lt-ltb (length out) 3210 k)
 
-    pub store-bad : 3210 ≤ length out → (x : Bool) → x ≡ not (damaged (view r st)) → not x ≡ true
-        → outcome (Refused MalformedStore) r st out ≡ drainOutcome r st out
-    unfolding drainOutcome drainCall view
-    store-bad k x e f =
-        rw (le-ltb (length st) 6144 h, le-ltb (length out) 3210 k, not-false (damaged (view r st)) (sym e ∙ not-true x f))
+    module _ (k : 3210 ≤ length out) where
+      pub reader-unknown : 8 ≤ reader → outcome (Refused UnknownReader) r st out ≡ drainOutcome r st reader out
+      unfolding drainOutcome drainCall view
+      reader-unknown l = rw (le-ltb (length st) 6144 h, le-ltb (length out) 3210 k, le-leb 8 reader l)
 
--- what is found from the position on
-abbrev pub nextOf : SessionRecord → List ℕ → Found
-nextOf r st = nextChange 0 (listIn st 1) (queueIn st (r .«queue_count»)) (r .«drain_position»)
+      pub store-bad : reader < 8 → (x : Bool) → x ≡ not (damaged (view r st)) → not x ≡ true
+          → outcome (Refused MalformedStore) r st out ≡ drainOutcome r st reader out
+      unfolding drainOutcome drainCall view
+      store-bad l x e f =
+          rw (
+            le-ltb (length st) 6144 h,
+            le-ltb (length out) 3210 k,
+            lt-leb 8 reader l,
+            not-false (damaged (view r st)) (sym e ∙ not-true x f),
+          )
+
+-- what is found from the reader's position on
+abbrev pub nextOf : SessionRecord → List ℕ → ℕ → Found
+nextOf r st reader = nextChange 0 (listIn st 1) (queueIn st (r .«queue_count»)) (positionOf r reader)
 
 -- a call that is not refused
-pub record Taken (r : SessionRecord) (st out : List ℕ) : Type 0 where
+pub record Taken (r : SessionRecord) (st : List ℕ) (reader : ℕ) (out : List ℕ) : Type 0 where
   pub store : 6144 ≤ length st
   pub output : 3210 ≤ length out
+  pub known : reader < 8
   pub sound : not (damaged (view r st)) ≡ true
 
-module _ (r : SessionRecord) (st out : List ℕ) (t : Taken r st out) where
-  pub unregistered : not (r .registered) ≡ true → outcome Unchanged r st out ≡ drainOutcome r st out
+module _ (r : SessionRecord) (st : List ℕ) (reader : ℕ) (out : List ℕ) (t : Taken r st reader out) where
+  pub unregistered : not (r .registered) ≡ true → outcome Unchanged r st out ≡ drainOutcome r st reader out
   unfolding drainOutcome drainCall view
   unregistered g =
       rw (
         le-ltb (length st) 6144 (t .store),
         le-ltb (length out) 3210 (t .output),
+        lt-leb 8 reader (t .known),
         not-true (damaged (view r st)) (t .sound),
         not-true (r .registered) g,
       )
@@ -234,28 +246,29 @@ module _ (r : SessionRecord) (st out : List ℕ) (t : Taken r st out) where
           few = count-most r st (t .sound);
         }
 
-    found : (y : Found) → nextOf r st ≡ y → effectOf (drained (view r st) y) st out ≡ drainOutcome r st out
+    found : (y : Found) → nextOf r st reader ≡ y → effectOf (drained (view r st) reader y) st out ≡ drainOutcome r st reader out
     unfolding drainOutcome drainCall view
     found y q =
         rw (
           le-ltb (length st) 6144 (t .store),
           le-ltb (length out) 3210 (t .output),
+          lt-leb 8 reader (t .known),
           not-true (damaged (view r st)) (t .sound),
           not-false (r .registered) g,
           q,
         )
 
     -- the walk stopped at entry i
-    module _ (i : ℕ) (q : nextOf r st ≡ foundAt st (r .«queue_count») i) where
-      pub none-left : i ≡ r .«queue_count» → outcome Unchanged (withPosition r (r .«queue_count»)) st out ≡ drainOutcome r st out
+    module _ (i : ℕ) (q : nextOf r st reader ≡ foundAt st (r .«queue_count») i) where
+      pub none-left : i ≡ r .«queue_count» → outcome Unchanged (withPosition r reader (r .«queue_count»)) st out ≡ drainOutcome r st reader out
       unfolding view drained
       none-left p = found end (q ∙ found-none st (r .«queue_count») i p)
 
       pub replayed : i < r .«queue_count» → (place : ℕ) → place ≡ queueEnd (queueIn st i) + 2
           → (a b : ConsumerAssignment) → a ≡ listBefore st i → b ≡ entryIn st i
           → (len : ℕ) → len ≡ sizeDelta (deltaBetween a b) → (new : List ℕ) → new ≡ put out 0 (encodeDelta (deltaBetween a b))
-          → (next : SessionRecord) → next ≡ withPosition r (i + 1)
-          → outcome (Replay place len) next st new ≡ drainOutcome r st out
+          → (next : SessionRecord) → next ≡ withPosition r reader (i + 1)
+          → outcome (Replay place len) next st new ≡ drainOutcome r st reader out
       unfolding view drained
       replayed p place ep a b ea eb len el new en next ex =
           rw (el, en, ex, ea, eb, add-one i, ep ∙ sym (placed st (r .«queue_count») i p)) (found (entry i (changeTo st i)) (q ∙ found-some st (r .«queue_count») i p))

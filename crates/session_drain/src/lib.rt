@@ -10,6 +10,7 @@ use packed_queue::LENGTH;
 use refusal::Refusal;
 use session::Answer;
 use session::Changed;
+use session::READERS;
 use session::SessionRecord;
 use session_store::MIN_STORE;
 
@@ -83,15 +84,19 @@ fn next_change(store: &[u8], from: usize, n: usize) -> Reached
     }
 }
 
-// The next entry of the queue that differs from its predecessor: its place in the store, and the delta in the output. Refused in order: 1, 2, 22.
-pub fn drained(r: SessionRecord, store: &[u8], out: &mut [u8]) -> Changed
-    ensures { λ x. ⌜ outcome (x .answer) (x .next) (now (store .entry)) (now (out .exit)) ≡ drainOutcome r (now (store .entry)) (now (out .entry)) ⌝ }
+// The next entry of the queue, from a reader's position on, that differs from its predecessor: its place in the store, and the delta in the output. Refused in
+// order: 1, 2, 33, 22.
+pub fn drained(r: SessionRecord, store: &[u8], reader: usize, out: &mut [u8]) -> Changed
+    ensures { λ x. ⌜ outcome (x .answer) (x .next) (now (store .entry)) (now (out .exit)) ≡ drainOutcome r (now (store .entry)) reader (now (out .entry)) ⌝ }
 {
     if store.len() < MIN_STORE {
         return session_record::refuse(r, Refusal::StoreTooShort);
     }
     if out.len() < difference::LONGEST {
         return session_record::refuse(r, Refusal::OutputTooShort);
+    }
+    if READERS <= reader {
+        return session_record::refuse(r, Refusal::UnknownReader);
     }
     if !session_store::is_sound(r, store) {
         return session_record::refuse(r, Refusal::MalformedStore);
@@ -100,9 +105,9 @@ pub fn drained(r: SessionRecord, store: &[u8], out: &mut [u8]) -> Changed
         return session_record::unchanged(r);
     }
     let n = r.queue_count;
-    let found = next_change(store, r.drain_position, n);
+    let found = next_change(store, session_record::position(r, reader), n);
     if found.i == n {
-        let next = session_record::with_position(r, n);
+        let next = session_record::with_position(r, reader, n);
         return session_record::unchanged(next);
     }
     let before = found.before;
@@ -111,7 +116,7 @@ pub fn drained(r: SessionRecord, store: &[u8], out: &mut [u8]) -> Changed
     let place = found.at + LENGTH;
     let end = place + size;
     let len = difference::write_delta(&store[before..until], &store[place..end], out);
-    let next = session_record::with_position(r, found.i + 1);
+    let next = session_record::with_position(r, reader, found.i + 1);
     Changed {
         next,
         answer: Answer::Replay(place, len),

@@ -2,7 +2,9 @@
 -- Assumes nothing.
 use mathlib.Core.Path.{refl, subst}
 use mathlib.Core.List.{List, [], _∷_}
+use mir.Syntax.{w64}
 use mir.Val.{Val}
+use denote.Builtin.{usize}
 use denote.RattleType.{RattleType}
 use denote.Laws.{Is}
 use denote.Lowered.{Lowered}
@@ -10,7 +12,7 @@ use denote.Struct.Laws as LL
 use denote.Enum.Enum.{Few, Plainss}
 use denote.Enum.Declared as Enum
 use denote.Enum.Laws as EL
-use Rattle.ranges.proofs.Walk.{Flat, flat-struct, low, IsLow}
+use Rattle.ranges.proofs.Walk.{Flat, flat-struct, flat-uint, low, IsLow}
 use Rattle.types.proofs.ControllerIncarnation as I
 use Rattle.types.proofs.ControllerIncarnation.Laws as I′
 use Rattle.session.specs.declared.SessionRecord.{SessionRecord}
@@ -29,6 +31,9 @@ flat-enum T L few lw pl = record { lowers = lw; lawful = λ 𝓤 H A W. EL.lawfu
 
 abbrev pub session : Flat R.the-row
 session = flat-struct R.the-type R′.the-laws R′.lowers R′.the-plain
+
+abbrev pub word : Flat usize
+word = flat-uint w64
 
 abbrev pub link : Flat I.the-row
 link = flat-struct I.the-type I′.the-laws I′.lowers I′.the-plain

@@ -59,12 +59,12 @@ pub fn update(
     updated.answer
 }
 
-// The next push of the queue that differs from its predecessor: `take_replayed_updates`.
-pub fn drain(r: &mut SessionRecord, store: &[u8], out: &mut [u8]) -> Answer
+// The next push of the queue, for one of the readers, that differs from its predecessor: `take_replayed_updates`.
+pub fn drain(r: &mut SessionRecord, store: &[u8], reader: usize, out: &mut [u8]) -> Answer
     ensures { λ x. ⌜ outcome x (now (r .exit)) (now (store .entry)) (now (out .exit))
-        ≡ drainOutcome (now (r .entry)) (now (store .entry)) (now (out .entry)) ⌝ }
+        ≡ drainOutcome (now (r .entry)) (now (store .entry)) reader (now (out .entry)) ⌝ }
 {
-    let drained = session_drain::drained(*r, store, out);
+    let drained = session_drain::drained(*r, store, reader, out);
     *r = drained.next;
     drained.answer
 }

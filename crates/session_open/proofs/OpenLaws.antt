@@ -19,7 +19,8 @@ use Rattle.packed_int.specs.Put.{put}
 use Rattle.packed_int.proofs.BeLaws.{length-bytesOf}
 use Rattle.packed_int.proofs.PutLaws.{length-put, put-one, put-before}
 use Rattle.session.specs.declared.SessionRecord.{SessionRecord}
-use Rattle.session.specs.declared.Opened.the-variants.{Session}
+use Rattle.session.specs.declared.Changed.{Changed}
+use Rattle.session.specs.declared.Answer.the-variants.{Accepted}
 use Rattle.session.specs.Identity.{Identity, kindByte, textsLength, encodeIdentity}
 use Rattle.session.specs.Calls.{OpenOutcome, notOpened, freshRecord, openOutcome}
 
@@ -88,40 +89,51 @@ written o i p1 p2 p3 p4 p5 p6 p7 h k w =
 
 -- ---- the cases
 
-module _ (consumer : ℕ) (incarnation : ControllerIncarnation) (i : Identity) (st : List ℕ) where
+-- what the program answers, with the store that it leaves
+abbrev pub opened : Changed → List ℕ → OpenOutcome
+opened x st = record { answer = x .answer; next = x .next; store = st }
+
+-- what is answered is what the call gives
+pub told : {x y : Changed} (st : List ℕ) {o : OpenOutcome} → x ≡ y → opened y st ≡ o → opened x st ≡ o
+told st e h = rw e h
+
+-- the fresh record, as the program has it
+module _ (consumer : ℕ) (incarnation : ControllerIncarnation) (i : Identity) (st : List ℕ) (r : SessionRecord)
+    (er : r ≡ freshRecord consumer incarnation) where
   -- the store is long enough, and the texts are UTF-8: their lengths decide
   abbrev pub fitted : OpenOutcome
   fitted =
-      cond (leb (textsLength i) 2041) (record { answer = Session (freshRecord consumer incarnation); store = put st 0 (encodeIdentity i) })
-      (notOpened IdentityTooLong st)
+      cond (leb (textsLength i) 2041)
+      (record { answer = Accepted; next = freshRecord consumer incarnation; store = put st 0 (encodeIdentity i) })
+      (notOpened IdentityTooLong (freshRecord consumer incarnation) st)
 
-  pub open-short : length st < 6144 → notOpened StoreTooShort st ≡ openOutcome consumer incarnation i st
+  pub open-short : length st < 6144 → notOpened StoreTooShort r st ≡ openOutcome consumer incarnation i st
   unfolding openOutcome
-  open-short h = simp (lt-ltb (length st) 6144 h)
+  open-short h = simp (er, lt-ltb (length st) 6144 h)
 
   module _ (h : 6144 ≤ length st) (x : Bool) (ex : x ≡ isUtf8 (i .topic)) where
-    pub topic-bad : not x ≡ true → notOpened InvalidUtf8 st ≡ openOutcome consumer incarnation i st
+    pub topic-bad : not x ≡ true → notOpened InvalidUtf8 r st ≡ openOutcome consumer incarnation i st
     unfolding openOutcome
-    topic-bad f = simp (le-ltb (length st) 6144 h, ← ex, not-true x f)
+    topic-bad f = simp (er, le-ltb (length st) 6144 h, ← ex, not-true x f)
 
     module _ (f : not x ≡ false) (y : Bool) (ey : y ≡ isUtf8 (i .subscription)) where
-      pub subscription-bad : not y ≡ true → notOpened InvalidUtf8 st ≡ openOutcome consumer incarnation i st
+      pub subscription-bad : not y ≡ true → notOpened InvalidUtf8 r st ≡ openOutcome consumer incarnation i st
       unfolding openOutcome
-      subscription-bad g = simp (le-ltb (length st) 6144 h, ← ex, not-false x f, ← ey, not-true y g)
+      subscription-bad g = simp (er, le-ltb (length st) 6144 h, ← ex, not-false x f, ← ey, not-true y g)
 
       module _ (g : not y ≡ false) (z : Bool) (ez : z ≡ isUtf8 (i .consumerName)) where
-        pub name-bad : not z ≡ true → notOpened InvalidUtf8 st ≡ openOutcome consumer incarnation i st
+        pub name-bad : not z ≡ true → notOpened InvalidUtf8 r st ≡ openOutcome consumer incarnation i st
         unfolding openOutcome
-        name-bad k = simp (le-ltb (length st) 6144 h, ← ex, not-false x f, ← ey, not-false y g, ← ez, not-true z k)
+        name-bad k = simp (er, le-ltb (length st) 6144 h, ← ex, not-false x f, ← ey, not-false y g, ← ez, not-true z k)
 
         pub texts-good : not z ≡ false → openOutcome consumer incarnation i st ≡ fitted
         unfolding openOutcome
         texts-good k = simp (le-ltb (length st) 6144 h, ← ex, not-false x f, ← ey, not-false y g, ← ez, not-false z k)
 
   module _ (e : openOutcome consumer incarnation i st ≡ fitted) (t : Bool) (et : t ≡ leb (textsLength i) 2041) where
-    pub open-long : not t ≡ true → notOpened IdentityTooLong st ≡ openOutcome consumer incarnation i st
-    open-long m = sym (e ∙ simp (← et, not-true t m))
+    pub open-long : not t ≡ true → notOpened IdentityTooLong r st ≡ openOutcome consumer incarnation i st
+    open-long m = sym (e ∙ simp (← et, not-true t m, er))
 
-    pub open-done : not t ≡ false → (r : SessionRecord) (q : List ℕ) → r ≡ freshRecord consumer incarnation → q ≡ put st 0 (encodeIdentity i)
-        → _≡_ {A = OpenOutcome} (record { answer = Session r; store = q }) (openOutcome consumer incarnation i st)
-    open-done m r q er eq = sym (e ∙ simp (← et, not-false t m, er, eq))
+    pub open-done : not t ≡ false → (q : List ℕ) → q ≡ put st 0 (encodeIdentity i)
+        → _≡_ {A = OpenOutcome} (record { answer = Accepted; next = r; store = q }) (openOutcome consumer incarnation i st)
+    open-done m q eq = sym (e ∙ simp (← et, not-false t m, er, eq))

@@ -8,9 +8,10 @@ ghost use Rattle.packed_int.specs.Put.{put};
 ghost use Rattle.session.specs.Identity.{kindByte, encodeIdentity, isIdentity};
 ghost use Rattle.session.specs.Calls.{freshRecord, openOutcome, sameIdentity, matchOf};
 use refusal::Refusal;
+use session::Answer;
+use session::Changed;
 use session::Floor;
 use session::Match;
-use session::Opened;
 use session::SessionRecord;
 use session_store::MIN_STORE;
 use types::ControllerIncarnation;
@@ -75,12 +76,12 @@ fn fresh(consumer_id: u64, incarnation: ControllerIncarnation) -> SessionRecord
         invalidated: false,
         epoch_floor: Floor::Unset,
         queue_count: 0,
-        drain_position: 0,
+        drain_positions: [0; 8],
     }
 }
 
 // Opens a session on a store: writes its identity and answers a fresh record. Tested in order: the store's length (1), UTF-8 of the texts (7), their lengths
-// together (8). A refusal leaves the store as it was.
+// together (8). A refusal leaves the store as it was, and the record beside it is no session's.
 pub fn open(
     consumer_id: u64,
     incarnation: ControllerIncarnation,
@@ -89,26 +90,30 @@ pub fn open(
     name: &[u8],
     kind: ScalableConsumerType,
     store: &mut [u8],
-) -> Opened
-    ensures { λ r. ⌜ record { answer = r; store = now (store .exit) } ≡ openOutcome «consumer_id» incarnation (record { topic = now (topic .entry); subscription = now (subscription .entry); consumerName = now (name .entry); consumerType = kind }) (now (store .entry)) ⌝ }
+) -> Changed
+    ensures { λ x. ⌜ record { answer = x .answer; next = x .next; store = now (store .exit) } ≡ openOutcome «consumer_id» incarnation (record { topic = now (topic .entry); subscription = now (subscription .entry); consumerName = now (name .entry); consumerType = kind }) (now (store .entry)) ⌝ }
 {
+    let next = fresh(consumer_id, incarnation);
     if store.len() < MIN_STORE {
-        return Opened::Refused(Refusal::StoreTooShort);
+        return session_record::refuse(next, Refusal::StoreTooShort);
     }
     if !utf8::is_utf8(topic) {
-        return Opened::Refused(Refusal::InvalidUtf8);
+        return session_record::refuse(next, Refusal::InvalidUtf8);
     }
     if !utf8::is_utf8(subscription) {
-        return Opened::Refused(Refusal::InvalidUtf8);
+        return session_record::refuse(next, Refusal::InvalidUtf8);
     }
     if !utf8::is_utf8(name) {
-        return Opened::Refused(Refusal::InvalidUtf8);
+        return session_record::refuse(next, Refusal::InvalidUtf8);
     }
     if !texts_fit(topic, subscription, name) {
-        return Opened::Refused(Refusal::IdentityTooLong);
+        return session_record::refuse(next, Refusal::IdentityTooLong);
     }
     write_identity(topic, subscription, name, kind, store);
-    Opened::Session(fresh(consumer_id, incarnation))
+    Changed {
+        next,
+        answer: Answer::Accepted,
+    }
 }
 
 // The identity in the slot s has these texts and this kind.

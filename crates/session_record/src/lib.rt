@@ -1,6 +1,7 @@
 // A session's record changed by value, one function for each change, and the floor.
 ghost use mathlib.Core.Path.{_≡_};
-ghost use Rattle.session.specs.Session.{raise};
+ghost use Prim.Native.Nat.{_<_};
+ghost use Rattle.session.specs.Session.{positionOf, raise};
 ghost use Rattle.session.specs.Update.{withQueueCount, withFloor};
 ghost use Rattle.session.specs.Drain.{withPosition};
 ghost use Rattle.session.specs.declared.Answer.the-variants.{Refused, Unchanged};
@@ -72,6 +73,7 @@ pub fn with_queue_count(r: SessionRecord, n: usize) -> SessionRecord
 {
     let incarnation = r.incarnation;
     let epoch_floor = r.epoch_floor;
+    let drain_positions = r.drain_positions;
     SessionRecord {
         consumer_id: r.consumer_id,
         incarnation,
@@ -79,7 +81,7 @@ pub fn with_queue_count(r: SessionRecord, n: usize) -> SessionRecord
         invalidated: r.invalidated,
         epoch_floor,
         queue_count: n,
-        drain_position: r.drain_position,
+        drain_positions,
     }
 }
 
@@ -87,6 +89,7 @@ pub fn with_floor(r: SessionRecord, epoch_floor: Floor) -> SessionRecord
     ensures { λ x. ⌜ x ≡ withFloor r «epoch_floor» ⌝ }
 {
     let incarnation = r.incarnation;
+    let drain_positions = r.drain_positions;
     SessionRecord {
         consumer_id: r.consumer_id,
         incarnation,
@@ -94,13 +97,26 @@ pub fn with_floor(r: SessionRecord, epoch_floor: Floor) -> SessionRecord
         invalidated: r.invalidated,
         epoch_floor,
         queue_count: r.queue_count,
-        drain_position: r.drain_position,
+        drain_positions,
     }
 }
 
-pub fn with_position(r: SessionRecord, k: usize) -> SessionRecord
-    ensures { λ x. ⌜ x ≡ withPosition r k ⌝ }
+// How far a reader has drained the queue.
+pub fn position(r: SessionRecord, reader: usize) -> usize
+    requires { ⌜ reader < 8 ⌝ }
+    ensures { λ x. ⌜ x ≡ positionOf r reader ⌝ }
 {
+    let drain_positions = r.drain_positions;
+    drain_positions[reader]
+}
+
+// The position of a reader, and no other, moved to k.
+pub fn with_position(r: SessionRecord, reader: usize, k: usize) -> SessionRecord
+    requires { ⌜ reader < 8 ⌝ }
+    ensures { λ x. ⌜ x ≡ withPosition r reader k ⌝ }
+{
+    let mut drain_positions = r.drain_positions;
+    drain_positions[reader] = k;
     let incarnation = r.incarnation;
     let epoch_floor = r.epoch_floor;
     SessionRecord {
@@ -110,6 +126,6 @@ pub fn with_position(r: SessionRecord, k: usize) -> SessionRecord
         invalidated: r.invalidated,
         epoch_floor,
         queue_count: r.queue_count,
-        drain_position: k,
+        drain_positions,
     }
 }

@@ -4,16 +4,12 @@ use Prim.Native.Nat.{ℕ}
 use mathlib.Core.Bool.{Bool, true, false}
 use mathlib.Core.List.{[], _∷_}
 use lib.IntN.{pos}
-use Rattle.types.specs.declared.ControllerIncarnation.{ControllerIncarnation}
 use Rattle.session.specs.declared.SessionRecord.{SessionRecord}
 use Rattle.session.specs.declared.Floor.{Floor}
 use Rattle.session.specs.declared.Floor.the-variants.{Unset, At}
 use Rattle.session.specs.declared.Answer.{Answer}
 use Rattle.session.specs.declared.Answer.the-variants as answer
 use Rattle.session.specs.declared.Changed.{Changed}
-use Rattle.session.specs.declared.Opened.{Opened}
-use Rattle.session.specs.declared.Opened.the-variants as opened
-use Rattle.session.specs.Calls.{freshRecord}
 use Rattle.session_record.specs.Floors.{floorValue}
 use Rattle.reply.specs.declared.Reply.{Reply}
 use Rattle.reply.specs.Replies.{accepted, unchanged, delta, replay, refusedReply, takenReply}
@@ -35,7 +31,7 @@ recordOf r =
       invalidated = r .invalidated;
       «epoch_floor» = floorOf (r .«has_floor») (r .«epoch_floor»);
       «queue_count» = r .«queue_count»;
-      «drain_position» = r .«drain_position»;
+      «drain_positions» = r .«drain_positions»;
     }
 
 abbrev pub hasFloor : Floor → Bool
@@ -49,7 +45,7 @@ exportRecord r =
       incarnation = r .incarnation .0;
       «epoch_floor» = floorValue (r .«epoch_floor»);
       «queue_count» = r .«queue_count»;
-      «drain_position» = r .«drain_position»;
+      «drain_positions» = r .«drain_positions»;
       «has_floor» = hasFloor (r .«epoch_floor»);
       registered = r .registered;
       invalidated = r .invalidated;
@@ -71,15 +67,3 @@ sessionReply a r = record { state = exportRecord r; reply = answerReply a }
 
 abbrev pub changedReply : Changed → SessionReply
 changedReply c = sessionReply (c .answer) (c .next)
-
--- a refused open leaves a record with these numbers, which is no session
-abbrev pub openedRecord : ℕ → ControllerIncarnation → Opened → SessionRecord
-openedRecord consumer incarnation (opened.Session r) = r
-openedRecord consumer incarnation (opened.Refused x) = freshRecord consumer incarnation
-
-abbrev pub openedAnswer : Opened → Answer
-openedAnswer (opened.Session r) = answer.Accepted
-openedAnswer (opened.Refused x) = answer.Refused x
-
-unfoldable pub openReply : ℕ → ControllerIncarnation → Opened → SessionReply
-openReply consumer incarnation o = sessionReply (openedAnswer o) (openedRecord consumer incarnation o)

@@ -1,10 +1,9 @@
 // The record and the answer of a session's call as plain structs, for the boundary to C and Rust.
 ghost use mathlib.Core.Path.{_≡_};
-ghost use Rattle.session_reply.specs.Replies.{floorOf, hasFloor, recordOf, exportRecord, answerReply, sessionReply, openReply};
+ghost use Rattle.session_reply.specs.Replies.{floorOf, hasFloor, recordOf, exportRecord, answerReply, sessionReply};
 use reply::Reply;
 use session::Answer;
 use session::Floor;
-use session::Opened;
 use session::SessionRecord;
 use types::ControllerIncarnation;
 
@@ -16,7 +15,7 @@ pub struct Record {
     // 0 where there is no floor.
     pub epoch_floor: u64,
     pub queue_count: usize,
-    pub drain_position: usize,
+    pub drain_positions: [usize; 8],
     pub has_floor: bool,
     pub registered: bool,
     pub invalidated: bool,
@@ -39,6 +38,7 @@ pub fn record_of(r: Record) -> SessionRecord
     ensures { λ x. ⌜ x ≡ recordOf r ⌝ }
 {
     let epoch_floor = floor_of(r.has_floor, r.epoch_floor);
+    let drain_positions = r.drain_positions;
     SessionRecord {
         consumer_id: r.consumer_id,
         incarnation: ControllerIncarnation(r.incarnation),
@@ -46,7 +46,7 @@ pub fn record_of(r: Record) -> SessionRecord
         invalidated: r.invalidated,
         epoch_floor,
         queue_count: r.queue_count,
-        drain_position: r.drain_position,
+        drain_positions,
     }
 }
 
@@ -64,12 +64,13 @@ fn export_record(r: SessionRecord) -> Record
 {
     let link = r.incarnation;
     let floor = r.epoch_floor;
+    let drain_positions = r.drain_positions;
     Record {
         consumer_id: r.consumer_id,
         incarnation: link.0,
         epoch_floor: session_record::floor_value(floor),
         queue_count: r.queue_count,
-        drain_position: r.drain_position,
+        drain_positions,
         has_floor: has_floor(floor),
         registered: r.registered,
         invalidated: r.invalidated,
@@ -94,24 +95,4 @@ pub fn session_reply(a: Answer, next: SessionRecord) -> SessionReply
     let state = export_record(next);
     let reply = answer_reply(a);
     SessionReply { state, reply }
-}
-
-pub fn open_reply(consumer_id: u64, incarnation: ControllerIncarnation, o: Opened) -> SessionReply
-    ensures { λ x. ⌜ x ≡ openReply «consumer_id» incarnation o ⌝ }
-{
-    match o {
-        Opened::Session(r) => session_reply(Answer::Accepted, r),
-        Opened::Refused(x) => session_reply(
-            Answer::Refused(x),
-            SessionRecord {
-                consumer_id,
-                incarnation,
-                registered: false,
-                invalidated: false,
-                epoch_floor: Floor::Unset,
-                queue_count: 0,
-                drain_position: 0,
-            },
-        ),
-    }
 }

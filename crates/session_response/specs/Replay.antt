@@ -16,7 +16,7 @@ use Rattle.packed_queue.specs.Entries.{sizeEntry}
 use Rattle.content.specs.Content.{Content, refused, contentOf}
 use Rattle.session.specs.Store.{queueIn, queueEnd}
 use Rattle.session.specs.declared.SessionRecord.{SessionRecord}
-use Rattle.session.specs.Session.{Session, Result, raise}
+use Rattle.session.specs.Session.{Session, Result, atStart, raise}
 use Rattle.session.specs.Response.{lastList, replayable, register}
 use Rattle.session_store.specs.Scratch.{Scratch}
 use Rattle.session_response.specs.declared.Stale.{Stale}
@@ -60,7 +60,7 @@ registeredBy r epoch count =
       invalidated = r .invalidated;
       «epoch_floor» = raise (r .«epoch_floor») epoch;
       «queue_count» = count;
-      «drain_position» = 0;
+      «drain_positions» = atStart;
     }
 
 -- the baseline is set, and with it the last list and the floor

@@ -102,7 +102,7 @@ fn registered_with(r: SessionRecord, epoch: u64, count: usize) -> SessionRecord
         invalidated: r.invalidated,
         epoch_floor,
         queue_count: count,
-        drain_position: 0,
+        drain_positions: [0; 8],
     }
 }
 

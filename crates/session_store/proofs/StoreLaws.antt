@@ -29,7 +29,8 @@ use Rattle.packed_queue.proofs.WalkLaws.{read-there, read-not, ends-inside, end
 use Rattle.session.specs.declared.SessionRecord.{SessionRecord}
 use Rattle.session.specs.Store.{slot, queueIn, queueReads, queueEnd}
 use Rattle.session.specs.Identity.{isIdentity}
-use Rattle.session.specs.Session.{listsStart, inUse, view, damaged}
+use Rattle.session.specs.Session.{positionOf, listsStart, inUse, view, anyBeyond, damaged}
+use Rattle.session.proofs.PositionLaws.{none-within}
 use Rattle.session_store.specs.Scratch.{Scratch}
 use Rattle.session_store.specs.Places.{QueueEnds, Lies, entryIn}
 
@@ -112,14 +113,14 @@ module _ (r : SessionRecord) (st : List ℕ) where
   count-bad h = simp (lt-ltb 1024 (r .«queue_count») h)
 
   module _ (h : r .«queue_count» ≤ 1024) where
-    pub position-bad : r .«queue_count» < r .«drain_position» → damaged (view r st) ≡ true
+    pub position-bad : anyBeyond 8 (r .«queue_count») (r .«drain_positions») ≡ true → damaged (view r st) ≡ true
     unfolding damaged view
-    position-bad k = simp (le-ltb 1024 (r .«queue_count») h, lt-ltb (r .«queue_count») (r .«drain_position») k)
+    position-bad k = simp (le-ltb 1024 (r .«queue_count») h, k)
 
-    module _ (k : r .«drain_position» ≤ r .«queue_count») where
+    module _ (k : anyBeyond 8 (r .«queue_count») (r .«drain_positions») ≡ false) where
       slots-decide : damaged (view r st) ≡ not (inUse r st)
       unfolding damaged view
-      slots-decide = simp (le-ltb 1024 (r .«queue_count») h, le-ltb (r .«queue_count») (r .«drain_position») k)
+      slots-decide = simp (le-ltb 1024 (r .«queue_count») h, k)
 
       module _ (x : Bool) (ex : x ≡ isIdentity (slot st 0)) where
         pub identity-bad : not x ≡ true → damaged (view r st) ≡ true
@@ -156,18 +157,18 @@ module _ (r : SessionRecord) (st : List ℕ) where
 
 module _ (r : SessionRecord) (st : List ℕ) (e : not (damaged (view r st)) ≡ true) where
   counts : (ltb 1024 (r .«queue_count») ≡ false)
-      × (not (ltb (r .«queue_count») (r .«drain_position») || not (inUse r st)) ≡ true)
+      × (not (anyBeyond 8 (r .«queue_count») (r .«drain_positions») || not (inUse r st)) ≡ true)
   unfolding damaged view
   counts = or-false (ltb 1024 (r .«queue_count»)) _ e
 
   pub count-most : r .«queue_count» ≤ 1024
   count-most = ltb-false _ _ (counts .0)
 
-  places : (ltb (r .«queue_count») (r .«drain_position») ≡ false) × (not (not (inUse r st)) ≡ true)
-  places = or-false (ltb (r .«queue_count») (r .«drain_position»)) (not (inUse r st)) (counts .1)
+  places : (anyBeyond 8 (r .«queue_count») (r .«drain_positions») ≡ false) × (not (not (inUse r st)) ≡ true)
+  places = or-false (anyBeyond 8 (r .«queue_count») (r .«drain_positions»)) (not (inUse r st)) (counts .1)
 
-  pub position-in : r .«drain_position» ≤ r .«queue_count»
-  position-in = ltb-false _ _ (places .0)
+  pub position-in : (reader : ℕ) → reader < 8 → positionOf r reader ≤ r .«queue_count»
+  position-in reader h = none-within 8 (r .«queue_count») (r .«drain_positions») (places .0) reader h
 
   slots : (isIdentity (slot st 0) ≡ true) × ((listsStart (r .registered) st && queueReads st (r .«queue_count»)) ≡ true)
   unfolding inUse

@@ -10,13 +10,14 @@ ghost use Rattle.packed.specs.Assignment.{encodeAssignment, assignmentOf, start
 ghost use Rattle.packed_queue.specs.Entries.{encodeEntry};
 ghost use Rattle.session.specs.Store.{slot};
 ghost use Rattle.session.specs.Identity.{isIdentity};
-ghost use Rattle.session.specs.Session.{listsStart, view, damaged};
+ghost use Rattle.session.specs.Session.{listsStart, view, anyBeyond, damaged};
 ghost use Rattle.session_store.specs.Scratch.{Scratch};
 ghost use Rattle.session_store.specs.Tests.{StoreTested};
 use packed::Packed;
 use packed::SLOT;
 use packed_queue::Entries;
 use packed_queue::LENGTH;
+use session::READERS;
 use session::SessionRecord;
 
 // The least store: three slots.
@@ -83,6 +84,22 @@ fn lists_start(registered: bool, store: &[u8]) -> bool
     starts(store, 2)
 }
 
+// A reader's position is beyond the queue.
+fn any_beyond(r: SessionRecord) -> bool
+    ensures { λ x. ⌜ x ≡ anyBeyond 8 (r .«queue_count») (r .«drain_positions») ⌝ }
+{
+    let positions = r.drain_positions;
+    let count = r.queue_count;
+    let mut left: usize = READERS;
+    while 0 < left {
+        left = left - 1;
+        if count < positions[left] {
+            return true;
+        }
+    }
+    false
+}
+
 // Tests that no slot or entry in use is malformed, and no count is beyond what it counts. The counts come first: a damaged one could be any number.
 pub fn test_store(r: SessionRecord, store: &[u8]) -> Tested
     requires { ⌜ 6144 ≤ length (now store) ⌝ }
@@ -91,7 +108,7 @@ pub fn test_store(r: SessionRecord, store: &[u8]) -> Tested
     if MAX_QUEUE < r.queue_count {
         return Tested::Damaged;
     }
-    if r.queue_count < r.drain_position {
+    if any_beyond(r) {
         return Tested::Damaged;
     }
     if !is_identity(&store[0..SLOT]) {
@@ -101,7 +118,10 @@ pub fn test_store(r: SessionRecord, store: &[u8]) -> Tested
         return Tested::Damaged;
     }
     match packed_queue::read_entries(&store[MIN_STORE..], r.queue_count) {
-        Entries::End(size) => Tested::Sound(MIN_STORE + size),
+        Entries::End(size) => {
+            let end = MIN_STORE + size;
+            Tested::Sound(end)
+        }
         Entries::Malformed => Tested::Damaged,
     }
 }

@@ -5,7 +5,6 @@ use call_text::text;
 use libc::STDOUT_FILENO;
 use session::Answer;
 use session::Changed;
-use session::Opened;
 use session::SessionRecord;
 use types::ControllerIncarnation;
 use types::ScalableConsumerType;
@@ -24,21 +23,19 @@ fn consumer_type(word: &[u8]) -> ScalableConsumerType {
 }
 
 // The session behind an open; one that is refused leaves it as it was.
-fn opened(r: SessionRecord, x: Opened) -> Changed {
-    match x {
-        Opened::Session(next) => Changed {
-            next,
-            answer: Answer::Accepted,
-        },
-        Opened::Refused(refusal) => Changed {
+fn opened(r: SessionRecord, x: Changed) -> Changed {
+    let answer = x.answer;
+    match answer {
+        Answer::Refused(refusal) => Changed {
             next: r,
             answer: Answer::Refused(refusal),
         },
+        _ => x,
     }
 }
 
 // open CONSUMER INCARNATION TOPIC SUBSCRIPTION NAME KIND
-fn open(line: &[u8], store: &mut [u8]) -> Opened {
+fn open(line: &[u8], store: &mut [u8]) -> Changed {
     let mut topic = io::large_buffer();
     let mut subscription = io::large_buffer();
     let mut name = io::large_buffer();
@@ -70,6 +67,11 @@ fn response(r: SessionRecord, line: &[u8], store: &mut [u8]) -> Changed {
     session_response::responded(r, store, &message[..n], incarnation_at(line, 1))
 }
 
+// drain READER
+fn drain(r: SessionRecord, line: &[u8], store: &[u8], out: &mut [u8]) -> Changed {
+    session_drain::drained(r, store, lines::number_at(line, 1) as usize, out)
+}
+
 // The call of a line.
 pub fn call(
     r: SessionRecord,
@@ -82,7 +84,7 @@ pub fn call(
         CallName::Open => opened(r, open(line, store)),
         CallName::Update => update(r, line, store, out),
         CallName::Response => response(r, line, store),
-        CallName::Drain => session_drain::drained(r, store, out),
+        CallName::Drain => drain(r, line, store, out),
         CallName::Begin => session_link::begun(r, incarnation_at(line, 1)),
         CallName::Invalidate => session_link::invalidated(r),
     }

@@ -19,7 +19,7 @@ with # are passed over, but counted.
   open CONSUMER INCARNATION TOPIC SUBSCRIPTION NAME KIND    a session; KIND: stream, checkpoint
   update INCARNATION MESSAGE                                a push of the controller
   response INCARNATION MESSAGE                              the answer to the registration
-  drain                                                     the next push of the queue
+  drain READER                                              the next push of the queue for a reader
   begin INCARNATION                                         a new link to the controller
   invalidate                                                the controller is not trusted now
   segment KEY                                               the segment held that takes a key
@@ -30,7 +30,8 @@ with # are passed over, but counted.
   earliest_open CONTRACT SECOND                             the earliest open second from it on
   check_log DELTAS LOG                                      whether a log passes; needs no session
 
-CONSUMER, INCARNATION, ID, SECONDS, RATE, REMAINDER and SECOND are decimal numbers below 2^64.
+CONSUMER, INCARNATION, READER, ID, SECONDS, RATE, REMAINDER and SECOND are decimal numbers below
+2^64; a READER is one of 0 to 7, each of which is handed every push of the queue.
 TOPIC, SUBSCRIPTION, NAME, MESSAGE, KEY, SEGMENT, CONTRACT, DELTAS and LOG are bytes, at most 65536:
 in hexadecimal behind 0x, or as they stand. A MESSAGE is what the controller sends, in Protocol
 Buffers; a SEGMENT is one record, packed as in a list. RATE is in millionths of a euro per full key
@@ -50,7 +51,8 @@ For each call a line LINE CALL ANSWER, where LINE is its number in the log and A
   0xBYTES                                    the four-byte key with the smallest hash of the segment
   charged N remainder M                      N millionths of a euro; M goes into the next charge
   lost S largest M                           of the latest 256 deltas since the last open, begin or
-                                             invalidate: the sum of their lost counts, and the largest
+                                             invalidate, a replay counted once for all readers: the
+                                             sum of their lost counts, and the largest
   yes, no                                    whether the second is open; whether the log passes
   SECOND                                     the earliest open second
   delta epoch E lost L gained G              what the push changed, in numbers
@@ -59,8 +61,8 @@ For each call a line LINE CALL ANSWER, where LINE is its number in the log and A
 
 and behind `refused 16 Broker CODE` the broker's text: text \"..\". In quotes every byte that is
 not printable ASCII, and each quote and backslash, is written \\xHH.
-With --state:   state incarnation I floor F registered R invalidated V queue Q drained D lost S
-largest M
+With --state:   state incarnation I floor F registered R invalidated V queue Q drained D0 D1 .. D7
+lost S largest M, where D0 to D7 count the pushes that each reader has drained
 With --lists:   lost ID, gained ID START-END BUCKETS, and held epoch E segments N with a row
 ID START-END BUCKETS for each segment; - for no buckets.
 For a line that is no call LINE damaged: REASON; the run goes on.

@@ -17,6 +17,7 @@ use refusal::Refusal;
 use segment_key::KeyAnswer;
 use session::Answer;
 use session::Floor;
+use session::READERS;
 use session::SessionRecord;
 
 // A refusal; of a broker's, the text too.
@@ -136,6 +137,15 @@ fn show_floor(floor: Floor) {
     }
 }
 
+// How many pushes of the queue each reader has drained.
+fn show_drained(r: SessionRecord) {
+    let positions = r.drain_positions;
+    text(b" drained");
+    for reader in 0..READERS {
+        labelled(b" ", positions[reader] as u64);
+    }
+}
+
 // The record of an open session, and the lost counts beside it.
 pub fn show_state(r: SessionRecord, window: &[u8]) {
     let incarnation = r.incarnation;
@@ -146,7 +156,7 @@ pub fn show_state(r: SessionRecord, window: &[u8]) {
     show_flag(b" registered ", r.registered);
     show_flag(b" invalidated ", r.invalidated);
     labelled(b" queue ", r.queue_count as u64);
-    labelled(b" drained ", r.drain_position as u64);
+    show_drained(r);
     space();
     show_churn(churn::current(window));
     newline();

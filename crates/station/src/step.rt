@@ -53,7 +53,7 @@ pub fn at_start() -> Run {
         invalidated: false,
         epoch_floor: Floor::Unset,
         queue_count: 0,
-        drain_position: 0,
+        drain_positions: [0; 8],
     };
     Run {
         line: 0,
@@ -147,7 +147,7 @@ fn run_call(
     let record = run.record;
     let changed = calls::call(record, name, line, store, &mut out);
     let answer = changed.answer;
-    window::after(name, answer, &out, window);
+    window::after(name, record, changed, &out, window);
     show_call(run.line, answer, line, store, &out);
     let next = settled(run, changed);
     show_details(options, next, answer, store, window, &out);

@@ -1,15 +1,16 @@
 -- `drain` meets its contract: a walk of its MIR by hand (proofs/Lent). Of `drained` only its contract is used.
 -- Assumes nothing.
-use Rattle.ranges.proofs.Words.{refl, none, some, List, [], _∷_, URA, named, id⊢, Heap, Model, Running, GhostRules, tablesOf}
+use Rattle.ranges.proofs.Words.{refl, none, some, List, [], _∷_, URA, named, id⊢, Heap, Model, Running, GhostRules, givenOf, tablesOf, Given}
 use Rattle.ranges.proofs.Words.{_$_, !, and-then, no-more, params1, pass1, pass0, init, slice-vals, shr-slice-tells}
 use lib.ListN.{drop}
 use contract.Lifetimes.{Lfts}
-use denote.Builtin.{u8}
+use denote.Builtin.{u8, usize}
 use denote.Laws.{Spells}
 use denote.Slice.{mut-slice-tells}
-use denote.Signature.{Slot, shrSlice, mutSlice, typesAt}
+use denote.Signature.{Slot, plain, shrSlice, mutSlice, typesAt}
 use denote.Triple.Clauses.{Clauses}
-use Rattle.ranges.proofs.Walk.{mine}
+use Rattle.ranges.proofs.Walk.{low, fits, mine}
+use Rattle.session_lent.proofs.Types.{word}
 use Rattle.session_lent.proofs.Lent.{slice-fits, copies-record, borrows-on, hands-on, Walked, lent-proved}
 use Rattle.session_drain.proofs.drained as g
 use Rattle.session_drain.proofs.drained.Symbol as g-def
@@ -22,32 +23,37 @@ use Rattle.session_lent.proofs.drain.Code.Mir as steps
 
 -- the parameters but the record, here and at the callee, and their machine values
 abbrev ss : List (Slot 3)
-ss = shrSlice 1 tt (λ _. u8) ∷ mutSlice 2 tt (λ _. u8) ∷ []
+ss = shrSlice 1 tt (λ _. u8) ∷ plain (λ _. usize) ∷ mutSlice 2 tt (λ _. u8) ∷ []
 
 abbrev ss′ : List (Slot 2)
-ss′ = shrSlice 0 tt (λ _. u8) ∷ mutSlice 1 tt (λ _. u8) ∷ []
+ss′ = shrSlice 0 tt (λ _. u8) ∷ plain (λ _. usize) ∷ mutSlice 1 tt (λ _. u8) ∷ []
 
 abbrev spelt : (κs : Lfts 3) → Spells (typesAt ss κs)
-spelt κs = (slice-vals, (slice-vals, tt))
+spelt κs = (slice-vals, ((λ x. low word x ∷ []), (slice-vals, tt)))
 
 module _ {M : Type 1} (𝓤 : URA M) (H : Heap 𝓤) (𝓜 : Model 𝓤 H) (𝓖 : GhostRules 𝓤 H) (𝓡 : Running 𝓤 H 𝓜) where
+  abbrev W : Given 𝓤 H (𝓖 .A)
+  W = givenOf 𝓤 H 𝓜 𝓖
+
   abbrev c : Clauses 𝓤 f.ended
   c = f.clauses 𝓤 H (𝓖 .A) (𝓜 .mem) (𝓡 .run)
 
   walk : Walked 𝓤 H 𝓜 𝓖 𝓡 code.env ss c f-key.name code.function spelt
   walk κs qs r rest _ are m =
       params1 ! $ pass1 ! (init ! 7 refl (tt, tt)) $ pass1 ! (init ! 9 refl (slice-fits (are .0 .0 .1))) $
-      pass1 ! (init ! 11 refl (slice-fits (are .1 .0 .0 .1))) $ pass0 ! $
+      pass1 ! (init ! 11 refl (fits word W (rest .1 .0) (are .1 .0))) $
+      pass1 ! (init ! 13 refl (slice-fits (are .1 .1 .0 .0 .1))) $ pass0 ! $
       copies-record ! (κs .0) (qs .0) r refl refl refl refl (λ is.
-      borrows-on ! 6 refl refl refl (tt, tt) refl refl refl (slice-fits (are .1 .0 .0 .1)) $
+      borrows-on ! 6 refl refl refl (tt, tt) refl refl refl (slice-fits (are .1 .1 .0 .0 .1)) $
       hands-on 𝓤 H 𝓜 𝓖 𝓡 code.env ss c κs qs r rest (spelt κs) tt (drop 2 steps.locals) m ss′ (g.clauses 𝓤 H (𝓖 .A) (𝓜 .mem) (𝓡 .run))
       rest _ tt ! g-def.name g-def.routine code.calls-session-drain·drained (g-thm.met 𝓤 H 𝓜 𝓖 𝓡)
-      (id⊢ 𝓤 _, (λ u ws. (ws, id⊢ 𝓤 _, id⊢ 𝓤 _))) is 2 (some _ ∷ some _ ∷ none ∷ some _ ∷ some _ ∷ some _ ∷ [])
-      (and-then ! (mine ! 5 refl) (and-then ! (mine ! 5 refl) (and-then ! (mine ! 5 refl) (no-more !))))
+      (id⊢ 𝓤 _, (λ u ws. (ws, id⊢ 𝓤 _, id⊢ 𝓤 _))) is 3 (some _ ∷ some _ ∷ some _ ∷ none ∷ some _ ∷ some _ ∷ some _ ∷ [])
+      (and-then ! (mine ! 5 refl) (and-then ! (mine ! 5 refl) (and-then ! (mine ! 5 refl) (and-then ! (mine ! 5 refl) (no-more !)))))
       (refl, refl, (λ v. refl), (λ v. refl)))
 
 pub drain-spec : {M : Type 1} → stated.statement M
 unfolding code.routine tablesOf
 drain-spec 𝓤 H 𝓜 𝓖 𝓡 =
     lent-proved 𝓤 H 𝓜 𝓖 𝓡 code.env ss (c 𝓤 H 𝓜 𝓖 𝓡) f-key.name code.function (code.unfolded 𝓤 H 𝓜 𝓡) spelt
-    (λ κs. (shr-slice-tells (named 1) (κs .1 .0) u8, (mut-slice-tells (named 2) (κs .1 .1 .0) u8, tt))) (walk 𝓤 H 𝓜 𝓖 𝓡)
+    (λ κs. (shr-slice-tells (named 1) (κs .1 .0) u8, (word .lowers .val-is, (mut-slice-tells (named 2) (κs .1 .1 .0) u8, tt))))
+    (walk 𝓤 H 𝓜 𝓖 𝓡)

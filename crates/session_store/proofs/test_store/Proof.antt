@@ -7,7 +7,7 @@ use mathlib.Core.Bool.{false}
 use borrow.Author.Needs.{needs}
 use Rattle.session.specs.Store.{slot}
 use Rattle.session.specs.Identity.{isIdentity}
-use Rattle.session.specs.Session.{view, damaged}
+use Rattle.session.specs.Session.{view, anyBeyond, damaged}
 use Rattle.session_store.specs.Places.{QueueEnds}
 use Rattle.session_store.proofs.StoreLaws.{slot-at, count-bad, position-bad, identity-bad, lists-bad, queue-bad, queue-good, queue-ended}
 use Rattle.session_store.proofs.test_store.Statement.{statement}
@@ -23,7 +23,11 @@ returns-2 : tie.Need-returns-2
 returns-2 c =
     let k = c .before .before in
     let s = start k in
-    position-bad (s .args .r) (s .args .store .now) (k .if1 .left) (omega (arith, c .if2 .taken))
+    position-bad (s .args .r) (s .args .store .now) (k .if1 .left) (sym (c .before .any-beyond .ensures) ∙ c .if2 .taken)
+
+-- no position is beyond the queue
+within : (n : tie.Else2) → let r = start (n .before .before) .args .r in anyBeyond 8 (r .«queue_count») (r .«drain_positions») ≡ false
+within n = sym (n .before .any-beyond .ensures) ∙ n .if2 .left
 
 named : (c : tie.After-is-identity)
     → c .is-identity .result ≡ isIdentity (slot (start (c .before .before .before .before) .args .store .now) 0)
@@ -34,7 +38,7 @@ returns-3 c =
     let n = c .before .before .before in
     let k = n .before .before in
     let s = start k in
-    identity-bad (s .args .r) (s .args .store .now) (k .if1 .left) (n .if2 .left) (c .before .is-identity .result)
+    identity-bad (s .args .r) (s .args .store .now) (k .if1 .left) (within n) (c .before .is-identity .result)
     (named (c .before)) (c .if3 .taken)
 
 returns-4 : tie.Need-returns-4
@@ -43,7 +47,7 @@ returns-4 c =
     let n = m .before .before .before in
     let k = n .before .before in
     let s = start k in
-    lists-bad (s .args .r) (s .args .store .now) (k .if1 .left) (n .if2 .left) (m .before .is-identity .result)
+    lists-bad (s .args .r) (s .args .store .now) (k .if1 .left) (within n) (m .before .is-identity .result)
     (named (m .before)) (m .if3 .left) (c .before .lists-start .result) (c .before .lists-start .ensures) (c .if4 .taken)
 
 abbrev begin : tie.After-read-entries → tie.Start
@@ -61,14 +65,14 @@ read c =
     let k = n .before .before in
     let s = start k in
     let e = sym (c .size .given .1) ∙ a .read-entries .ensures in (
-      queue-good (s .args .r) (s .args .store .now) (k .if1 .left) (n .if2 .left) (m .before .is-identity .result)
+      queue-good (s .args .r) (s .args .store .now) (k .if1 .left) (within n) (m .before .is-identity .result)
           (named (m .before)) (m .if3 .left) (l .before .lists-start .result) (l .before .lists-start .ensures) (l .if4 .left) _ e,
-      queue-ended (s .args .r) (s .args .store .now) (k .if1 .left) (n .if2 .left) (m .before .is-identity .result)
+      queue-ended (s .args .r) (s .args .store .now) (k .if1 .left) (within n) (m .before .is-identity .result)
           (named (m .before)) (m .if3 .left) (l .before .lists-start .result) (l .before .lists-start .ensures) (l .if4 .left) _ e (s .pre),
     )
 
-add-t15 : tie.Need-add-t15
-add-t15 c =
+add-end : tie.Need-add-end
+add-end c =
     let k = c .before in record { fits = omega (arith, read k .1 .inside, begin (k .before .before) .good) }
 
 returns-5 : tie.Need-returns-5
@@ -82,7 +86,7 @@ returns-6 c =
     let n = m .before .before .before in
     let k = n .before .before in
     let s = start k in
-    queue-bad (s .args .r) (s .args .store .now) (k .if1 .left) (n .if2 .left) (m .before .is-identity .result)
+    queue-bad (s .args .r) (s .args .store .now) (k .if1 .left) (within n) (m .before .is-identity .result)
     (named (m .before)) (m .if3 .left) (l .before .lists-start .result) (l .before .lists-start .ensures) (l .if4 .left)
     (sym (c .enum-told .given .1) ∙ a .read-entries .ensures)
 
@@ -91,6 +95,7 @@ test-store-spec =
     tie.close
     (tie.spec
     returns
+    (λ c κs. search needs)
     returns-2
     (λ c. search needs)
     (λ c. search needs)
@@ -104,7 +109,7 @@ test-store-spec =
     (λ c. search needs)
     (λ c κs. search needs)
     (λ c. search needs)
-    add-t15
+    add-end
     (λ c. search needs)
     returns-5
     returns-6)

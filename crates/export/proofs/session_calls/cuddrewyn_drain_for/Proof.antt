@@ -1,9 +1,9 @@
--- `cuddrewyn_drain` meets its contract: what the call under it gives, in numbers.
+-- `cuddrewyn_drain_for` meets its contract: what the call under it gives, in numbers.
 -- Assumes nothing.
 use Rattle.export.proofs.ExportLaws.{session-call}
 use borrow.Author.Needs.{needs}
-use Rattle.export.proofs.session_calls.cuddrewyn_drain.Statement.{statement}
-use Rattle.export.proofs.session_calls.cuddrewyn_drain.Tie as tie
+use Rattle.export.proofs.session_calls.cuddrewyn_drain_for.Statement.{statement}
+use Rattle.export.proofs.session_calls.cuddrewyn_drain_for.Tie as tie
 
 record-of-requires : tie.Need-record-of-requires
 record-of-requires c κs = search needs
@@ -22,7 +22,7 @@ returns c =
     let k = c .before .before .before in
     session-call (c .session-reply .ensures) (rw (k .before .before .record-of .ensures) at (k .drained .ensures))
 
-pub cuddrewyn-drain-spec : {M : Type 1} → statement M
-cuddrewyn-drain-spec =
+pub cuddrewyn-drain-for-spec : {M : Type 1} → statement M
+cuddrewyn-drain-for-spec =
     tie.close
     (tie.spec record-of-requires drained-requires session-reply-requires same-length returns)
