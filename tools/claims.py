@@ -1,7 +1,7 @@
 #!/usr/bin/env python3
 """Checks docs/CLAIMS.md against the repository and against docs/sentences.txt, the list of the papers' sentences.
 
-    python3 tools/claims.py                        names, ids, helpers
+    python3 tools/claims.py                        names, ids, contracts
     python3 tools/claims.py --spec DIR             also: docs/sentences.txt is the list of the papers in DIR
     python3 tools/claims.py --spec DIR --write     rewrites docs/sentences.txt first
 
@@ -19,6 +19,11 @@ from collections import Counter
 from pathlib import Path
 
 import refused
+
+# One function of a source, up to its body.
+FUNCTION = re.compile(r'^[ \t]*(?P<pub>pub )?(?P<extern>extern "C" )?fn (?P<name>\w+)(?P<head>(?:(?!^[ \t]*\{$|\{$).)*?)(?:^[ \t]*\{$|\{$)', re.M | re.S)
+# The crates of the programs' texts and of measurements: what they write is tested, not proved.
+TEXTS = {"lines", "call_text", "list_text", "call_line", "key_vectors", "vectors", "speed", "station"}
 
 ROOT = Path(__file__).resolve().parent.parent
 LIST = ROOT / "docs/sentences.txt"
@@ -98,22 +103,24 @@ def declares(path, name):
     if owner:
         bodies = re.findall(rf"^(?:pub )?(?:impl|enum) {re.escape(owner)}\b.*?^}}", text, re.M | re.S)
         return any(re.search(rf"\b(fn|const) {word}\b|^ +{word} *[({{,]", body, re.M) for body in bodies)
+    if path.suffix in (".c", ".h"):
+        return re.search(rf"\b{word}\b", text)
     return re.search(rf"^\s*(pub(\(\w+\))? )?(extern \"C\" )?(fn|struct|enum|const) {word}\b", text, re.M)
 
 
 def check_names(text):
     """Each file:name is declared; each crate cited is in crates.txt or named as not proved yet, not both."""
-    cited = sorted({c for c in re.findall(r"`([^`\n]+)`", text) if c.startswith(("crates/", "docs/", "tools/"))})
+    cited = sorted({c for c in re.findall(r"`([^`\n]+)`", text) if c.startswith(("crates/", "docs/", "tools/", "compare/", "bindings/", "bench/", "vectors/"))})
     for citation in cited:
-        path, _, name = citation.partition(":")
-        if not (ROOT / path).is_file():
+        path, _, name = citation.split(" ")[0].partition(":")
+        if not (ROOT / path).exists():
             fault(f"{citation}: no such file")
         elif path.endswith(".edit"):
             tried = [function for function, _ in refused.named(ROOT / path)]
             if name not in tried and (name or len(tried) > 1):
                 fault(f"{citation}: " + ("no wrong program of it there" if name else "several wrong programs, so name the function"))
-        elif path.endswith((".rt", ".antt")) != bool(name):
-            fault(f"{citation}: a name belongs behind .rt, .antt and .edit alone")
+        elif path.endswith((".rt", ".antt")) != bool(name) and not path.endswith((".rs", ".c", ".h")):
+            fault(f"{citation}: a name belongs behind .rt, .antt and .edit, and may stand behind .rs, .c and .h")
         elif name and not declares(ROOT / path, name):
             fault(f"{citation}: not declared there")
     proved = set(re.findall(r"^(\w+):", (ROOT / "crates.txt").read_text(), re.M))
@@ -123,12 +130,27 @@ def check_names(text):
     return len(cited)
 
 
-def check_helpers(text):
-    """The functions with a `requires` are those in the table of internal helpers."""
+def functions():
+    """Each function of a crate: its crate, its path with its name, and the match."""
+    for path in sorted(ROOT.glob("crates/*/src/**/*.rt")):
+        text = path.read_text()
+        found = list(FUNCTION.finditer(text))
+        if len(found) != len(re.findall(r'^[ \t]*(?:pub )?(?:extern "C" )?fn ', text, re.M)):
+            fault(f"{path.relative_to(ROOT)}: a function that this script cannot read")
+        for m in found:
+            yield path.relative_to(ROOT).parts[1], f"{path.relative_to(ROOT)}:{m['name']}", m
+
+
+def check_contracts(text):
+    """The functions with a `requires` are those in the table of internal helpers, and none is exported; a public one has an `ensures`."""
     listed, real = set(re.findall(r"^\| `(crates/[^`]+)`", text, re.M)), set()
-    for path in ROOT.glob("crates/*/src/**/*.rt"):
-        for m in re.finditer(r"^\s*(?:pub )?fn (\w+)(?:(?!^[ \t]*\{|\{$).)*?^\s+requires\b", path.read_text(), re.M | re.S):
-            real.add(f"{path.relative_to(ROOT)}:{m[1]}")
+    for crate, citation, m in functions():
+        if re.search(r"^\s+requires\b", m["head"], re.M):
+            real.add(citation)
+            if m["extern"]:
+                fault(f"{citation}: an exported call with a requires")
+        if (m["pub"] or m["extern"]) and crate not in TEXTS and not re.search(r"^\s+ensures\b", m["head"], re.M):
+            fault(f"{citation}: a public function without an ensures")
     for citation in sorted(listed ^ real):
         fault(f"{citation}: " + ("not among the internal helpers" if citation in real else "an internal helper without a requires"))
 
@@ -149,7 +171,7 @@ def main():
             fault(f"{name}: docs/sentences.txt differs from the papers")
     text = (ROOT / "docs/CLAIMS.md").read_text()
     rows, names = check_rows(text, [line.split()[0] for line in lines]), check_names(text)
-    check_helpers(text)
+    check_contracts(text)
     for line in faults or [f"{rows} rows, {names} names, {len(lines)} sentences"]:
         print("claims: " + line)
     return 1 if faults else 0

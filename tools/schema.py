@@ -1,0 +1,77 @@
+#!/usr/bin/env python3
+"""Holds the table of crates/schema/specs/Schema.antt to the Rust's pulsar.proto.rs: field, number, label and type of all eight messages.
+
+    python3 tools/schema.py [--rust DIR]      DIR: the folder of the Rust's sources; by default CUDDREWYN_RUST, or ../shared/docs/src beside the repository
+
+Exit status: 0 the two agree; 1 they differ, and each difference is a line `schema: ..`; 3 the Rust is not there.
+"""
+import argparse
+import os
+import re
+import sys
+from pathlib import Path
+
+ROOT = Path(__file__).resolve().parent.parent
+TABLE = ROOT / "crates/schema/specs/Schema.antt"
+SOURCE = "crates/magnetar-proto/src/pb/pulsar.proto.rs"
+
+
+def table_rows(text):
+    """The rows of the table: (message, field) -> (number, label, type), where the members of a oneof have the label 'oneof'."""
+    rows = {}
+    for kind, body in re.findall(r"^schema (\w+) =\n((?: .*\n)+)", text, re.M):
+        for number, label, of, name in re.findall(r"has (\d+) (\(oneof \d+\)|\w+) (\(message \w+\)|\w+) +-- (\w+)", body):
+            rows[kind, name] = int(number), label.strip("()").split()[0], of.strip("()")
+    return rows
+
+
+def struct_rows(kind, text):
+    """The rows of one struct of prost's."""
+    body = re.search(rf"^pub struct {kind} \{{\n(.*?)^\}}", text, re.M | re.S)
+    if not body:
+        return {}
+    rows = {}
+    for attributes, name, rust in re.findall(r"#\[prost\(([^\]]*)\)\]\s+pub (\w+): ([^\n]*(?:\n {8}[^\n]*\n {4}>)?),", body[1]):
+        parts = [part.strip() for part in re.split(r",(?![^\"]*\"(?:[^\"]*\"[^\"]*\")*[^\"]*$)", attributes)]
+        if parts[0].startswith("oneof"):
+            rows |= oneof_rows(kind, parts[0].split('"')[1], text)
+            continue
+        of = parts[0].split()[0]
+        if of == "message":
+            of += " " + re.findall(r"\w+", rust)[-1]
+        rows[kind, name] = int(re.search(r'tag = "(\d+)"', attributes)[1]), parts[1], of
+    return rows
+
+
+def oneof_rows(kind, path, text):
+    """The rows of a oneof, which prost has as an enum in a module of its own."""
+    module, name = path.split("::")
+    inner = re.search(rf"^pub mod {module} \{{\n(.*?)^\}}", text, re.M | re.S)[1]
+    body = re.search(rf"pub enum {name} \{{\n(.*?)^    \}}", inner, re.M | re.S)[1]
+    return {
+        (kind, member.lower()): (int(tag), "oneof", "message " + of)
+        for tag, member, of in re.findall(r'#\[prost\(message, tag = "(\d+)"\)\]\s+(\w+)\(super::(\w+)\)', body)
+    }
+
+
+def main():
+    parser = argparse.ArgumentParser(description="Holds the schema's table to the Rust's messages.")
+    parser.add_argument("--rust", type=Path, default=Path(os.environ.get("CUDDREWYN_RUST", ROOT / "../shared/docs/src")), help="folder of the Rust's sources")
+    source = parser.parse_args().rust / SOURCE
+    if not source.is_file():
+        print(f"schema: there is no {source}: set CUDDREWYN_RUST")
+        return 3
+    table, text = table_rows(TABLE.read_text(encoding="utf-8")), source.read_text(encoding="utf-8")
+    rust = {}
+    for kind in {kind for kind, _ in table}:
+        rust |= struct_rows(kind, text)
+    faults = [f"{'.'.join(key)}: the table has {table.get(key, 'nothing')}, the Rust {rust.get(key, 'nothing')}" for key in sorted(table.keys() | rust.keys()) if table.get(key) != rust.get(key)]
+    if len({kind for kind, _ in table}) != 8:
+        faults.append("the table has not eight messages")
+    for line in faults or [f"{len(table)} fields of 8 messages are those of {Path(SOURCE).name}"]:
+        print("schema: " + line)
+    return 1 if faults else 0
+
+
+if __name__ == "__main__":
+    sys.exit(main())
