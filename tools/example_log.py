@@ -63,7 +63,6 @@ def hostile():
     below = (1 << 64) - 5
     yield "a message that is cut short", whole[:-1]
     yield "a segment's name that is not UTF-8", of_segment(named(NORTH, b"segment://polar/\xff"))
-    yield "the consumer twice", number_field(1, CONSUMER) + whole
     yield "no epoch", number_field(1, CONSUMER) + part_field(2, part_field(2, named(NORTH, name_of(PATH, 0, 0, 0x3FFF))))
     yield "segment 0 under the name of segment 1", of_segment(named(NORTH, name_of(PATH, 1, 0, 0x3FFF)))
     yield "buckets that share a value", of_segment(ranged(1, 0x4000, 0x7FFF, (0x4000, 0x5FFF), (0x5FFF, 0x7FFF)))
@@ -97,6 +96,8 @@ def pushes():
     yield "update", 1, latest
     yield "# The same push again: nothing changed."
     yield "update", 1, latest
+    yield "# The same push through a relay that appends fields: consumer 9 is overridden at the end, the assignment comes in two parts."
+    yield "update", 1, number_field(1, 9) + part_field(2, assignment(5, NORTH, EAST)) + part_field(2, assignment(6, SOUTH)) + number_field(1, CONSUMER)
     yield "# A rebalance at epoch 7: segment 0 is split into 3 and 4, the buckets of segment 1 are joined, segment 2 goes to another station."
     yield "update", 1, update(7, EAST_WHOLE, NORTH_LOW, NORTH_HIGH)
     yield "# A push that was overtaken: epoch 6 after 7."

@@ -24,15 +24,16 @@ use Rattle.topic.specs.Names.{hex4, decimalWithin, decimal}
 use Rattle.wire.specs.Varints.{varintOf}
 use Rattle.wire.specs.Field.{keyOf, numberOf, partOf}
 use Rattle.wire.specs.Fields.{fieldsOf}
-use Rattle.schema.specs.Schema.{ruleFor, complete}
+use Rattle.schema.specs.Schema.{valueFor}
+use Rattle.schema.specs.Required.{isComplete}
 use Rattle.schema.specs.FirstFault.{firstFault}
 use Rattle.values.specs.Integers.{int32Of}
 use Rattle.readers.specs.Messages.{intRangeOf, segmentOf, assignmentOf, updateOf, responseOf}
 use Rattle.session.specs.Trace.{update, response, drain, begin, invalidate}
 use Rattle.rust_runs.specs.Seen.{refused, accepted, unchanged, changed, runOf, seen, list, segment, on}
 """
-UNFOLD = """unfolding bytesOf table fits sequenceIn sequenceOf textAfter isUtf8 hex4 decimalWithin decimal varintOf keyOf numberOf partOf fieldsOf ruleFor
-    complete firstFault int32Of intRangeOf segmentOf assignmentOf updateOf responseOf kindOf numbersOf
+UNFOLD = """unfolding bytesOf table fits sequenceIn sequenceOf textAfter isUtf8 hex4 decimalWithin decimal varintOf keyOf numberOf partOf fieldsOf valueFor
+    isComplete firstFault int32Of intRangeOf segmentOf assignmentOf updateOf responseOf kindOf numbersOf
 """
 
 

@@ -100,6 +100,33 @@ def diffs():
     yield watch(PREFIXES, diff(text("ac", "aaa", ""), text("aa", "abc", "b")))
 
 
+def again():
+    """Messages with fields that come again (02 b)."""
+    one, two, three, none = (part_field(2, topics(1, names)) for names in ([A], [C, B], [D], []))
+    more, less, both, same = (part_field(3, topics(1, adds) + topics(2, removes)) for adds, removes in (([A], []), ([], [B]), ([D, C], [A, D]), ([], [])))
+    yield "# two and three snapshots: merged, also with an empty one; two and three diffs"
+    for events in ((one, two), (two, one), (one, two, three), (one, one), (none, one), (one, none), (none, none), (more, less), (less, more), (more, both, less), (both, same), (more, more)):
+        yield watch([B], WATCH_ID + b"".join(events))
+    yield "# the last of the two wins, and the replaced one leaves no trace; the same one again, with the other between: only the last counts"
+    for events in ((one, more), (less, two), (one, less, three), (more, two, both), (one, two, less), (more, less, one), (one, less, both), (both, none), (two, same), (one, more, two, less, none)):
+        yield watch([B], WATCH_ID + b"".join(events))
+    yield "# unknown fields, the code and the text between two parts of an event; the id, the code and the text twice: the last"
+    yield watch([B], WATCH_ID + more + number_field(9, 2) + part_field(7, b"\xff") + less)
+    yield watch([B], WATCH_ID + one + number_field(4, 1) + part_field(5, A) + two)
+    for numbers in ((8, 9), (9, 8), (9, 9)):
+        yield watch([B], b"".join(number_field(1, number) for number in numbers) + one)
+    yield watch([B], number_field(1, 8) + one + WATCH_ID)
+    yield watch([B], WATCH_ID + number_field(4, 1) + part_field(5, A) + number_field(4, 2) + part_field(5, B))
+    yield watch([B], WATCH_ID + number_field(4, 1) + part_field(5, A) + part_field(5, b"") + number_field(4, 0))
+    yield "# the topics of all parts, in byte order: rising over the parts, falling over them; the buffer and the output just long enough, and one byte short"
+    yield watch([], WATCH_ID + part_field(2, topics(1, [A, B])) + part_field(2, topics(1, [C, D])))
+    yield watch([], WATCH_ID + part_field(2, topics(1, [C, D])) + part_field(2, topics(1, [A, B])))
+    for buffer, room in ((9, 10), (8, 10), (9, 9)):
+        yield watch([B], WATCH_ID + one + two, buffer=buffer, room=room)
+    for buffer, room in ((3, 11), (3, 10)):
+        yield watch([B], WATCH_ID + more + less, buffer=buffer, room=room)
+
+
 def sizes():
     yield "# the output just long enough, one byte short, and none: of a snapshot, of a diff, of an empty one of each"
     for held, message, longest in (
@@ -166,14 +193,18 @@ def faulty_messages():
         WATCH_ID + part_field(2, number_field(1, 0)), WATCH_ID + part_field(3, event + number_field(2, 0)), WATCH_ID + part_field(3, b"\x0d" + bytes(4)),
     ):
         yield watch([B], message)
-    yield "# 5: the id, an event, the code or the text twice; both events, in either order, also where the second would be broken"
+    yield "# 3, 4 and 7 in what comes again, in an event that another replaces, in a text that is overridden"
     for message in (
-        WATCH_ID + WATCH_ID + part_field(2, event), good + part_field(2, event), good + part_field(3, event), diff([A]) + part_field(2, event), diff([A]) + part_field(3, b"\xff"),
-        good + b"\x1a\x7f", good + number_field(4, 1) + number_field(4, 1), good + part_field(5, A) + part_field(5, A),
+        good + b"\x08\xff", good + b"\x1a\x7f", diff([A]) + part_field(3, b"\xff"), good + part_field(1, A), good + number_field(3, 0),
+        snapshot(b"\xff") + part_field(3, event), diff([A], [b"\x80"]) + part_field(2, event), diff([A]) + part_field(2, b"\x0a\x02a") + part_field(3, event),
+        good + part_field(5, b"\xff") + part_field(5, A), good + part_field(5, A) + part_field(5, b"\xff"),
     ):
         yield watch([B], message)
-    yield "# 6: no id; found at the end, behind a 7 in the event and a 4"
-    for message in (b"", part_field(2, event), part_field(3, b""), number_field(4, 1), part_field(2, topics(1, [b"\xff"])), part_field(3, event) + number_field(5, 1)):
+    yield "# 6: no id; found when the whole message has been read, behind a 7 in the event, a 4 and a 3, also of an event that comes later"
+    for message in (
+        b"", part_field(2, event), part_field(3, b""), number_field(4, 1), part_field(2, topics(1, [b"\xff"])), part_field(3, event) + number_field(5, 1),
+        part_field(2, event) + part_field(3, b"\x0b"), part_field(3, event) + part_field(3, topics(2, [b"\xff"])), part_field(2, event) * 2,
+    ):
         yield watch([B], message)
     yield "# 7: in a topic of a snapshot, added, removed; in the broker's text; the first fault is told"
     for message in (
@@ -323,7 +354,7 @@ def some_sets():
 
 
 def main():
-    groups = (snapshots(), diffs(), sizes(), malformed_sets(), faulty_messages(), other_answers(), long_topics(), windows(), some_sets())
+    groups = (snapshots(), diffs(), again(), sizes(), malformed_sets(), faulty_messages(), other_answers(), long_topics(), windows(), some_sets())
     replace("# ==== the topics watch: by tools/watch_lines.py", (line for group in groups for line in group))
 
 

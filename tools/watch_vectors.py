@@ -4,7 +4,8 @@ It is read from the specification's words: sets of topics are Python's own, put 
 reader of tools/wire_vectors.py.
 """
 from name_vectors import ROOM, Refused, utf8
-from wire_vectors import WATCH, check, contents, int32
+from wire_vectors import WATCH, int32
+from wire_vectors import read as read_message
 
 LONGEST_TOPIC = 65535
 
@@ -28,15 +29,15 @@ def unpacked(data):
     return set(topics)
 
 
-def replaced(part):
+def replaced(snapshot):
     """What a snapshot asks for: the topics that it names, the new set, no lists."""
-    named = contents(1, (2,), part)
+    named = snapshot.get(1, [])
     return named, set(named), None
 
 
-def changed(old, part):
+def changed(old, diff):
     """What a diff asks for: it removes, then adds. Its lists are those added and those removed."""
-    adds, removes = contents(1, (2,), part), contents(2, (2,), part)
+    adds, removes = diff.get(1, []), diff.get(2, [])
     removed = old & set(removes)
     added = set(adds) - (old - removed)
     return adds + removes, (old - removed) | added, (added, removed)
@@ -52,17 +53,16 @@ def written(topics, lists):
 
 def read(watch_id, old, message):
     """What the update asks for, or a refusal of the message."""
-    check(WATCH, message)
-    (got,) = contents(1, (0,), message)
-    if got != watch_id:
-        raise Refused(29, got, watch_id)
-    for part in contents(2, (2,), message):
-        return replaced(part)
-    for part in contents(3, (2,), message):
-        return changed(old, part)
-    for code in contents(4, (0,), message):
-        raise Refused(16, int32(code), "0x" + b"".join(contents(5, (2,), message)).hex())
-    raise Refused(17, got)
+    update = read_message(WATCH, message)
+    if update[1] != watch_id:
+        raise Refused(29, update[1], watch_id)
+    if 2 in update:
+        return replaced(update[2])
+    if 3 in update:
+        return changed(old, update[3])
+    if 4 in update:
+        raise Refused(16, int32(update[4]), "0x" + update.get(5, b"").hex())
+    raise Refused(17, update[1])
 
 
 def updated(watch_id, buffer, used, message, room):

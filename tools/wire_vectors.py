@@ -3,20 +3,16 @@ from name_vectors import Refused, utf8
 
 UPDATE, RESPONSE, ASSIGNMENT, SEGMENT, INT_RANGE, WATCH, SNAPSHOT, DIFF = range(8)
 
-# field number: what it holds (None a number, "text", or a message), how often ("required", "optional", "repeated"), and what it counts under
+# field number: what it holds (None a number, "text", or a message), and how often: "required", "optional", "repeated", or "oneof", of which a message here has one
 SCHEMA = {
-    UPDATE: {1: (None, "required", 1), 2: (ASSIGNMENT, "required", 2)},
-    RESPONSE: {1: (None, "required", 1), 2: (None, "optional", 2), 3: ("text", "optional", 3), 4: (ASSIGNMENT, "optional", 4)},
-    ASSIGNMENT: {1: (None, "required", 1), 2: (SEGMENT, "repeated", 2)},
-    SEGMENT: {
-        1: (None, "required", 1), 2: (None, "required", 2), 3: (None, "required", 3), 4: ("text", "required", 4), 5: (INT_RANGE, "repeated", 5),
-    },
-    INT_RANGE: {1: (None, "required", 1), 2: (None, "required", 2)},
-    WATCH: {
-        1: (None, "required", 1), 2: (SNAPSHOT, "optional", 2), 3: (DIFF, "optional", 2), 4: (None, "optional", 4), 5: ("text", "optional", 5),
-    },
-    SNAPSHOT: {1: ("text", "repeated", 1)},
-    DIFF: {1: ("text", "repeated", 1), 2: ("text", "repeated", 2)},
+    UPDATE: {1: (None, "required"), 2: (ASSIGNMENT, "required")},
+    RESPONSE: {1: (None, "required"), 2: (None, "optional"), 3: ("text", "optional"), 4: (ASSIGNMENT, "optional")},
+    ASSIGNMENT: {1: (None, "required"), 2: (SEGMENT, "repeated")},
+    SEGMENT: {1: (None, "required"), 2: (None, "required"), 3: (None, "required"), 4: ("text", "required"), 5: (INT_RANGE, "repeated")},
+    INT_RANGE: {1: (None, "required"), 2: (None, "required")},
+    WATCH: {1: (None, "required"), 2: (SNAPSHOT, "oneof"), 3: (DIFF, "oneof"), 4: (None, "optional"), 5: ("text", "optional")},
+    SNAPSHOT: {1: ("text", "repeated")},
+    DIFF: {1: ("text", "repeated"), 2: ("text", "repeated")},
 }
 
 
@@ -51,23 +47,60 @@ def read_content(data, wire, at):
     return data[at:at + size], at + size
 
 
-def check(kind, data):
-    seen, at = set(), 0
+def scan(kind, data):
+    """3, 4 and 7 in byte order: a field's key, its type, then its length or value. Fields may come again."""
+    at = 0
     while at < len(data):
         number, wire, at = read_key(data, at)
-        holds, label, counts = SCHEMA[kind].get(number, ("any", "repeated", None))
+        holds, _ = SCHEMA[kind].get(number, ("any", None))
         if holds != "any" and wire != (0 if holds is None else 2):
             raise Refused(4)
-        if label != "repeated" and counts in seen:
-            raise Refused(5)
-        seen.add(counts)
         content, at = read_content(data, wire, at)
         if holds == "text" and not utf8(content):
             raise Refused(7)
         if isinstance(holds, int):
-            check(holds, content)
-    if any(label == "required" and counts not in seen for _, label, counts in SCHEMA[kind].values()):
+            scan(holds, content)
+
+
+def merged(kind, data, value=None):
+    """What a message without a 3, 4 or 7 says (02 b): of numbers and texts the last, of repeated fields all, of singular messages one, merged, of a oneof the last."""
+    value, at = {} if value is None else value, 0
+    while at < len(data):
+        number, wire, at = read_key(data, at)
+        content, at = read_content(data, wire, at)
+        holds, label = SCHEMA[kind].get(number, ("any", None))
+        message = isinstance(holds, int)
+        if label == "repeated":
+            value.setdefault(number, []).append(merged(holds, content) if message else content)
+        elif label:
+            if label == "oneof":
+                value = {other: held for other, held in value.items() if other == number or SCHEMA[kind][other][1] != "oneof"}
+            value[number] = merged(holds, content, value.get(number)) if message else content
+    return value
+
+
+def lacks(kind, value):
+    """A required field is missing, in the message or in one that it holds."""
+    for number, (holds, label) in SCHEMA[kind].items():
+        if label == "required" and number not in value:
+            return True
+        inner = value.get(number, []) if label == "repeated" else [value[number]] if number in value else []
+        if isinstance(holds, int) and any(lacks(holds, one) for one in inner):
+            return True
+    return False
+
+
+def read(kind, data):
+    """What the message says, or its first fault: 6 comes when the whole message has been read and merged."""
+    scan(kind, data)
+    value = merged(kind, data)
+    if lacks(kind, value):
         raise Refused(6)
+    return value
+
+
+def check(kind, data):
+    read(kind, data)
     return "valid"
 
 

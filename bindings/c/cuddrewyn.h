@@ -113,13 +113,13 @@ cuddrewyn_session_reply cuddrewyn_invalidate(cuddrewyn_record r);
 
 /* A push of the controller (CommandScalableTopicAssignmentUpdate). Lend an output of at least 3,210 bytes.
  * DELTA: first is the delta's length in out; the list held stands in the store at CUDDREWYN_LIST. UNCHANGED: it was queued, or is the list held.
- * Refuses 1, 2, 22, 3 to 7, 23, 24, 9 to 11, 34, 12 to 15, then 26, 28 or 27. */
+ * Refuses 1, 2, 22, the first of 3, 4 and 7, 6, 23, 24, 9 to 11, 34, 12 to 15, then 26, 28 or 27. */
 cuddrewyn_session_reply cuddrewyn_update(cuddrewyn_record r, uint8_t *store, size_t store_len, const uint8_t *message, size_t message_len,
                                          uint64_t incarnation, uint8_t *out, size_t out_len);
 
 /* The answer to a registration (CommandScalableTopicSubscribeResponse).
- * ACCEPTED: the baseline stands in the store at CUDDREWYN_BASELINE; each reader drains until UNCHANGED. Refuses 1, 22, 3 to 7, 23, 16 or 17, 9 to 11, 34, 12 to 15,
- * 26, 27. */
+ * ACCEPTED: the baseline stands in the store at CUDDREWYN_BASELINE; each reader drains until UNCHANGED. Refuses 1, 22, the first of 3, 4 and 7, 6, 23, 16 or 17,
+ * 9 to 11, 34, 12 to 15, 26, 27. */
 cuddrewyn_session_reply cuddrewyn_response(cuddrewyn_record r, uint8_t *store, size_t store_len, const uint8_t *message, size_t message_len,
                                            uint64_t incarnation);
 
@@ -227,7 +227,8 @@ cuddrewyn_reply cuddrewyn_range_is_adjacent_to(uint32_t start, uint32_t end, uin
 int32_t cuddrewyn_consumer_type(int32_t value);
 
 /* An update of the topics watch (CommandWatchScalableTopicsUpdate): the set stands in the first `used` bytes of buffer.
- * WRITTEN: first is the length of the new set, second that of the output. Refuses 30, 3 to 7, 29, 16, 17, 31, 21. */
+ * WRITTEN: first is the length of the new set, second that of the output. Refuses 30,
+ * the first of 3, 4 and 7, 6, 29, 16, 17, 31, 21. */
 cuddrewyn_reply cuddrewyn_watch(uint64_t watch_id, uint8_t *buffer, size_t buffer_len, size_t used, const uint8_t *message, size_t message_len,
                                 uint8_t *out, size_t out_len);
 

@@ -1,4 +1,4 @@
-/* The topics watch: a snapshot, a diff, and what is refused. Every value is checked. */
+/* The topics watch: a snapshot, a diff, events that come again, and what is refused. Every value is checked. */
 #include "check.h"
 #include "messages.h"
 
@@ -35,6 +35,19 @@ static size_t taken(void) {
     return written(watch(used, &second), "\0\1a\0\1c", 6, "\1\0\0\0\3\0\1c\0\1b", 11);
 }
 
+/* A diff that a snapshot replaces, and a second snapshot, which is merged with the first: "a" and "c" again. */
+static size_t again(size_t used) {
+    message diff = {.length = 0}, first = {.length = 0}, second = {.length = 0};
+    put_topic(&diff, 2, "a");
+    put_topic(&first, 1, "c");
+    put_topic(&second, 1, "a");
+    message events = watch_update_of(5, 3, &diff);
+    put_message(&events, 2, &first);
+    put_message(&events, 2, &second);
+    memset(out, 0xaa, sizeof out);
+    return written(watch(used, &events), "\0\1a\0\1c", 6, "\0\0\1a\0\1c", 7);
+}
+
 static void check_refused(size_t used, const message *m, uint8_t number, uint8_t count, uint64_t first, uint64_t second) {
     check_reply(watch(used, m),
                 (cuddrewyn_reply){.answer = CUDDREWYN_REFUSED, .number = number, .count = count, .first = first, .second = second});
@@ -69,6 +82,6 @@ static void refused(size_t used) {
 int main(void) {
     memset(buffer, 0xaa, sizeof buffer);
     memset(out, 0xaa, sizeof out);
-    refused(taken());
+    refused(again(taken()));
     return close_checks("watch");
 }

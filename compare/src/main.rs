@@ -27,6 +27,7 @@ mod ours;
 mod output;
 mod parts;
 mod record;
+mod relay;
 mod reply;
 mod rng;
 mod self_test;

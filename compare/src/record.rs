@@ -1,11 +1,13 @@
-//! A sample of the Rust's answers: sessions as a log of calls, and what the program `station` has to print for them with --lists and --state. The port has no part in it; only
-//! the queue's numbers and a replay's place, which the Rust does not keep, are counted here by 01's words, and the lost counts by 02's (request n).
+//! A sample of the Rust's answers: sessions as a log of calls, and what the program `station` has to print for them with --lists and --state. One message in three is as a
+//! relay passes it on that appends fields (02 b). The port has no part in it; only the queue's numbers and a replay's place, which the Rust does not keep, are counted here
+//! by 01's words, and the lost counts by 02's (request n).
 use crate::generate::{Assignment, Style, refusing_response};
 use crate::model::churn;
 use crate::model::messages;
 use crate::model::session::{QUEUE, content};
 use crate::oracle;
 use crate::raw::READERS;
+use crate::relay;
 use crate::rng::Rng;
 use crate::scalable_consumer::{
     AssignedSegment, AssignmentDelta, AssignmentError, AssignmentReplay, ConsumerAssignment, ControllerIncarnation, ScalableConsumerSession, ScalableConsumerType,
@@ -263,6 +265,7 @@ fn session(pages: &mut Pages, seed: u64, number: usize) {
             }
             0 | 1 => {
                 let message = list(&mut world, &twin, &mut rng).response(rng.below(9) as u64, Style::Plain, &mut rng);
+                let message = if rng.one_in(3) { relay::response(&message, &mut rng) } else { message };
                 twin.response(pages, link, &message);
             }
             2 if rng.one_in(2) => twin.begin(pages, now + rng.below(2) as u64),
@@ -274,6 +277,7 @@ fn session(pages: &mut Pages, seed: u64, number: usize) {
             4..7 => {
                 let consumer = if rng.one_in(10) { 8 } else { CONSUMER };
                 let message = list(&mut world, &twin, &mut rng).update(consumer, Style::Plain, &mut rng);
+                let message = if rng.one_in(3) { relay::update(&message, &mut rng) } else { message };
                 twin.update(pages, link, &message);
             }
             _ => twin.drain(pages),

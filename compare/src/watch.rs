@@ -6,11 +6,12 @@ use crate::ours;
 use crate::output::Output;
 use crate::pb;
 use crate::raw::{self, Reply};
+use crate::relay;
 use crate::reply::{is_ours, show, taken};
 use crate::rng::Rng;
 use crate::scalable_consumer::{ScalableTopicsWatch, TopicsChange, TopicsWatchError};
 use crate::session::stage::bytes_differ;
-use crate::tally::{Call, Tally, hex};
+use crate::tally::{Call, Tally, WATCHES, hex};
 use crate::texts;
 
 const POOL: &[&str] = &["", "a", "aa", "ab", "b", "b\u{0}", "topic://a/b/c", "topic://a/b/d", "é", "日本", "\u{10ffff}"];
@@ -88,6 +89,7 @@ impl Bench {
         let fed = !is_ours(&expected.reply) && !is_ours(&given);
         let theirs = if fed { Some(rust(call.watch_id, &model::topics(lent, call.used).expect("a set"), call.message)) } else { None };
         tally.count(Call::Watch, &given, fed);
+        tally.again[WATCHES] += u64::from(fed && messages::watch_again(call.message));
         let input = || {
             format!(
                 "id {}, buffer of {}, set {}, output of {}, message {}",
@@ -222,6 +224,7 @@ impl Watch {
             let snapshot = rng.one_in(3);
             event(3, snapshot, &added, &removed, style, rng)
         };
+        let bytes = if rng.one_in(4) { relay::watch(&bytes, rng) } else { bytes };
         if rng.one_in(10) { damaged(&bytes, rng) } else { bytes }
     }
 }
@@ -300,9 +303,18 @@ const FIRST_FAULTS: &[(&[u8], u8)] = &[
     (b"\x08\x03\x12\0", 0),
     (b"\x08\x03\x1a\0", 0),
     (b"\x08\x04\x1a\0", 29),
-    (b"\x08\x03\x12\0\x1a\0", 5),
-    (b"\x08\x03\x1a\0\x12\0", 5),
-    (b"\x08\x03\x12\0\x12\0", 5),
+    (b"\x08\x03\x12\0\x1a\0", 0),
+    (b"\x08\x03\x1a\0\x12\0", 0),
+    (b"\x08\x03\x12\0\x12\0", 0),
+    (b"\x08\x03\x12\0\x1a\0\x12\0", 0),
+    (b"\x08\x04\x1a\0\x08\x03", 0),
+    (b"\x08\x03\x1a\0\x08\x04", 29),
+    (b"\x08\x03\x20\x05\x20\x06", 16),
+    (b"\x08\x03\x12\x03\x0a\x01\xff\x1a\0", 7),
+    (b"\x08\x03\x1a\x03\x12\x01\xff\x12\0", 7),
+    (b"\x08\x03\x20\0\x2a\x01\xff\x2a\x01x", 7),
+    (b"\x12\0\x18\0", 4),
+    (b"\x12\0\x1a\x01", 3),
     (b"\x08\x03\x12\0\x18\0", 4),
     (b"\x08\x03\x12\0\x1b", 3),
     (b"\x08\x03\x20\x05", 16),

@@ -21,7 +21,6 @@ pub(crate) fn own_text(number: u8) -> &'static str {
         2 => "the output is shorter than 3210 bytes",
         3 => "the message is not in the Protocol Buffers wire format",
         4 => "a field of the message has the wrong wire type",
-        5 => "a singular field of the message is repeated",
         6 => "a required field of the message is missing",
         7 => "a text is not UTF-8",
         8 => "the texts of the registration are longer than 2041 bytes together",
@@ -237,8 +236,6 @@ pub enum AssignmentError<'m> {
     InvalidWireFormat,
     /// 4: a known field has another wire type than its own.
     WrongWireType,
-    /// 5: a singular field comes twice.
-    RepeatedField,
     /// 6: a required field is missing.
     MissingField,
     /// 7: a text is not UTF-8.
@@ -278,7 +275,6 @@ impl<'m> AssignmentError<'m> {
             Self::OutputTooShort => 2,
             Self::InvalidWireFormat => 3,
             Self::WrongWireType => 4,
-            Self::RepeatedField => 5,
             Self::MissingField => 6,
             Self::InvalidUtf8 => 7,
             Self::IdentityTooLong => 8,
@@ -319,7 +315,6 @@ impl<'m> AssignmentError<'m> {
             2 => Self::OutputTooShort,
             3 => Self::InvalidWireFormat,
             4 => Self::WrongWireType,
-            5 => Self::RepeatedField,
             6 => Self::MissingField,
             7 => Self::InvalidUtf8,
             8 => Self::IdentityTooLong,

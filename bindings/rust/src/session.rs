@@ -207,7 +207,7 @@ impl<'s> ScalableConsumerSession<'s> {
     ///
     /// # Errors
     ///
-    /// In this order: the message is not read (3 to 7), `IncarnationMismatch` (23), without an assignment `Broker` (16) or `Empty` (17),
+    /// In this order: the message is not read (3, 4, 7, 6), `IncarnationMismatch` (23), without an assignment `Broker` (16) or `Empty` (17),
     /// a bad list (9 to 11, 34, 12 to 15), `CrossIncarnationEpochRegression` (26), `StaleEpoch` (27) of a queued push. Session, store and
     /// queue are then as they were. A queue whose own epochs fall refuses every response, until the session begins anew or is invalidated.
     pub fn handle_subscribe_response_for<'m>(
@@ -246,7 +246,7 @@ impl<'s> ScalableConsumerSession<'s> {
     ///
     /// # Errors
     ///
-    /// In this order: `OutputTooShort` (2), the message is not read (3 to 7), `IncarnationMismatch` (23), `ConsumerMismatch` (24), a bad list
+    /// In this order: `OutputTooShort` (2), the message is not read (3, 4, 7, 6), `IncarnationMismatch` (23), `ConsumerMismatch` (24), a bad list
     /// (9 to 11, 34, 12 to 15); then unregistered `CrossIncarnationEpochRegression` (26) or `PreBaselineBufferFull` (28), registered
     /// `StaleEpoch` (27). Session, store and `out` are then as they were.
     pub fn handle_assignment_update_for<'o>(

@@ -88,8 +88,6 @@ pub enum TopicsWatchError<'m> {
     InvalidWireFormat,
     /// 4: a known field has another wire type than its own.
     WrongWireType,
-    /// 5: a singular field comes twice; snapshot and diff count together.
-    RepeatedField,
     /// 6: a required field is missing.
     MissingField,
     /// 7: a text is not UTF-8.
@@ -111,7 +109,6 @@ impl<'m> TopicsWatchError<'m> {
         match self {
             Self::InvalidWireFormat => 3,
             Self::WrongWireType => 4,
-            Self::RepeatedField => 5,
             Self::MissingField => 6,
             Self::InvalidUtf8 => 7,
             Self::Broker { .. } => 16,
@@ -130,7 +127,6 @@ impl<'m> TopicsWatchError<'m> {
         match number {
             3 => Self::InvalidWireFormat,
             4 => Self::WrongWireType,
-            5 => Self::RepeatedField,
             6 => Self::MissingField,
             7 => Self::InvalidUtf8,
             16 => Self::Broker { code: signed(first), message },
@@ -227,7 +223,7 @@ impl<'s> ScalableTopicsWatch<'s> {
     ///
     /// # Errors
     ///
-    /// In this order: the message is not read (3 to 7), `WatchMismatch` (29), without an event `Broker` (16) or `Empty` (17),
+    /// In this order: the message is not read (3, 4, 7, 6), `WatchMismatch` (29), without an event `Broker` (16) or `Empty` (17),
     /// `SetTooLong` (31), `ResultTooLong` (21). Set, buffer and `out` are then as they were.
     pub fn handle_update<'m, 'o>(
         &mut self,

@@ -59,7 +59,6 @@ fn texts_and_numbers_of_our_own() {
         (E::OutputTooShort, 2, "the output is shorter than 3210 bytes"),
         (E::InvalidWireFormat, 3, "the message is not in the Protocol Buffers wire format"),
         (E::WrongWireType, 4, "a field of the message has the wrong wire type"),
-        (E::RepeatedField, 5, "a singular field of the message is repeated"),
         (E::MissingField, 6, "a required field of the message is missing"),
         (E::InvalidUtf8, 7, "a text is not UTF-8"),
         (E::IdentityTooLong, 8, "the texts of the registration are longer than 2041 bytes together"),
@@ -146,7 +145,9 @@ fn messages_that_are_not_read() {
     assert_eq!(refused(b"\xff"), E::InvalidWireFormat);
     assert_eq!(refused(b"\x0b"), E::InvalidWireFormat);
     assert_eq!(refused(b"\x0d\x00\x00\x00\x00"), E::WrongWireType);
-    assert_eq!(refused(b"\x08\x07\x08\x07"), E::RepeatedField);
+    // A field missing is told when the whole message has been read: an empty assignment before a field of the wrong type.
+    assert_eq!(refused(b"\x08\x07\x12\x00\x0a\x00"), E::WrongWireType);
+    assert_eq!(refused(b"\x08\x07\x08\x07"), E::MissingField);
     assert_eq!(refused(b"\x08\x07"), E::MissingField);
     assert_eq!(refused(b""), E::MissingField);
     let mut message = update(5, &[segment_named(1, 0, 1, "x", &[])]);

@@ -69,6 +69,21 @@ fn queue_response_replays_updates() {
     assert_eq!(ids(delta), (vec![2], vec![2]));
 }
 
+/// A relay that appends fields: of a number the last counts, of an assignment in two parts the last epoch and the segments of both.
+#[test]
+fn fields_that_come_again() {
+    let (mut store, mut out) = (vec![0; MIN_STORE], [0; MIN_OUTPUT]);
+    let mut session = open(&mut store);
+    let message = [number(1, 9), part(4, number(1, 7)), part(4, assignment(3, &list(&[1]))), number(1, 1)].concat();
+    session.handle_subscribe_response(&message).unwrap();
+    assert_eq!(session.epoch_floor(), Some(3));
+    let parts = [part(2, part(2, &list(&[2])[0])), part(2, number(1, 4)), part(2, part(2, &list(&[1])[0])), number(1, 7)].concat();
+    let delta = session.handle_assignment_update(&[number(1, 8), parts].concat(), &mut out).unwrap().unwrap();
+    assert_eq!((delta.layout_epoch(), ids(delta)), (4, (vec![], vec![2])));
+    let lacking = [number(1, 7), part(2, part(2, &list(&[2])[0])), part(2, b"")].concat();
+    assert_eq!(session.handle_assignment_update(&lacking, &mut out).unwrap_err(), AssignmentError::MissingField);
+}
+
 #[test]
 fn numbers_of_readers() {
     for number in 0..Reader::COUNT {

@@ -42,6 +42,24 @@ fn snapshots_and_diffs() {
     assert_eq!(watch.topics().count(), 0);
 }
 
+/// The last of the two events wins; the same one again, with the other not between, is merged.
+#[test]
+fn events_that_come_again() {
+    let (mut buffer, mut out) = ([0xaa; 64], [0xaa; 64]);
+    let mut watch = ScalableTopicsWatch::new(5, "ns", &mut buffer);
+    let message = [snapshot(5, &["b"]), snapshot(5, &["c", "a"])].concat();
+    let change = watch.handle_update(&message, &mut out).unwrap();
+    assert!(matches!(change, TopicsChange::Snapshot { topics: set } if topics(set) == ["a", "b", "c"]));
+    let message = [snapshot(5, &["x"]), diff(5, &["d"], &["a"]), diff(5, &[], &["b"])].concat();
+    let change = watch.handle_update(&message, &mut out).unwrap();
+    assert!(matches!(change, TopicsChange::Diff { added, removed } if (topics(added), topics(removed)) == (vec!["d"], vec!["a", "b"])));
+    let long = "x".repeat(65_536);
+    let message = [snapshot(5, &["c"]), diff(5, &[&long], &[]), snapshot(5, &["y"])].concat();
+    watch.handle_update(&message, &mut out).unwrap();
+    assert_eq!(topics(watch.topics()), ["y"]);
+    assert_eq!(watch.handle_update(&[snapshot(5, &["z"]), number(1, 6)].concat(), &mut out).unwrap_err(), E::WatchMismatch { got: 6, expected: 5 });
+}
+
 #[test]
 fn a_watch_survives_a_restart() {
     let mut buffer = [0xaa; 32];
@@ -84,7 +102,8 @@ fn refused<'m>(message: &'m [u8], room: usize) -> E<'m> {
 fn updates_that_are_not_taken() {
     assert_eq!(refused(b"\xff", 64), E::InvalidWireFormat);
     assert_eq!(refused(b"\x0d\0\0\0\0", 64), E::WrongWireType);
-    assert_eq!(refused(b"\x08\x05\x12\x00\x1a\x00", 64), E::RepeatedField);
+    // A topic that is not UTF-8, in an event that another replaces.
+    assert_eq!(refused(&[snapshot(5, &[]), b"\x1a\x03\x0a\x01\xff\x12\x00".to_vec()].concat(), 64), E::InvalidUtf8);
     assert_eq!(refused(b"\x12\x00", 64), E::MissingField);
     assert_eq!(refused(b"\x08\x05\x12\x03\x0a\x01\xff", 64), E::InvalidUtf8);
     assert_eq!(refused(&snapshot(6, &[]), 64), E::WatchMismatch { got: 6, expected: 5 });
@@ -107,7 +126,6 @@ fn texts_and_numbers() {
     let rows: &[(E<'_>, u8, &str)] = &[
         (E::InvalidWireFormat, 3, "the message is not in the Protocol Buffers wire format"),
         (E::WrongWireType, 4, "a field of the message has the wrong wire type"),
-        (E::RepeatedField, 5, "a singular field of the message is repeated"),
         (E::MissingField, 6, "a required field of the message is missing"),
         (E::InvalidUtf8, 7, "a text is not UTF-8"),
         (E::Broker { code: -3, message: "no" }, 16, "broker rejected the scalable-topics watch (code -3): no"),

@@ -1,5 +1,5 @@
 //! The messages by their tables (PulsarApi.proto), and their values.
-use super::wire::{Holds, Row, Rule, Value, fields, row};
+use super::wire::{Fields, Holds, Row, Rule, Value, again, read, row};
 use std::ops::Range;
 
 const RANGE: &[Row] = &[row(1, Rule::Required, Holds::Number), row(2, Rule::Required, Holds::Number)];
@@ -20,11 +20,10 @@ const RESPONSE: &[Row] = &[
 ];
 const SNAPSHOT: &[Row] = &[row(1, Rule::Repeated, Holds::Text)];
 const DIFF: &[Row] = &[row(1, Rule::Repeated, Holds::Text), row(2, Rule::Repeated, Holds::Text)];
-/// Fields 2 and 3 count together.
 const WATCH: &[Row] = &[
     row(1, Rule::Required, Holds::Number),
-    Row { number: 2, slot: 2, rule: Rule::Optional, holds: Holds::Message(SNAPSHOT) },
-    Row { number: 3, slot: 2, rule: Rule::Optional, holds: Holds::Message(DIFF) },
+    row(2, Rule::Member, Holds::Message(SNAPSHOT)),
+    row(3, Rule::Member, Holds::Message(DIFF)),
     row(4, Rule::Optional, Holds::Number),
     row(5, Rule::Optional, Holds::Text),
 ];
@@ -67,8 +66,6 @@ pub struct WatchUpdate {
     pub text: Option<Range<usize>>,
     pub event: Option<Event>,
 }
-
-type Fields = Vec<(u64, Value)>;
 
 fn number(fields: &Fields, wanted: u64) -> Option<u64> {
     fields.iter().find_map(|(number, value)| match value {
@@ -118,13 +115,13 @@ fn assignment(bytes: &[u8], fields: &Fields) -> WireAssignment {
 
 /// An update, or the number of its first fault.
 pub fn update(bytes: &[u8]) -> Result<Update, u8> {
-    let fields = fields(UPDATE, bytes, 0..bytes.len())?;
+    let fields = read(UPDATE, bytes)?;
     Ok(Update { consumer_id: required(&fields, 1), assignment: assignment(bytes, parts(&fields, 2)[0]) })
 }
 
 /// A response, or the number of its first fault.
 pub fn response(bytes: &[u8]) -> Result<Response, u8> {
-    let fields = fields(RESPONSE, bytes, 0..bytes.len())?;
+    let fields = read(RESPONSE, bytes)?;
     Ok(Response {
         request_id: required(&fields, 1),
         error: number(&fields, 2).map(|code| code as i32),
@@ -135,7 +132,7 @@ pub fn response(bytes: &[u8]) -> Result<Response, u8> {
 
 /// A watch update, or the number of its first fault.
 pub fn watch(bytes: &[u8]) -> Result<WatchUpdate, u8> {
-    let fields = fields(WATCH, bytes, 0..bytes.len())?;
+    let fields = read(WATCH, bytes)?;
     let snapshot = parts(&fields, 2).first().map(|part| Event::Snapshot(texts(part, 1)));
     let diff = parts(&fields, 3).first().map(|part| Event::Diff { added: texts(part, 1), removed: texts(part, 2) });
     Ok(WatchUpdate {
@@ -144,4 +141,19 @@ pub fn watch(bytes: &[u8]) -> Result<WatchUpdate, u8> {
         text: texts(&fields, 5).pop(),
         event: snapshot.or(diff),
     })
+}
+
+/// Whether a field of an update comes again that is singular.
+pub fn update_again(bytes: &[u8]) -> bool {
+    again(UPDATE, bytes)
+}
+
+/// The same of a response.
+pub fn response_again(bytes: &[u8]) -> bool {
+    again(RESPONSE, bytes)
+}
+
+/// The same of a watch update, whose events count together.
+pub fn watch_again(bytes: &[u8]) -> bool {
+    again(WATCH, bytes)
 }

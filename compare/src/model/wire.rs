@@ -1,9 +1,10 @@
-//! The wire form: varints, keys, and the fields of a message by its table. The first fault in byte order is reported by its number, 3 to 7.
+//! The wire form: varints, keys, and the fields of a message by its table. Faults are reported by their numbers: the first of 3, 4 and 7 in byte order, then 6 of what is
+//! missing when the whole message has been read and its parts are merged.
+use std::mem::take;
 use std::ops::Range;
 
 pub const BROKEN: u8 = 3;
 pub const WRONG_TYPE: u8 = 4;
-pub const REPEATED: u8 = 5;
 pub const MISSING: u8 = 6;
 pub const NOT_TEXT: u8 = 7;
 
@@ -20,26 +21,83 @@ pub enum Rule {
     Required,
     Optional,
     Repeated,
+    /// A member of the message's oneof: the last one is held.
+    Member,
 }
 
-/// A line of a message's table. Fields of one `slot` count together: a singular slot is filled at most once.
+/// A line of a message's table.
 #[derive(Clone, Copy)]
 pub struct Row {
     pub number: u64,
-    pub slot: u8,
     pub rule: Rule,
     pub holds: Holds,
 }
 
 pub const fn row(number: u64, rule: Rule, holds: Holds) -> Row {
-    Row { number, slot: number as u8, rule, holds }
+    Row { number, rule, holds }
+}
+
+fn row_of(table: &[Row], number: u64) -> &Row {
+    table.iter().find(|row| row.number == number).expect("a known field")
 }
 
 /// A known field as it was read. Texts are parts of the whole message.
 pub enum Value {
     Number(u64),
     Text(Range<usize>),
-    Message(Vec<(u64, Value)>),
+    Message(Fields),
+}
+
+pub type Fields = Vec<(u64, Value)>;
+
+/// A message, or the number of its first fault.
+pub fn read(table: &'static [Row], bytes: &[u8]) -> Result<Fields, u8> {
+    let message = merged(table, fields(table, bytes, 0..bytes.len())?);
+    if lacks(table, &message) { Err(MISSING) } else { Ok(message) }
+}
+
+/// Whether a singular field, or a oneof's member, comes again, in the message or in one that it holds.
+pub fn again(table: &'static [Row], bytes: &[u8]) -> bool {
+    fields(table, bytes, 0..bytes.len()).is_ok_and(|fields| comes_again(table, &fields))
+}
+
+fn comes_again(table: &[Row], fields: &Fields) -> bool {
+    let same = |left: u64, right: u64| left == right || [left, right].iter().all(|number| row_of(table, *number).rule == Rule::Member);
+    fields.iter().enumerate().any(|(at, (number, value))| {
+        let before = fields[..at].iter().any(|(other, _)| same(*other, *number));
+        let row = row_of(table, *number);
+        (before && row.rule != Rule::Repeated)
+            || matches!((value, row.holds), (Value::Message(inner), Holds::Message(table)) if comes_again(table, inner))
+    })
+}
+
+/// What is left of fields that come again: of a number or a text the last, of a singular message one with the fields of all, of a oneof the last member.
+fn merged(table: &[Row], fields: Fields) -> Fields {
+    let mut left = Fields::new();
+    for (number, value) in fields {
+        let rule = row_of(table, number).rule;
+        if rule == Rule::Member {
+            left.retain(|(other, _)| *other == number || row_of(table, *other).rule != Rule::Member);
+        }
+        match (left.iter_mut().find(|(other, _)| *other == number && rule != Rule::Repeated), value) {
+            (None, value) => left.push((number, value)),
+            (Some((_, Value::Message(held))), Value::Message(more)) => held.extend(more),
+            (Some((_, held)), value) => *held = value,
+        }
+    }
+    for (number, value) in &mut left {
+        if let (Value::Message(inner), Holds::Message(table)) = (value, row_of(table, *number).holds) {
+            *inner = merged(table, take(inner));
+        }
+    }
+    left
+}
+
+/// Whether a required field is missing, in the merged message or in one that it holds.
+fn lacks(table: &[Row], message: &Fields) -> bool {
+    let missing = |row: &Row| row.rule == Rule::Required && message.iter().all(|(number, _)| *number != row.number);
+    let inside = |(number, value): &(u64, Value)| matches!((value, row_of(table, *number).holds), (Value::Message(inner), Holds::Message(table)) if lacks(table, inner));
+    table.iter().any(missing) || message.iter().any(inside)
 }
 
 /// A varint at `at`, before `end`: its value and the place behind it.
@@ -60,10 +118,9 @@ fn stretch(at: usize, length: u64, end: usize) -> Result<Range<usize>, u8> {
     if length <= left { Ok(at..at + length as usize) } else { Err(BROKEN) }
 }
 
-/// The fields between two places, by the table.
-pub fn fields(table: &'static [Row], bytes: &[u8], part: Range<usize>) -> Result<Vec<(u64, Value)>, u8> {
-    let mut found: Vec<(u64, Value)> = Vec::new();
-    let mut filled = [false; 16];
+/// The known fields between two places, each time that they come; 3, 4 or 7 in byte order.
+fn fields(table: &'static [Row], bytes: &[u8], part: Range<usize>) -> Result<Fields, u8> {
+    let mut found = Fields::new();
     let mut at = part.start;
     while at < part.end {
         let (key, behind) = varint(bytes, at, part.end)?;
@@ -78,17 +135,11 @@ pub fn fields(table: &'static [Row], bytes: &[u8], part: Range<usize>) -> Result
         if kind != wire_type(known.holds) {
             return Err(WRONG_TYPE);
         }
-        let slot = &mut filled[usize::from(known.slot)];
-        if *slot && known.rule != Rule::Repeated {
-            return Err(REPEATED);
-        }
-        *slot = true;
         let (value, next) = value(known.holds, bytes, behind, part.end)?;
         found.push((number, value));
         at = next;
     }
-    let lacking = |row: &Row| row.rule == Rule::Required && !filled[usize::from(row.slot)];
-    if table.iter().any(lacking) { Err(MISSING) } else { Ok(found) }
+    Ok(found)
 }
 
 /// A field as it stands, whatever it means; what is broken has number 0 and is the last.

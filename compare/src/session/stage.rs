@@ -10,7 +10,7 @@ use crate::reply::{is_ours, show};
 use crate::rng::Rng;
 use crate::shrink::shrunk;
 use crate::spoil::{Judge, listens_to};
-use crate::tally::{Call, SESSIONS, Tally, first_difference, hex};
+use crate::tally::{Call, RESPONSES, SESSIONS, Tally, UPDATES, first_difference, hex};
 use crate::texts;
 
 /// A call of a session.
@@ -49,6 +49,15 @@ impl Ask {
             *message = bytes.to_vec();
         }
         ask
+    }
+
+    /// Where the tally counts a message with a singular field that comes again.
+    fn again(&self) -> Option<usize> {
+        match self {
+            Self::Update { message, .. } if messages::update_again(message) => Some(UPDATES),
+            Self::Response { message, .. } if messages::response_again(message) => Some(RESPONSES),
+            _ => None,
+        }
     }
 
     /// How much of the output buffer is lent.
@@ -137,6 +146,9 @@ impl Stage {
         let due = [&prediction.reply, &given.reply].iter().any(|reply| is_ours(reply));
         let fed = twin.filter(|_| !due);
         tally.count(ask.call(), &given.reply, fed.is_some());
+        if let Some(at) = ask.again().filter(|_| fed.is_some()) {
+            tally.again[at] += 1;
+        }
         let wrong = self.differs(&prediction, &given).or_else(|| (message != ask.message()).then(|| "the message was changed".into()));
         let (wrong_twin, text) = self.compare(ask, &given, fed);
         let good = wrong.is_none();

@@ -7,6 +7,7 @@ use crate::generate::{Assignment, Style, damaged, refusing_response};
 use crate::model::identity::Texts;
 use crate::model::session::{SLOT, STORE_FULL, STORE_LEAST};
 use crate::raw::READERS;
+use crate::relay;
 use crate::rng::Rng;
 use crate::tally::Tally;
 
@@ -188,6 +189,7 @@ impl Walk {
         let list = if faulty { self.faulty(epoch) } else { self.world.list(epoch, &mut self.rng) };
         let consumer_id = if self.rng.one_in(40) { self.rng.word() } else { self.consumer_id };
         let message = list.update(consumer_id, style, &mut self.rng);
+        let message = self.sometimes_relayed(message, relay::update);
         let message = self.sometimes_damaged(message);
         Ask::Update { message, incarnation: self.incarnation(), room: self.room() }
     }
@@ -199,6 +201,10 @@ impl Walk {
             self.world.put_fault(&mut list, &mut self.rng);
         }
         list
+    }
+
+    fn sometimes_relayed(&mut self, message: Vec<u8>, relay: fn(&[u8], &mut Rng) -> Vec<u8>) -> Vec<u8> {
+        if self.rng.one_in(6) { relay(&message, &mut self.rng) } else { message }
     }
 
     fn sometimes_damaged(&mut self, message: Vec<u8>) -> Vec<u8> {
@@ -221,6 +227,7 @@ impl Walk {
             2 | 3 if self.two_orders => self.faulty(epoch).response(request, style, &mut self.rng),
             _ => self.world.list(epoch, &mut self.rng).response(request, style, &mut self.rng),
         };
+        let message = self.sometimes_relayed(message, relay::response);
         let message = self.sometimes_damaged(message);
         Ask::Response { message, incarnation: self.incarnation() }
     }

@@ -1,13 +1,15 @@
 -- Messages that have the rows of written ones, and the written ones, have no fault by their schema.
 --
--- In order: fields that each hold a message without fault (`parts-valid`); a range, a segment, an assignment by their rows
--- (`range-row-valid`, `segment-row-valid`, `assignment-row-valid`), and as they are written (`segment-valid`, `assignment-valid`).
+-- In order: fields that each hold a message without fault (`parts-valid`, `parts-whole`); a segment and an assignment by their rows
+-- (`segment-row-valid`, `assignment-row-valid`), and as they are written (`segment-valid`, `assignment-valid`).
+-- Not here: a range, and the messages that hold an assignment (SoundLaws of the crate schema).
 -- Assumes nothing.
-use Prim.Native.Nat.{ℕ, zero, suc, _^_, _<_}
+use Prim.Native.Nat.{ℕ, suc, _^_, _<_}
 use mathlib.Core.Path.{_≡_, refl, ap, _∙_}
-use mathlib.Core.Bool.{true, false}
+use mathlib.Core.Bool.{true}
 use mathlib.Core.List.{List, [], _∷_, map}
 use lib.ListN.{length}
+use borrow.Author.Tests.{eq-eqb}
 use Rattle.types.specs.declared.KeyRange.{KeyRange}
 use Rattle.utf8.specs.Table.{isUtf8}
 use Rattle.parents.specs.Parents.{pathOf}
@@ -16,8 +18,11 @@ use Rattle.schema.specs.declared.MessageKind.{MessageKind}
 use Rattle.schema.specs.declared.MessageKind.the-variants.{ScalableConsumerAssignment, ScalableAssignedSegment, IntRange}
 use Rattle.schema.specs.declared.ValueKind.the-variants as value
 use Rattle.schema.specs.declared.Checked.the-variants.{Valid}
-use Rattle.schema.specs.Schema.{ruleFor, complete}
-use Rattle.schema.specs.FirstFault.{elem, checkFields, faultWithin}
+use Rattle.schema.specs.Schema.{valueFor}
+use Rattle.schema.specs.Required.{allComplete, completeWithin}
+use Rattle.schema.specs.FirstFault.{checkFields, faultWithin, Sound}
+use Rattle.schema.proofs.SoundLaws.{range-sound}
+use Rattle.values.specs.Values.{partsOf}
 use Rattle.packed.specs.Assignment.{AssignedSegment, ConsumerAssignment}
 use Rattle.packed.proofs.RoundLaws.{FitRanges}
 use Rattle.keyed.proofs.EachLaws.{Each, each-map}
@@ -26,43 +31,47 @@ use Rattle.assignment_message.proofs.TextLaws.{topic-utf8}
 use Rattle.assignment_message.proofs.RowLaws.{numbered, partRow, range-row, segmentRowOf, segment-row, assignment-row}
 use Rattle.assignment_message.proofs.WireLaws.{Written}
 
--- a message of a kind, checked to a depth, has no fault
-abbrev pub Sound : ℕ → MessageKind → List ℕ → Type 0
-Sound d k p = faultWithin d k p ≡ Valid
+-- a field of messages that may come again
+module _ (d : ℕ) (k j : MessageKind) (f : ℕ) where
+  pub parts-valid : valueFor k f ≡ value.Message j → (ps : List (List ℕ)) → Each (Sound d j) ps
+      → checkFields (faultWithin d) k (partRow f ps) ≡ Valid
+  parts-valid r [] v = refl
+  parts-valid r (p ∷ ps) v = rw (r, v .0 .read) (parts-valid r ps (v .1))
 
--- a field of messages, which may come again, where every required field has been seen
-module _ (d : ℕ) (k j : MessageKind) (f : ℕ) (seen : List ℕ) (r : ruleFor k f ≡ record { slot = 0; value = value.Message j })
-    (o : elem seen 0 ≡ false) (c : complete k (elem seen) ≡ true) where
-  pub parts-valid : (ps : List (List ℕ)) → Each (Sound d j) ps → checkFields (faultWithin d) k seen (partRow f ps) ≡ Valid
-  parts-valid [] v = rw c
-  parts-valid (p ∷ ps) v = rw (r, o, v .0) (parts-valid ps (v .1))
+  pub parts-whole : (ps : List (List ℕ)) → Each (Sound d j) ps → allComplete (completeWithin d) j (partsOf f (partRow f ps)) ≡ true
+  parts-whole [] v = refl
+  parts-whole (p ∷ ps) v = rw (eq-eqb f f refl, v .0 .whole) (parts-whole ps (v .1))
 
 -- by their rows, whatever they are nested in
-pub range-row-valid : (d : ℕ) (p : List ℕ) (r : KeyRange) → fieldsOf p ≡ numbered 1 (r .start) ∷ numbered 2 (r .end) ∷ []
-    → Sound d IntRange p
-unfolding ruleFor complete
-range-row-valid zero p r e = refl
-range-row-valid (suc d) p r e = ap (checkFields (faultWithin d) IntRange []) e
-
 pub segment-row-valid : (d : ℕ) (p path : List ℕ) (g : AssignedSegment) (ps : List (List ℕ)) → fieldsOf p ≡ segmentRowOf path g ps
     → isUtf8 (topicOf path g) ≡ true → Each (Sound d IntRange) ps → Sound (suc d) ScalableAssignedSegment p
-unfolding ruleFor complete
+unfolding valueFor
 segment-row-valid d p path g ps e u v =
-    ap (checkFields (faultWithin d) ScalableAssignedSegment []) e
-    ∙ rw u (parts-valid d ScalableAssignedSegment IntRange 5 (4 ∷ 3 ∷ 2 ∷ 1 ∷ []) refl refl refl ps v)
+    record {
+      read =
+          ap (checkFields (faultWithin d) ScalableAssignedSegment) e
+          ∙ rw u (parts-valid d ScalableAssignedSegment IntRange 5 refl ps v);
+      whole = ap (completeWithin (suc d) ScalableAssignedSegment) e ∙ rw (parts-whole d ScalableAssignedSegment IntRange 5 ps v);
+    }
 
 pub assignment-row-valid : (d : ℕ) (s : List ℕ) (epoch : ℕ) (ps : List (List ℕ)) → fieldsOf s ≡ numbered 1 epoch ∷ partRow 2 ps
     → Each (Sound d ScalableAssignedSegment) ps → Sound (suc d) ScalableConsumerAssignment s
-unfolding ruleFor complete
+unfolding valueFor
 assignment-row-valid d s epoch ps e v =
-    ap (checkFields (faultWithin d) ScalableConsumerAssignment []) e
-    ∙ parts-valid d ScalableConsumerAssignment ScalableAssignedSegment 2 (1 ∷ []) refl refl refl ps v
+    record {
+      read =
+          ap (checkFields (faultWithin d) ScalableConsumerAssignment) e
+          ∙ parts-valid d ScalableConsumerAssignment ScalableAssignedSegment 2 refl ps v;
+      whole =
+          ap (completeWithin (suc d) ScalableConsumerAssignment) e
+          ∙ rw (parts-whole d ScalableConsumerAssignment ScalableAssignedSegment 2 ps v);
+    }
 
 -- ---- as they are written
 
 ranges-valid : (rs : List KeyRange) → FitRanges rs → Each (Sound 1 IntRange) (map rangeMessage rs)
 ranges-valid [] f = tt
-ranges-valid (r ∷ rs) f = (range-row-valid 1 (rangeMessage r) r (range-row r (f .0)), ranges-valid rs (f .1))
+ranges-valid (r ∷ rs) f = (range-sound 1 (rangeMessage r) (r .start) (r .end) (range-row r (f .0)), ranges-valid rs (f .1))
 
 segment-valid : (parent : List ℕ) (g : AssignedSegment) → Written parent g
     → Sound 2 ScalableAssignedSegment (segmentMessage (pathOf parent) g)

@@ -9,7 +9,7 @@ use reply::Reply;
 // The names by the specification's numbers, word 0 for none.
 fn named(number: usize) {
     text(lines::word(
-        b" StoreTooShort OutputTooShort InvalidWireFormat WrongWireType RepeatedField MissingField \
+        b" StoreTooShort OutputTooShort InvalidWireFormat WrongWireType - MissingField \
               InvalidUtf8 IdentityTooLong InvalidRange InvalidBucketRange OverlappingBucketRanges \
               InvalidParent AttachmentMismatch DuplicateSegment AssignmentTooLong Broker Empty InvalidSegment \
               SegmentIdMismatch MalformedInput ResultTooLong MalformedStore IncarnationMismatch \

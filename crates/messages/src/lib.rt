@@ -1,6 +1,7 @@
-// One validating scan for the eight messages.
+// One validating scan for the eight messages, and behind it the look for required fields.
 //
-// `first_fault` reads a message by the table of its fields and gives the refusal of its first fault in byte order. It takes a part of any length and content.
+// `first_fault` reads a message by the table of its fields and gives the refusal of its first fault: 3, 4 and 7 in byte order, then 6 of the message as it is when
+// its parts are merged. It takes a part of any length and content. A message in its usual form is gone over once.
 // What a message's fields hold is read by other crates, which ask nothing of this pass.
 ghost use mathlib.Core.Path.{_≡_};
 ghost use Rattle.schema.specs.FirstFault.{faultWithin, firstFault};
@@ -9,7 +10,7 @@ use refusal::Refusal;
 pub use schema::Checked;
 pub use schema::MessageKind;
 
-// The first fault of a message in byte order, where messages are nested at most depth deep. One in its usual form is told first: it has none.
+// The first 3, 4 or 7 of a message in byte order, where messages are nested at most depth deep. One in its usual form is told first: it has none.
 fn scan(depth: usize, kind: MessageKind, s: &[u8]) -> Checked
     ensures { λ r. ⌜ r ≡ faultWithin depth kind (now (s .entry)) ⌝ }
 {
@@ -19,13 +20,10 @@ fn scan(depth: usize, kind: MessageKind, s: &[u8]) -> Checked
     if depth == 0 {
         return Checked::Valid;
     }
-    let mut seen = [false; 8];
     let mut at: usize = 0;
     while at < s.len() {
-        let field = field_step::read_field(kind, seen, &s[at..]);
-        let slot = field.slot;
+        let field = field_step::read_field(kind, &s[at..]);
         let step = field.step;
-        seen[slot] = 0 < slot;
         at = at + field.size;
         match step {
             Step::Refused(x) => {
@@ -43,17 +41,23 @@ fn scan(depth: usize, kind: MessageKind, s: &[u8]) -> Checked
             }
         }
     }
-    if schema::complete(kind, seen) {
+    Checked::Valid
+}
+
+// The first fault of a message, or none.
+pub fn first_fault(kind: MessageKind, s: &[u8]) -> Checked
+    ensures { λ r. ⌜ r ≡ firstFault kind (now (s .entry)) ⌝ }
+{
+    if plain::is_plain_command(kind, s) {
+        return Checked::Valid;
+    }
+    let depth = schema::nesting(kind);
+    if let Checked::Refused(x) = scan(depth, kind, s) {
+        return Checked::Refused(x);
+    }
+    if required_fields::is_complete(kind, s) {
         Checked::Valid
     } else {
         Checked::Refused(Refusal::MissingField)
     }
-}
-
-// The first fault of a message in byte order, or none.
-pub fn first_fault(kind: MessageKind, s: &[u8]) -> Checked
-    ensures { λ r. ⌜ r ≡ firstFault kind (now (s .entry)) ⌝ }
-{
-    let depth = schema::nesting(kind);
-    scan(depth, kind, s)
 }

@@ -1,35 +1,39 @@
 -- Laws of messages in their usual form: what the walk reads is a field, and a message of such fields is valid at any depth.
 --
--- In order: a one-byte key (`key-one`), and the field behind it (`number-field`, `part-field`, `number-some`); the fields up to a place (`passed-start`,
--- `passed-number`, `passed-part`), and the whole message (`passed-end`); a place that is not told (`none-above`).
---
--- The conditions of the laws on `Passed` hold by computation for a kind of message that is known: whoever cites them opens `ruleFor` or
--- `complete`.
+-- In order: a one-byte key (`key-one`), and the field behind it (`number-field`, `part-field`, `number-some`); a range (`range-plain`); the fields up to a place of
+-- a segment or an assignment (`segment-start`, `assignment-start`, `passed-message`), and the whole (`passed-end`); a message that holds an assignment
+-- (`carrier-plain`); a place that is not told (`none-above`).
 -- Assumes nothing.
 use Prim.Native.Nat.{ℕ, zero, suc, _+_, _-_, _*_, _/_, _%_, _≤_, _<_}
 use native.Mathlib.Nat.{add-sub-cancel-left, mul-add-div, mul-add-mod-self-left, div-eq-of-lt, mod-eq-of-lt}
 use native.Mathlib.Omega.{arith}
 use mathlib.Core.Path.{_≡_, refl, sym, ap, _∙_}
-use mathlib.Core.Bool.{true, false}
-use mathlib.Core.List.{List, []}
+use mathlib.Core.Bool.{true}
+use mathlib.Core.List.{List, [], _∷_}
 use lib.ListN.{length, take, drop, getD, length-drop}
 use lib.Seq.{drop-drop, getD-drop}
+use borrow.Author.Tests.{eq-eqb}
 use Rattle.parts.proofs.PartLaws.{rest}
 use Rattle.wire.specs.declared.varint.Varint.the-variants as varint
 use Rattle.wire.specs.declared.WireType.the-variants as wire
 use Rattle.wire.specs.declared.Body.the-variants as body
 use Rattle.wire.specs.Varints.{varintOf}
 use Rattle.wire.specs.Field.{typedKey, keyOf, bodyOf}
-use Rattle.wire.specs.Fields.{number, bytes, fieldsOf}
+use Rattle.wire.specs.Fields.{number, bytes, Field, field, fieldsOf}
 use Rattle.wire.proofs.VarintLaws.{varint-one, varint-size}
 use Rattle.wire.proofs.FieldLaws.{key-typed, number-value, body-size-after}
-use Rattle.wire.proofs.FieldsLaws.{fields-number, fields-part}
+use Rattle.wire.proofs.FieldsLaws.{fields-nil, fields-number, fields-part}
+use Rattle.utf8.specs.Table.{isUtf8}
+use Rattle.values.specs.Values.{partsOf}
 use Rattle.schema.specs.declared.MessageKind.{MessageKind}
-use Rattle.schema.specs.declared.Checked.the-variants.{Valid}
-use Rattle.schema.specs.Schema.{ruleFor, fitsWire, complete}
-use Rattle.schema.specs.FirstFault.{elem, note, checkValue, faultWithin}
-use Rattle.plain.specs.Plain.{NumberIs, NumberField, PartField, Passed}
-use Rattle.schema.proofs.FaultLaws.{fault-end, fault-once}
+use Rattle.schema.specs.declared.MessageKind.the-variants.{ScalableConsumerAssignment, ScalableAssignedSegment, IntRange}
+use Rattle.schema.specs.declared.ValueKind.the-variants.{Message}
+use Rattle.schema.specs.Schema.{valueFor}
+use Rattle.schema.specs.Required.{allComplete, completeWithin}
+use Rattle.schema.specs.FirstFault.{checkFields, faultWithin, Sound}
+use Rattle.schema.proofs.RequiredLaws.{segment-is, assignment-is}
+use Rattle.schema.proofs.SoundLaws.{range-sound}
+use Rattle.plain.specs.Plain.{NumberIs, NumberField, PartField, Passed, Carrier}
 
 -- ---- a field with a one-byte key
 
@@ -81,36 +85,73 @@ module _ (f : ℕ) (s : List ℕ) (at : ℕ) (h : at < length s) (low : 0 < f) (
 pub number-some : {f : ℕ} {s : List ℕ} {at v to : ℕ} → NumberIs f s at v to → NumberField f s at to
 number-some {v = v} n = record { moved = n .moved; within = n .within; value = v; fields = n .fields }
 
+-- ---- a range
+
+pub range-plain : (s : List ℕ) {a b : ℕ} → NumberField 1 s 0 a → NumberField 2 s a b → length s ≤ b → (d : ℕ) → Sound d IntRange s
+range-plain s {b = b} m n h d =
+    let z : fieldsOf (drop b s) ≡ [] = fields-nil (drop b s) (omega (arith, length-drop b s)) in
+    range-sound d s (m .value) (n .value) (m .fields ∙ rw (n .fields, z))
+
 -- ---- the fields up to a place
 
-pub passed-start : (k : MessageKind) (s : List ℕ) → Passed k [] s 0
-passed-start k s = record { within = omega arith; stands = λ d. refl }
+-- fields 1 to 4 of a segment
+pub segment-start : (s : List ℕ) {a b c from to : ℕ} → NumberField 1 s 0 a → NumberField 2 s a b → NumberField 3 s b c
+    → PartField 4 s c from to → isUtf8 (take (to - from) (drop from s)) ≡ true → Passed ScalableAssignedSegment IntRange 5 s to
+unfolding valueFor
+segment-start s {from = from} {to = to} l m n t u =
+    let row : List Field =
+    field 1 wire.Varint (number (l .value))
+    ∷ field 2 wire.Varint (number (m .value))
+    ∷ field 3 wire.Varint (number (n .value))
+    ∷ field 4 wire.Len (bytes (take (to - from) (drop from s)))
+    ∷ fieldsOf (drop to s) in
+    let e : fieldsOf s ≡ row = l .fields ∙ rw (m .fields, n .fields, t .fields) in
+    record {
+      within = t .within;
+      read = λ d. ap (checkFields (faultWithin d) ScalableAssignedSegment) e ∙ rw u;
+      whole = λ d. ap (completeWithin (suc d) ScalableAssignedSegment) e ∙ segment-is d row;
+    }
 
-module _ {k : MessageKind} {seen : List ℕ} {s : List ℕ} {at : ℕ} (p : Passed k seen s at) where
+-- field 1 of an assignment
+pub assignment-start : (s : List ℕ) {a : ℕ} → NumberField 1 s 0 a → Passed ScalableConsumerAssignment ScalableAssignedSegment 2 s a
+unfolding valueFor
+assignment-start s {a} n =
+    let row : List Field = field 1 wire.Varint (number (n .value)) ∷ fieldsOf (drop a s) in
+    record {
+      within = n .within;
+      read = λ d. ap (checkFields (faultWithin d) ScalableConsumerAssignment) (n .fields);
+      whole = λ d. ap (completeWithin (suc d) ScalableConsumerAssignment) (n .fields) ∙ assignment-is d row;
+    }
+
+module _ {k j : MessageKind} {f : ℕ} {s : List ℕ} {at : ℕ} (p : Passed k j f s at) where
   -- the whole message
-  pub passed-end : length s ≤ at → complete k (elem seen) ≡ true → (d : ℕ) → faultWithin d k s ≡ Valid
-  passed-end h e zero = refl
-  passed-end h e (suc d) = p .stands d ∙ fault-end (faultWithin d) k seen (drop at s) (omega (arith, length-drop at s)) true e
+  pub passed-end : length s ≤ at → (d : ℕ) → Sound d k s
+  passed-end h zero = record { read = refl; whole = refl }
+  passed-end h (suc d) =
+      let z : fieldsOf (drop at s) ≡ [] = fields-nil (drop at s) (omega (arith, length-drop at s)) in
+      record {
+        read = p .read d ∙ ap (checkFields (faultWithin d) k) z;
+        whole = p .whole d ∙ ap (λ (fs : List Field). allComplete (completeWithin d) j (partsOf f fs)) z;
+      }
 
-  module _ (f : ℕ) {to : ℕ} (o : elem seen (ruleFor k f .slot) ≡ false) where
-    pub passed-number : fitsWire (ruleFor k f .value) wire.Varint ≡ true → NumberField f s at to
-        → Passed k (note (ruleFor k f .slot) seen) s to
-    passed-number g n = record {
-      within = n .within;
-      stands = λ d. p .stands d
-          ∙ fault-once (faultWithin d) k seen (drop at s) f wire.Varint g o (number (n .value)) (fieldsOf (drop to s)) (n .fields);
-    }
+  -- one more message in field f
+  pub passed-message : {from to : ℕ} → valueFor k f ≡ Message j → PartField f s at from to
+      → ((d : ℕ) → Sound d j (take (to - from) (drop from s))) → Passed k j f s to
+  passed-message {from} {to} e n v = record {
+    within = n .within;
+    read = λ d. p .read d ∙ ap (checkFields (faultWithin d) k) (n .fields) ∙ rw (e, v d .read);
+    whole = λ d. p .whole d
+        ∙ ap (λ (fs : List Field). allComplete (completeWithin d) j (partsOf f fs)) (n .fields)
+        ∙ rw (eq-eqb f f refl, v d .whole);
+  }
 
-    pub passed-part : {from : ℕ} → fitsWire (ruleFor k f .value) wire.Len ≡ true → PartField f s at from to
-        → ((d : ℕ) → checkValue (faultWithin d) (ruleFor k f .value) (bytes (take (to - from) (drop from s))) ≡ Valid)
-        → Passed k (note (ruleFor k f .slot) seen) s to
-    passed-part {from} g n v = record {
-      within = n .within;
-      stands = λ d. p .stands d
-          ∙ fault-once (faultWithin d) k seen (drop at s) f wire.Len g o (bytes (take (to - from) (drop from s))) (fieldsOf (drop to s))
-          (n .fields)
-          ∙ rw (v d);
-    }
+-- ---- a message that holds an assignment
+
+pub carrier-plain : (n : ℕ) (s : List ℕ) {a from to : ℕ} → NumberField 1 s 0 a → PartField n s a from to → length s ≤ to
+    → ((d : ℕ) → Sound d ScalableConsumerAssignment (take (to - from) (drop from s))) → Carrier n s
+carrier-plain n s {from = from} {to = to} i p h v =
+    let z : fieldsOf (drop to s) ≡ [] = fields-nil (drop to s) (omega (arith, length-drop to s)) in
+    record { head = i .value; part = take (to - from) (drop from s); fields = i .fields ∙ rw (p .fields, z); sound = v }
 
 -- ---- what is not told
 

@@ -2,18 +2,21 @@
 --
 -- Every answer has one direction: what is told is so, and what is not told may be so all the same.
 -- Assumes nothing.
-use Prim.Native.Nat.{ℕ, _-_, _≤_, _<_}
+use Prim.Native.Nat.{ℕ, suc, _-_, _≤_, _<_}
 use mathlib.Core.Path.{_≡_}
 use mathlib.Core.List.{List, [], _∷_}
 use lib.ListN.{length, take, drop}
 use Rattle.wire.specs.declared.WireType.the-variants as wire
 use Rattle.wire.specs.Fields.{number, bytes, field, fieldsOf}
+use Rattle.values.specs.Values.{partsOf}
 use Rattle.schema.specs.declared.MessageKind.{MessageKind}
+use Rattle.schema.specs.declared.MessageKind.the-variants.{ScalableConsumerAssignment}
 use Rattle.plain.specs.declared.NumberAt.{NumberAt}
 use Rattle.plain.specs.declared.NumberAt.the-variants as number-at
 use Rattle.plain.specs.declared.Part.{Part}
 use Rattle.plain.specs.declared.Part.the-variants.{Found, Absent}
-use Rattle.schema.specs.FirstFault.{checkFields, faultWithin}
+use Rattle.schema.specs.Required.{allComplete, completeWithin}
+use Rattle.schema.specs.FirstFault.{checkFields, faultWithin, Sound}
 
 -- field f, a number, stands in s from a place to another
 pub record NumberField (f : ℕ) (s : List ℕ) (at to : ℕ) : Type 0 where
@@ -43,7 +46,16 @@ abbrev pub PartSays : ℕ → List ℕ → ℕ → Part → Type 0
 PartSays f s at (Found from to) = PartField f s at from to
 PartSays f s at Absent = Unit {0}
 
--- the fields of a message up to a place have no fault, however deep messages may be nested: those behind it decide, with the fields seen
-pub record Passed (k : MessageKind) (seen : List ℕ) (s : List ℕ) (at : ℕ) : Type 0 where
+-- the fields of a message of kind k up to a place have no fault, however deep messages may be nested: those behind it decide. Of required fields none is
+-- missing but in messages of kind j, which field f holds behind the place
+pub record Passed (k j : MessageKind) (f : ℕ) (s : List ℕ) (at : ℕ) : Type 0 where
   pub within : at ≤ length s
-  pub stands : (d : ℕ) → checkFields (faultWithin d) k [] (fieldsOf s) ≡ checkFields (faultWithin d) k seen (fieldsOf (drop at s))
+  pub read : (d : ℕ) → checkFields (faultWithin d) k (fieldsOf s) ≡ checkFields (faultWithin d) k (fieldsOf (drop at s))
+  pub whole : (d : ℕ) → completeWithin (suc d) k (fieldsOf s) ≡ allComplete (completeWithin d) j (partsOf f (fieldsOf (drop at s)))
+
+-- a number in field 1, an assignment without fault in field n, and nothing else
+pub record Carrier (n : ℕ) (s : List ℕ) : Type 0 where
+  pub head : ℕ
+  pub part : List ℕ
+  pub fields : fieldsOf s ≡ field 1 wire.Varint (number head) ∷ field n wire.Len (bytes part) ∷ []
+  pub sound : (d : ℕ) → Sound d ScalableConsumerAssignment part

@@ -1,13 +1,13 @@
 // The usual form of a message told quickly: its fields in the order of their numbers, with one-byte keys, and no others. That is what
 // writers write.
 //
-// A plain message is valid, whatever it is nested in. A message that is not plain may be valid all the same: the scan of `messages` decides.
+// A plain message has no fault, whatever it is nested in: each of its fields comes once, so that no other part can lend it one that it lacks. A message that
+// is not plain may have none all the same: `messages` decides.
 ghost use mathlib.Core.Path.{_≡_};
 ghost use mathlib.Core.Bool.{true};
-ghost use mathlib.Core.List.{[], _∷_};
 ghost use Prim.Native.Nat.{ℕ, _<_};
-ghost use Rattle.schema.specs.FirstFault.{faultWithin};
-ghost use Rattle.plain.specs.Plain.{NumberField, NumberSays, PartSays, Passed};
+ghost use Rattle.schema.specs.FirstFault.{firstFault, Sound};
+ghost use Rattle.plain.specs.Plain.{NumberField, NumberSays, PartSays, Passed, Carrier};
 use schema::Checked;
 use schema::MessageKind;
 use wire::Body;
@@ -78,7 +78,7 @@ pub fn part_at(f: u8, s: &[u8], at: usize) -> Part
 
 // Fields 1 and 2, and nothing else.
 fn plain_range(s: &[u8]) -> bool
-    ensures { λ r. ⌜ (r ≡ true → (d : ℕ) → faultWithin d MessageKind.IntRange (now (s .entry)) ≡ Checked.Valid) ⌝ }
+    ensures { λ r. ⌜ (r ≡ true → (d : ℕ) → Sound d MessageKind.IntRange (now (s .entry))) ⌝ }
 {
     let start = number_end(1, s, 0);
     if start == 0 {
@@ -93,7 +93,7 @@ fn plain_range(s: &[u8]) -> bool
 
 // The place behind fields 1 to 4 of a segment; 0 where they do not stand at its front.
 fn segment_end(s: &[u8]) -> usize
-    ensures { λ r. ⌜ (0 < r → Passed MessageKind.ScalableAssignedSegment (4 ∷ 3 ∷ 2 ∷ 1 ∷ []) (now (s .entry)) r) ⌝ }
+    ensures { λ r. ⌜ (0 < r → Passed MessageKind.ScalableAssignedSegment MessageKind.IntRange 5 (now (s .entry)) r) ⌝ }
 {
     let id = number_end(1, s, 0);
     if id == 0 {
@@ -115,7 +115,7 @@ fn segment_end(s: &[u8]) -> usize
 
 // Fields 1 to 4, then plain ranges as field 5, and nothing else.
 fn plain_segment(s: &[u8]) -> bool
-    ensures { λ r. ⌜ (r ≡ true → (d : ℕ) → faultWithin d MessageKind.ScalableAssignedSegment (now (s .entry)) ≡ Checked.Valid) ⌝ }
+    ensures { λ r. ⌜ (r ≡ true → (d : ℕ) → Sound d MessageKind.ScalableAssignedSegment (now (s .entry))) ⌝ }
 {
     let mut at = segment_end(s);
     if at == 0 {
@@ -135,7 +135,7 @@ fn plain_segment(s: &[u8]) -> bool
 
 // Field 1, then plain segments as field 2, and nothing else.
 fn plain_assignment(s: &[u8]) -> bool
-    ensures { λ r. ⌜ (r ≡ true → (d : ℕ) → faultWithin d MessageKind.ScalableConsumerAssignment (now (s .entry)) ≡ Checked.Valid) ⌝ }
+    ensures { λ r. ⌜ (r ≡ true → (d : ℕ) → Sound d MessageKind.ScalableConsumerAssignment (now (s .entry))) ⌝ }
 {
     let mut at = number_end(1, s, 0);
     if at == 0 {
@@ -155,12 +155,41 @@ fn plain_assignment(s: &[u8]) -> bool
 
 // The message is told to be plain: an assignment, a segment or a range.
 pub fn is_plain(kind: MessageKind, s: &[u8]) -> bool
-    ensures { λ r. ⌜ (r ≡ true → (d : ℕ) → faultWithin d kind (now (s .entry)) ≡ Checked.Valid) ⌝ }
+    ensures { λ r. ⌜ (r ≡ true → (d : ℕ) → Sound d kind (now (s .entry))) ⌝ }
 {
     match kind {
         MessageKind::ScalableConsumerAssignment => plain_assignment(s),
         MessageKind::ScalableAssignedSegment => plain_segment(s),
         MessageKind::IntRange => plain_range(s),
+        _ => false,
+    }
+}
+
+// Field 1, then a plain assignment as field n, and nothing else.
+fn plain_carrier(s: &[u8], n: u8) -> bool
+    requires { ⌜ (0 < n) × (n < 16) ⌝ }
+    ensures { λ r. ⌜ (r ≡ true → Carrier n (now (s .entry))) ⌝ }
+{
+    let at = number_end(1, s, 0);
+    if at == 0 {
+        return false;
+    }
+    let Part::Found(from, to) = part_at(n, s, at) else {
+        return false;
+    };
+    if to < s.len() {
+        return false;
+    }
+    plain_assignment(&s[from..to])
+}
+
+// The message is told to be plain: one that holds an assignment.
+pub fn is_plain_command(kind: MessageKind, s: &[u8]) -> bool
+    ensures { λ r. ⌜ (r ≡ true → firstFault kind (now (s .entry)) ≡ Checked.Valid) ⌝ }
+{
+    match kind {
+        MessageKind::CommandScalableTopicAssignmentUpdate => plain_carrier(s, 2),
+        MessageKind::CommandScalableTopicSubscribeResponse => plain_carrier(s, 4),
         _ => false,
     }
 }

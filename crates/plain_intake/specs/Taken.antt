@@ -8,8 +8,7 @@ use mathlib.Core.List.{List}
 use Rattle.packed_int.specs.Put.{put}
 use Rattle.wire.specs.Fields.{fieldsOf}
 use Rattle.schema.specs.declared.MessageKind.the-variants.{ScalableConsumerAssignment}
-use Rattle.schema.specs.declared.Checked.the-variants.{Valid}
-use Rattle.schema.specs.FirstFault.{faultWithin}
+use Rattle.schema.specs.FirstFault.{Sound}
 use Rattle.readers.specs.Messages.{assignmentOf}
 use Rattle.packed.specs.Assignment.{ConsumerAssignment, encodeAssignment, sizeAssignment}
 use Rattle.content.specs.Content.{contentOf, taken}
@@ -18,7 +17,7 @@ use Rattle.plain_intake.specs.declared.PlainIntake.the-variants.{Taken, 
 
 -- the assignment s has no fault, wherever it is nested; below the parent nothing refuses it; and the buffer holds it packed, in n bytes
 pub record PlainTaken (parent s b : List ℕ) (epoch n : ℕ) (b′ : List ℕ) : Type 0 where
-  pub valid : (d : ℕ) → faultWithin d ScalableConsumerAssignment s ≡ Valid
+  pub valid : (d : ℕ) → Sound d ScalableConsumerAssignment s
   pub epoch-is : epoch ≡ assignmentOf (fieldsOf s) .layoutEpoch
   pub assignment : ConsumerAssignment
   pub content : contentOf parent (assignmentOf (fieldsOf s)) ≡ taken assignment

@@ -4,13 +4,13 @@
 -- schema. A singular message's fields are those of all its parts (`mergedFields`).
 -- Assumes nothing.
 use Prim.Native.Nat.{ℕ}
-use mathlib.Core.Bool.{Bool, true, false, cond}
+use mathlib.Core.Bool.{Bool, cond}
 use mathlib.Core.List.{List, [], _∷_, map}
 use lib.Dec.{eqb}
-use Rattle.wire.specs.Fields.{number, bytes, fixed, cut, Field, badKey, field, fieldsOf}
+use Rattle.wire.specs.Fields.{Field, fieldsOf}
 use Rattle.values.specs.declared.Last.{Last}
 use Rattle.values.specs.declared.Last.the-variants as last
-use Rattle.values.specs.Values.{numbersOf, partsOf, lastOf, lastPart, mergedFields, numberIn}
+use Rattle.values.specs.Values.{numbersOf, partsOf, present, lastOf, lastPart, mergedFields, numberIn, Member, absent, holds, memberOf}
 use Rattle.values.specs.Integers.{uint32Of, int32Of}
 use Rattle.readers.specs.declared.IntRange.{IntRange}
 use Rattle.readers.specs.declared.ErrorCode.{ErrorCode}
@@ -64,11 +64,6 @@ abbrev pub codeOf : Last → ErrorCode
 codeOf (last.Found v) = code.Given (int32Of v)
 codeOf last.Absent = code.Absent
 
--- there is a part
-abbrev pub present : List (List ℕ) → Bool
-present [] = false
-present (p ∷ ps) = true
-
 pub record WireResponse : Type 0 where
   pub requestId : ℕ
   pub error : ErrorCode
@@ -88,26 +83,22 @@ responseOf m =
 
 -- ---- CommandWatchScalableTopicsUpdate
 
--- ScalableTopicsSnapshot or ScalableTopicsDiff, by its part; none where neither is there
+-- ScalableTopicsSnapshot or ScalableTopicsDiff, by its fields; none where neither is there
 pub data WireEvent : Type 0 where
   none : WireEvent
-  snapshot : List ℕ → WireEvent
-  diff : List ℕ → WireEvent
+  snapshot : List Field → WireEvent
+  diff : List Field → WireEvent
 
--- the last of fields 2 and 3, or what was there before
-abbrev pub eventBy : WireEvent → ℕ → List ℕ → WireEvent
-eventBy e f p = cond (eqb f 2) (snapshot p) (cond (eqb f 3) (diff p) e)
+-- the members of the oneof `event`: field 2 is a snapshot, field 3 a diff
+abbrev pub eventFields : List ℕ
+eventFields = 2 ∷ 3 ∷ []
 
-abbrev pub eventAfter : WireEvent → List Field → WireEvent
-eventAfter e [] = e
-eventAfter e (badKey ∷ fs) = eventAfter e fs
-eventAfter e (field f w (number v) ∷ fs) = eventAfter e fs
-eventAfter e (field f w (bytes p) ∷ fs) = eventAfter (eventBy e f p) fs
-eventAfter e (field f w fixed ∷ fs) = eventAfter e fs
-eventAfter e (field f w cut ∷ fs) = eventAfter e fs
+abbrev pub eventBy : Member → WireEvent
+eventBy absent = none
+eventBy (holds f fs) = cond (eqb f 2) (snapshot fs) (diff fs)
 
 unfoldable pub eventOf : List Field → WireEvent
-eventOf fs = eventAfter none fs
+eventOf fs = eventBy (memberOf eventFields fs)
 
 pub record WireWatchUpdate : Type 0 where
   pub watchId : ℕ

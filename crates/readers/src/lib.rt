@@ -5,12 +5,11 @@
 // `segment_scan::scan_segment`; texts are parts of the message (`values::text`).
 ghost use mathlib.Core.Path.{_≡_};
 ghost use Rattle.wire.specs.Fields.{fieldsOf};
-ghost use Rattle.values.specs.Values.{numbersOf, partsOf, lastOf};
-ghost use Rattle.readers.specs.Messages.{intRangeOf, codeOf, present, responseOf, eventOf, watchUpdateOf};
-ghost use Rattle.readers.specs.Places.{headOf, UpdateIs, ResponseIs, EventIs, WatchIs};
+ghost use Rattle.values.specs.Values.{numbersOf, lastOf};
+ghost use Rattle.readers.specs.Messages.{intRangeOf, codeOf, responseOf, eventOf, watchUpdateOf};
+ghost use Rattle.readers.specs.Places.{headOf, UpdateIs, ResponseIs, EventIs, snapshotFrom, diffFrom, WatchIs};
 use values::Front;
 use values::Last;
-use values::PartStep;
 
 // The ends of a bucket range, as they came.
 pub struct IntRange {
@@ -33,11 +32,11 @@ pub struct SegmentHead {
     pub topic_len: usize,
 }
 
-// The event of a watch update: the place and length of its part.
+// The event of a watch update: the place in the message from which on its parts are those of field 2, or of field 3.
 pub enum Event {
     Nothing,
-    Snapshot(usize, usize),
-    Diff(usize, usize),
+    Snapshot(usize),
+    Diff(usize),
 }
 
 // The bucket range in the part p.
@@ -100,23 +99,13 @@ pub struct ResponseHead {
     pub layout_epoch: u64,
 }
 
-// Whether the message m has a part of field n.
-fn has_part(m: &[u8], n: u64) -> bool
-    ensures { λ r. ⌜ r ≡ present (partsOf n (fieldsOf (now (m .entry)))) ⌝ }
-{
-    match values::next_part(m, 0, n) {
-        PartStep::Found(_, _, _) => true,
-        PartStep::Absent => false,
-    }
-}
-
 // The numbers of the response m.
 pub fn read_response(m: &[u8]) -> ResponseHead
     ensures { λ r. ⌜ ResponseIs (now (m .entry)) r ⌝ }
 {
     let request_id = values::number(m, 1);
     let error = error_code(m, 2);
-    let has_assignment = has_part(m, 4);
+    let has_assignment = values::has_part(m, 4);
     let layout_epoch = values::inner_number(m, 4, 1);
     ResponseHead {
         request_id,
@@ -140,7 +129,29 @@ pub struct WatchHead {
     pub error: ErrorCode,
 }
 
-// The event of the watch update m: its last part of field 2 or 3.
+// The event with one more snapshot, in the field at a place.
+fn snapshot_from(event: Event, at: usize) -> Event
+    ensures { λ r. ⌜ r ≡ snapshotFrom event at ⌝ }
+{
+    match event {
+        Event::Nothing => Event::Snapshot(at),
+        Event::Snapshot(base) => Event::Snapshot(base),
+        Event::Diff(_) => Event::Snapshot(at),
+    }
+}
+
+// .. and with one more diff.
+fn diff_from(event: Event, at: usize) -> Event
+    ensures { λ r. ⌜ r ≡ diffFrom event at ⌝ }
+{
+    match event {
+        Event::Nothing => Event::Diff(at),
+        Event::Snapshot(_) => Event::Diff(at),
+        Event::Diff(base) => Event::Diff(base),
+    }
+}
+
+// The event of the watch update m: its last parts of field 2 or 3 that have no part of the other between them.
 fn read_event(m: &[u8]) -> Event
     ensures { λ r. ⌜ EventIs (now (m .entry)) (eventOf (fieldsOf (now (m .entry)))) r ⌝ }
 {
@@ -155,14 +166,15 @@ fn read_event(m: &[u8]) -> Event
                 at = at + size;
             }
             Front::Part(f, from, len) => {
-                let start = at + from;
+                let snapshot = snapshot_from(event, at);
+                let diff = diff_from(event, at);
                 if f == 2 {
-                    event = Event::Snapshot(start, len);
+                    event = snapshot;
                 }
                 if f == 3 {
-                    event = Event::Diff(start, len);
+                    event = diff;
                 }
-                at = start + len;
+                at = at + from + len;
             }
             Front::Fixed(size) => {
                 at = at + size;

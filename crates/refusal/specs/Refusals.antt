@@ -2,7 +2,7 @@
 --
 -- `numberOf` is 01's number. `valuesOf` are the attached numbers, "those of the Rust's variant, else none", in the order of the Rust's fields,
 -- as integers: bucket ends and broker codes may be negative. Of an invalid range the kind comes before that kind's own numbers. 34 (02 e) has
--- "segment id and bucket index (from 0)".
+-- "segment id and bucket index (from 0)". "Number 5 is retired" (02 b): no refusal has it.
 -- Assumes nothing.
 use Prim.Native.Nat.{ℕ}
 use mathlib.Core.List.{List, [], _∷_, map}
@@ -12,7 +12,7 @@ use Rattle.types.specs.declared.ControllerIncarnation.{ControllerIncarnation}
 use Rattle.types.specs.declared.KeyRangeError.{KeyRangeError}
 use Rattle.types.specs.KeyRanges.{kindOf, numbersOf}
 use Rattle.refusal.specs.declared.Refusal.{Refusal}
-use Rattle.refusal.specs.declared.Refusal.the-variants.{StoreTooShort, OutputTooShort, InvalidWireFormat, WrongWireType, RepeatedField}
+use Rattle.refusal.specs.declared.Refusal.the-variants.{StoreTooShort, OutputTooShort, InvalidWireFormat, WrongWireType}
 use Rattle.refusal.specs.declared.Refusal.the-variants.{MissingField, InvalidUtf8, IdentityTooLong, InvalidRange, InvalidKeyRange}
 use Rattle.refusal.specs.declared.Refusal.the-variants.{InvalidBucketRange, OverlappingBucketRanges, InvalidParent, AttachmentMismatch}
 use Rattle.refusal.specs.declared.Refusal.the-variants.{DuplicateSegment, AssignmentTooLong, Broker, Empty, EmptyUpdate, InvalidSegment}
@@ -27,7 +27,6 @@ numberOf StoreTooShort = 1
 numberOf OutputTooShort = 2
 numberOf InvalidWireFormat = 3
 numberOf WrongWireType = 4
-numberOf RepeatedField = 5
 numberOf MissingField = 6
 numberOf InvalidUtf8 = 7
 numberOf IdentityTooLong = 8
@@ -79,7 +78,6 @@ valuesOf StoreTooShort = []
 valuesOf OutputTooShort = []
 valuesOf InvalidWireFormat = []
 valuesOf WrongWireType = []
-valuesOf RepeatedField = []
 valuesOf MissingField = []
 valuesOf InvalidUtf8 = []
 valuesOf IdentityTooLong = []

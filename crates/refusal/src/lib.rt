@@ -2,7 +2,8 @@
 //
 // The variants that come from the Rust have its names and those of its fields that are numbers; texts are left out. The others are refusals of
 // this port's own and have no fields, but for 34. The number before each variant is the one that the specification gives it; `numberOf` and
-// `valuesOf` of specs/ say the same formally, and every promise about a refusal goes through those two.
+// `valuesOf` of specs/ say the same formally, and every promise about a refusal goes through those two. No variant has 5, which request b of
+// document 02 retired.
 ghost use mathlib.Core.Path.{_≡_};
 ghost use Rattle.refusal.specs.Refusals.{numberOf};
 use types::ControllerIncarnation;
@@ -18,8 +19,6 @@ pub enum Refusal {
     InvalidWireFormat,
     // 4: a known field has another wire type than its own.
     WrongWireType,
-    // 5: a singular field comes twice.
-    RepeatedField,
     // 6: a required field is missing.
     MissingField,
     // 7: a text is not UTF-8.
@@ -149,7 +148,6 @@ pub fn number(refusal: Refusal) -> u8
         Refusal::OutputTooShort => 2,
         Refusal::InvalidWireFormat => 3,
         Refusal::WrongWireType => 4,
-        Refusal::RepeatedField => 5,
         Refusal::MissingField => 6,
         Refusal::InvalidUtf8 => 7,
         Refusal::IdentityTooLong => 8,

@@ -68,45 +68,44 @@ bucket-reply {x = x} {n = n} {index = index} {id = id} {start = start} {end = en
 
 -- the tags of the variants without values
 abbrev bare : List ℕ
-bare = 0 ∷ 1 ∷ 2 ∷ 3 ∷ 4 ∷ 5 ∷ 6 ∷ 7 ∷ 12 ∷ 15 ∷ 19 ∷ 21 ∷ 22 ∷ 23 ∷ 31 ∷ 32 ∷ 33 ∷ 34 ∷ 36 ∷ 37 ∷ 38 ∷ 39 ∷ []
+bare = 0 ∷ 1 ∷ 2 ∷ 3 ∷ 4 ∷ 5 ∷ 6 ∷ 11 ∷ 14 ∷ 18 ∷ 20 ∷ 21 ∷ 22 ∷ 30 ∷ 31 ∷ 32 ∷ 33 ∷ 35 ∷ 36 ∷ 37 ∷ 38 ∷ []
 
 pub no-values : (x : Refusal) → OneOf bare (tagOf the-type x) → valuesOf x ≡ []
 no-values refusal.StoreTooShort h = refl
 no-values refusal.OutputTooShort h = refl
 no-values refusal.InvalidWireFormat h = refl
 no-values refusal.WrongWireType h = refl
-no-values refusal.RepeatedField h = refl
 no-values refusal.MissingField h = refl
 no-values refusal.InvalidUtf8 h = refl
 no-values refusal.IdentityTooLong h = refl
-no-values (refusal.InvalidRange a b) h = absurd (miss bare 8 tt h)
-no-values (refusal.InvalidKeyRange a) h = absurd (miss bare 9 tt h)
-no-values (refusal.InvalidBucketRange a b d e) h = absurd (miss bare 10 tt h)
-no-values (refusal.OverlappingBucketRanges a) h = absurd (miss bare 11 tt h)
+no-values (refusal.InvalidRange a b) h = absurd (miss bare 7 tt h)
+no-values (refusal.InvalidKeyRange a) h = absurd (miss bare 8 tt h)
+no-values (refusal.InvalidBucketRange a b d e) h = absurd (miss bare 9 tt h)
+no-values (refusal.OverlappingBucketRanges a) h = absurd (miss bare 10 tt h)
 no-values refusal.InvalidParent h = refl
-no-values (refusal.AttachmentMismatch a) h = absurd (miss bare 13 tt h)
-no-values (refusal.DuplicateSegment a) h = absurd (miss bare 14 tt h)
+no-values (refusal.AttachmentMismatch a) h = absurd (miss bare 12 tt h)
+no-values (refusal.DuplicateSegment a) h = absurd (miss bare 13 tt h)
 no-values refusal.AssignmentTooLong h = refl
-no-values (refusal.Broker a) h = absurd (miss bare 16 tt h)
-no-values (refusal.Empty a) h = absurd (miss bare 17 tt h)
-no-values (refusal.EmptyUpdate a) h = absurd (miss bare 18 tt h)
+no-values (refusal.Broker a) h = absurd (miss bare 15 tt h)
+no-values (refusal.Empty a) h = absurd (miss bare 16 tt h)
+no-values (refusal.EmptyUpdate a) h = absurd (miss bare 17 tt h)
 no-values refusal.InvalidSegment h = refl
-no-values (refusal.SegmentIdMismatch a b) h = absurd (miss bare 20 tt h)
+no-values (refusal.SegmentIdMismatch a b) h = absurd (miss bare 19 tt h)
 no-values refusal.MalformedInput h = refl
 no-values refusal.ResultTooLong h = refl
 no-values refusal.MalformedStore h = refl
-no-values (refusal.IncarnationMismatch a b) h = absurd (miss bare 24 tt h)
-no-values (refusal.ConsumerMismatch a b) h = absurd (miss bare 25 tt h)
-no-values (refusal.NonAdvancingIncarnation a b) h = absurd (miss bare 26 tt h)
-no-values (refusal.CrossIncarnationEpochRegression a b) h = absurd (miss bare 27 tt h)
-no-values (refusal.StaleEpoch a b) h = absurd (miss bare 28 tt h)
-no-values (refusal.PreBaselineBufferFull a) h = absurd (miss bare 29 tt h)
-no-values (refusal.WatchMismatch a b) h = absurd (miss bare 30 tt h)
+no-values (refusal.IncarnationMismatch a b) h = absurd (miss bare 23 tt h)
+no-values (refusal.ConsumerMismatch a b) h = absurd (miss bare 24 tt h)
+no-values (refusal.NonAdvancingIncarnation a b) h = absurd (miss bare 25 tt h)
+no-values (refusal.CrossIncarnationEpochRegression a b) h = absurd (miss bare 26 tt h)
+no-values (refusal.StaleEpoch a b) h = absurd (miss bare 27 tt h)
+no-values (refusal.PreBaselineBufferFull a) h = absurd (miss bare 28 tt h)
+no-values (refusal.WatchMismatch a b) h = absurd (miss bare 29 tt h)
 no-values refusal.MalformedSet h = refl
 no-values refusal.SetTooLong h = refl
 no-values refusal.KeyTooLong h = refl
 no-values refusal.UnknownReader h = refl
-no-values (refusal.BucketOutsideSegment a b) h = absurd (miss bare 35 tt h)
+no-values (refusal.BucketOutsideSegment a b) h = absurd (miss bare 34 tt h)
 no-values refusal.InvalidContract h = refl
 no-values refusal.ChargeTooLarge h = refl
 no-values refusal.InvalidLog h = refl

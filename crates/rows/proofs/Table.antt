@@ -12,7 +12,8 @@ use Rattle.topic.specs.Names.{hex4, decimalWithin, decimal, descriptor, segment
 use Rattle.wire.specs.Varints.{varintOf}
 use Rattle.wire.specs.Field.{keyOf, numberOf, partOf}
 use Rattle.wire.specs.Fields.{fieldsOf}
-use Rattle.schema.specs.Schema.{ruleFor, complete}
+use Rattle.schema.specs.Schema.{valueFor}
+use Rattle.schema.specs.Required.{isComplete}
 use Rattle.schema.specs.FirstFault.{firstFault}
 use Rattle.readers.specs.Messages.{segmentOf, assignmentOf, updateOf}
 use Rattle.packed.specs.Assignment.{sizeSegment, sizeSegments, sizeAssignment}
@@ -30,7 +31,7 @@ use Rattle.rows.specs.Rows.{Rows}
 use Rattle.rows.proofs.BucketLaws.{buckets-taken, buckets-long}
 
 pub rows : Rows
-unfolding newKeyRange anyOverlap sameBytes startsWith table fits sequenceIn sequenceOf textAfter isUtf8 classOf beforeSlash behindSlash clean hasThreeParts frontClean isPath isParent hex4 decimalWithin decimal descriptor segmentTopic varintOf keyOf numberOf partOf fieldsOf ruleFor complete firstFault segmentOf assignmentOf updateOf sizeSegment sizeSegments sizeAssignment sameRanges sameSegment sameSegments sameAssignment hasSame without deltaBetween bucketFault firstOutside nameFault segmentFault firstRefusal assignedSegment inIdOrder consumerAssignment contentOf sizeEntries anyBeyond damaged updateUnregistered updateRegistered updateContent updateValid updateCall
+unfolding newKeyRange anyOverlap sameBytes startsWith table fits sequenceIn sequenceOf textAfter isUtf8 classOf beforeSlash behindSlash clean hasThreeParts frontClean isPath isParent hex4 decimalWithin decimal descriptor segmentTopic varintOf keyOf numberOf partOf fieldsOf valueFor isComplete firstFault segmentOf assignmentOf updateOf sizeSegment sizeSegments sizeAssignment sameRanges sameSegment sameSegments sameAssignment hasSame without deltaBetween bucketFault firstOutside nameFault segmentFault firstRefusal assignedSegment inIdOrder consumerAssignment contentOf sizeEntries anyBeyond damaged updateUnregistered updateRegistered updateContent updateValid updateCall
 rows =
     record {
       a-valid = refl;

@@ -1,21 +1,21 @@
--- What holds of the reader's five refusals, 3 to 7, holds of a message's first fault (`fault-if`).
+-- What holds of the reader's four refusals, 3, 4, 6 and 7, holds of a message's first fault (`fault-if`).
 -- Demand 2 of the session and of the watch cite it: the reader's refusals are ours in both.
 -- Assumes nothing.
 use Prim.Native.Nat.{ℕ, zero, suc}
 use mathlib.Core.List.{List, [], _∷_}
 use Rattle.refusal.specs.declared.Refusal.{Refusal}
-use Rattle.refusal.specs.declared.Refusal.the-variants.{InvalidWireFormat, WrongWireType, RepeatedField, MissingField, InvalidUtf8}
+use Rattle.refusal.specs.declared.Refusal.the-variants.{InvalidWireFormat, WrongWireType, MissingField, InvalidUtf8}
 use Rattle.utf8.specs.Table.{isUtf8}
 use Rattle.wire.specs.declared.WireType.{WireType}
 use Rattle.wire.specs.Fields.{Content, number, bytes, fixed, cut, Field, badKey, field, fieldsOf}
 use Rattle.schema.specs.declared.MessageKind.{MessageKind}
 use Rattle.schema.specs.declared.ValueKind.{ValueKind}
 use Rattle.schema.specs.declared.ValueKind.the-variants as value
-use Rattle.schema.specs.declared.FieldRule.{FieldRule}
 use Rattle.schema.specs.declared.Checked.{Checked}
 use Rattle.schema.specs.declared.Checked.the-variants.{Valid, Refused}
-use Rattle.schema.specs.Schema.{ruleFor, fitsWire, complete, levels}
-use Rattle.schema.specs.FirstFault.{elem, note, first, checkValue, checkField, checkFields, faultWithin, firstFault}
+use Rattle.schema.specs.Schema.{valueFor, fitsWire, levels}
+use Rattle.schema.specs.Required.{isComplete}
+use Rattle.schema.specs.FirstFault.{first, checkValue, checkField, checkFields, faultWithin, missingField, firstFault}
 use Rattle.keyed.proofs.KeyedLaws.{choose}
 
 -- P holds of the refusal, if there is one
@@ -23,8 +23,7 @@ abbrev pub IfRefused : (Refusal → Type 0) → Checked → Type 0
 IfRefused P Valid = Unit {0}
 IfRefused P (Refused x) = P x
 
-module _ (P : Refusal → Type 0) (wire : P InvalidWireFormat) (type : P WrongWireType) (repeat : P RepeatedField)
-    (missing : P MissingField) (text : P InvalidUtf8) where
+module _ (P : Refusal → Type 0) (wire : P InvalidWireFormat) (type : P WrongWireType) (lacks : P MissingField) (text : P InvalidUtf8) where
   first-if : (a b : Checked) → IfRefused P a → IfRefused P b → IfRefused P (first a b)
   first-if Valid b p q = q
   first-if (Refused x) b p q = p
@@ -39,22 +38,21 @@ module _ (P : Refusal → Type 0) (wire : P InvalidWireFormat) (type : P WrongWi
     value-if value.Text (bytes l) = choose (IfRefused P) (isUtf8 l) (λ t. tt) (λ t. text)
     value-if (value.Message k) (bytes l) = h k l
 
-    field-if : (r : FieldRule) (seen : List ℕ) (w : WireType) (c : Content) → IfRefused P (checkField inner r seen w c)
-    field-if r seen w c =
-        choose (IfRefused P) (fitsWire (r .value) w)
-        (λ t. choose (IfRefused P) (elem seen (r .slot)) (λ u. repeat) (λ u. value-if (r .value) c)) (λ t. type)
+    field-if : (v : ValueKind) (w : WireType) (c : Content) → IfRefused P (checkField inner v w c)
+    field-if v w c = choose (IfRefused P) (fitsWire v w) (λ t. value-if v c) (λ t. type)
 
-    fields-if : (k : MessageKind) (seen : List ℕ) (fs : List Field) → IfRefused P (checkFields inner k seen fs)
-    fields-if k seen [] = choose (IfRefused P) (complete k (elem seen)) (λ t. tt) (λ t. missing)
-    fields-if k seen (badKey ∷ fs) = wire
-    fields-if k seen (field f w c ∷ fs) =
-        first-if (checkField inner (ruleFor k f) seen w c) _ (field-if (ruleFor k f) seen w c)
-        (fields-if k (note (ruleFor k f .slot) seen) fs)
+    fields-if : (k : MessageKind) (fs : List Field) → IfRefused P (checkFields inner k fs)
+    fields-if k [] = tt
+    fields-if k (badKey ∷ fs) = wire
+    fields-if k (field f w c ∷ fs) = first-if (checkField inner (valueFor k f) w c) _ (field-if (valueFor k f) w c) (fields-if k fs)
 
   within-if : (d : ℕ) (k : MessageKind) (l : List ℕ) → IfRefused P (faultWithin d k l)
   within-if zero k l = tt
-  within-if (suc d) k l = fields-if (faultWithin d) (within-if d) k [] (fieldsOf l)
+  within-if (suc d) k l = fields-if (faultWithin d) (within-if d) k (fieldsOf l)
+
+  missing-if : (k : MessageKind) (fs : List Field) → IfRefused P (missingField k fs)
+  missing-if k fs = choose (IfRefused P) (isComplete k fs) (λ t. tt) (λ t. lacks)
 
   pub fault-if : (k : MessageKind) (l : List ℕ) → IfRefused P (firstFault k l)
   unfolding firstFault
-  fault-if k l = within-if (levels k) k l
+  fault-if k l = first-if (faultWithin (levels k) k l) _ (within-if (levels k) k l) (missing-if k (fieldsOf l))

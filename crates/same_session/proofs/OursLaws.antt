@@ -44,7 +44,7 @@ abbrev pub OursIf : Checked → Type 0
 OursIf = IfRefused Ours
 
 pub fault-ours : (k : MessageKind) (l : List ℕ) → OursIf (firstFault k l)
-fault-ours = fault-if Ours refl refl refl refl refl
+fault-ours = fault-if Ours refl refl refl refl
 
 -- ---- 9 to 14, 26, 27, 34
 

@@ -1,3 +1,5 @@
 pub mod SchemaLaws
 pub mod FaultLaws
+pub mod RequiredLaws
+pub mod SoundLaws
 pub mod Levels

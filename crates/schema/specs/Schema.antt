@@ -1,10 +1,9 @@
 -- The fields of the eight messages, as PulsarApi.proto has them. Each row: the field's number, its label and its type; its name stands behind it.
 -- Assumes nothing.
 use Prim.Native.Nat.{ℕ}
-use mathlib.Core.Bool.{Bool, true, false, cond, _&&_}
+use mathlib.Core.Bool.{Bool, true, false, cond}
 use mathlib.Core.List.{List, [], _∷_}
 use lib.Dec.{eqb}
-use lib.ListN.{getD}
 use Rattle.wire.specs.declared.WireType.{WireType}
 use Rattle.wire.specs.declared.WireType.the-variants as wire
 use Rattle.schema.specs.declared.MessageKind.{MessageKind}
@@ -13,9 +12,8 @@ use Rattle.schema.specs.declared.MessageKind.the-variants.{ScalableConsu
 use Rattle.schema.specs.declared.MessageKind.the-variants.{CommandWatchScalableTopicsUpdate, ScalableTopicsSnapshot, ScalableTopicsDiff}
 use Rattle.schema.specs.declared.ValueKind.{ValueKind}
 use Rattle.schema.specs.declared.ValueKind.the-variants as value
-use Rattle.schema.specs.declared.FieldRule.{FieldRule}
 
--- a field's label; the members of a oneof count together, under one number
+-- a field's label; the members of a oneof share its number
 pub data Label : Type 0 where
   required optional repeated : Label
   oneof : ℕ → Label
@@ -68,7 +66,7 @@ schema ScalableTopicsDiff =
     ∷ has 2 repeated string  -- removed
     ∷ []
 
--- ---- the rule of a field
+-- ---- what a field holds
 
 abbrev pub valueOf : ProtoType → ValueKind
 valueOf uint64 = value.Number
@@ -78,29 +76,28 @@ valueOf enumeration = value.Number
 valueOf string = value.Text
 valueOf (message k) = value.Message k
 
--- the number under which a field counts as singular; 0 where it may come again
-abbrev pub slotOf : ℕ → Label → ℕ
-slotOf f required = f
-slotOf f optional = f
-slotOf f repeated = 0
-slotOf f (oneof g) = g
-
-abbrev pub ruleOf : SchemaField → FieldRule
-ruleOf (has f a t) = record { slot = slotOf f a; value = valueOf t }
-
--- an unknown field has any type and comes any number of times
-abbrev pub unknown : FieldRule
-unknown = record { slot = 0; value = value.Any }
-
 abbrev pub numberOf : SchemaField → ℕ
 numberOf (has f a t) = f
 
-abbrev pub ruleIn : ℕ → List SchemaField → FieldRule
-ruleIn f [] = unknown
-ruleIn f (r ∷ rs) = cond (eqb f (numberOf r)) (ruleOf r) (ruleIn f rs)
+abbrev pub kindOf : SchemaField → ValueKind
+kindOf (has f a t) = valueOf t
 
-unfoldable pub ruleFor : MessageKind → ℕ → FieldRule
-ruleFor k f = ruleIn f (schema k)
+-- an unknown field has any type
+abbrev pub valueIn : ℕ → List SchemaField → ValueKind
+valueIn f [] = value.Any
+valueIn f (r ∷ rs) = cond (eqb f (numberOf r)) (kindOf r) (valueIn f rs)
+
+-- what field f of a message holds
+unfoldable pub valueFor : MessageKind → ℕ → ValueKind
+valueFor k f = valueIn f (schema k)
+
+-- the fields that are members of oneof g
+abbrev pub membersOf : ℕ → List SchemaField → List ℕ
+membersOf g [] = []
+membersOf g (has f required t ∷ rs) = membersOf g rs
+membersOf g (has f optional t ∷ rs) = membersOf g rs
+membersOf g (has f repeated t ∷ rs) = membersOf g rs
+membersOf g (has f (oneof h) t ∷ rs) = cond (eqb g h) (f ∷ membersOf g rs) (membersOf g rs)
 
 -- "VARINT for numbers, LEN for texts and messages"; an unknown field fits any
 abbrev pub fitsWire : ValueKind → WireType → Bool
@@ -117,23 +114,6 @@ fitsWire (value.Message k) wire.Varint = false
 fitsWire (value.Message k) wire.I64 = false
 fitsWire (value.Message k) wire.Len = true
 fitsWire (value.Message k) wire.I32 = false
-
--- ---- required fields
-
--- each required field is there
-abbrev pub completeIn : (ℕ → Bool) → List SchemaField → Bool
-completeIn there [] = true
-completeIn there (has f required t ∷ rs) = there f && completeIn there rs
-completeIn there (has f optional t ∷ rs) = completeIn there rs
-completeIn there (has f repeated t ∷ rs) = completeIn there rs
-completeIn there (has f (oneof g) t ∷ rs) = completeIn there rs
-
-unfoldable pub complete : MessageKind → (ℕ → Bool) → Bool
-complete k there = completeIn there (schema k)
-
--- the mark of a field that counts under i
-abbrev pub marked : List Bool → ℕ → Bool
-marked seen i = getD seen i false
 
 -- how deep messages are nested in one, itself counted
 abbrev pub levels : MessageKind → ℕ

@@ -19,8 +19,8 @@ use Rattle.schema.specs.declared.Checked.{Checked}
 use Rattle.schema.specs.declared.Checked.the-variants as checked
 use Rattle.schema.specs.FirstFault.{firstFault}
 use Rattle.wire.specs.Fields.{Field, fieldsOf}
-use Rattle.values.specs.Values.{numbersOf, partsOf, lastOf, mergedFields, orZero, numberIn}
-use Rattle.readers.specs.Messages.{segmentOf, assignmentOf, present, updateOf, responseOf}
+use Rattle.values.specs.Values.{numbersOf, partsOf, present, lastOf, mergedFields, orZero, numberIn}
+use Rattle.readers.specs.Messages.{segmentOf, assignmentOf, updateOf, responseOf}
 use Rattle.content.specs.Content.{Content, contentOf}
 use Rattle.session.specs.Store.{minStore, minOutput}
 use Rattle.session.specs.Session.{Session, view, Result, damaged, refuse}

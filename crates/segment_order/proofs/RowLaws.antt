@@ -10,9 +10,8 @@ use mathlib.Core.Path.{_≡_, refl, sym, ap, _∙_, subst}
 use mathlib.Core.List.{List, [], _∷_, _++_}
 use borrow.Author.Tests.{eq-eqb}
 use Rattle.wire.specs.Fields.{Field, fieldsOf}
-use Rattle.values.specs.Values.{numbersOf, partsOf, joinFields, mergedFields}
+use Rattle.values.specs.Values.{numbersOf, partsOf, present, joinFields, mergedFields}
 use Rattle.values.proofs.ValueLaws.{numbers-append, parts-append}
-use Rattle.readers.specs.Messages.{present}
 use Rattle.segment_order.specs.Shuffled.{Shuffled, nil, trans}
 use Rattle.segment_order.specs.SegmentOrder.{segment, Reordered, Rearranged}
 use Rattle.segment_order.proofs.ShuffleLaws.{shuffled-sym, shuffled-behind, shuffled-past}

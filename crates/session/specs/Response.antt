@@ -2,7 +2,7 @@
 --
 -- "an assignment outranks an error code. The queue is replayed over the baseline; one stale push refuses the whole response. Then baseline, last list and floor are
 -- set, the queue stays to be drained from position 0. For a registered session the queue counts as empty, and acceptance empties it."
--- Refused in order: 1, 22, 3 to 7, 23, 16 or 17, 9 to 11, 34, 12 to 15, 26, 27.
+-- Refused in order: 1, 22, 3, 4, 7, 6, 23, 16 or 17, 9 to 11, 34, 12 to 15, 26, 27.
 -- Assumes nothing.
 use Prim.Native.Nat.{ℕ}
 use mathlib.Core.Bool.{true, cond, not}
@@ -86,7 +86,7 @@ responseValid s incarnation w =
     cond (not (eqb (incarnation .0) (s .state .incarnation .0))) (refuse (IncarnationMismatch incarnation (s .state .incarnation)) s)
     (cond (w .hasAssignment) (responseContent s (contentOf (s .topic) (w .assignment))) (refuse (denied w (w .error)) s))
 
--- 3 to 7
+-- 3, 4, 7, 6
 abbrev pub responseChecked : Session → ControllerIncarnation → List ℕ → Checked → Result
 responseChecked s incarnation message (Refused x) = refuse x s
 responseChecked s incarnation message Valid = responseValid s incarnation (responseOf message)

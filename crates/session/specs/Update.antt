@@ -1,7 +1,7 @@
 -- Update: `handle_assignment_update_for`.
 --
 -- "unregistered, it joins the queue and answers none. Registered, a list equal in every field answers none; any other list with epoch not below is held, raises the
--- floor, and answers the delta." Refused in order: 1, 2, 22, 3 to 7, 23, 24, 9 to 11, 34, 12 to 15, then 26, 28 or 27.
+-- floor, and answers the delta." Refused in order: 1, 2, 22, 3, 4, 7, 6, 23, 24, 9 to 11, 34, 12 to 15, then 26, 28 or 27.
 -- Assumes nothing.
 use Prim.Native.Nat.{ℕ, _+_}
 use mathlib.Core.Bool.{cond, not}
@@ -96,7 +96,7 @@ updateValid s incarnation u =
     (cond (not (eqb (u .consumerId) (s .state .«consumer_id»))) (refuse (ConsumerMismatch (u .consumerId) (s .state .«consumer_id»)) s)
     (updateContent s (contentOf (s .topic) (u .assignment))))
 
--- 3 to 7
+-- 3, 4, 7, 6
 abbrev pub updateChecked : Session → ControllerIncarnation → List ℕ → Checked → Result
 updateChecked s incarnation message (Refused x) = refuse x s
 updateChecked s incarnation message Valid = updateValid s incarnation (updateOf message)

@@ -7,7 +7,7 @@ use Prim.Native.Nat.{ℕ, _+_, _-_, _≤_, _<_}
 use native.Mathlib.Nat.{add-sub-cancel-left}
 use native.Mathlib.Omega.{arith}
 use mathlib.Core.Path.{_≡_, refl, sym, ap, _∙_, subst}
-use mathlib.Core.Bool.{true, false}
+use mathlib.Core.Bool.{true}
 use mathlib.Core.List.{List, [], _∷_, append-nil}
 use mathlib.Core.Logic.{inl, inr}
 use lib.ListN.{length, take, drop, getD, length-drop}
@@ -23,15 +23,11 @@ use Rattle.utf8.specs.Table.{isUtf8}
 use Rattle.wire.specs.declared.WireType.the-variants as type
 use Rattle.wire.specs.Fields.{number, bytes, field, fieldsOf}
 use Rattle.wire.proofs.FieldsLaws.{fields-nil}
-use Rattle.schema.specs.declared.MessageKind.{MessageKind}
-use Rattle.schema.specs.declared.MessageKind.the-variants.{CommandScalableTopicAssignmentUpdate, CommandScalableTopicSubscribeResponse}
 use Rattle.schema.specs.declared.MessageKind.the-variants.{ScalableConsumerAssignment}
-use Rattle.schema.specs.declared.ValueKind.the-variants.{Message}
 use Rattle.schema.specs.declared.Checked.the-variants.{Valid}
-use Rattle.schema.specs.Schema.{ruleFor, fitsWire, complete, levels}
-use Rattle.schema.specs.FirstFault.{elem, note, faultWithin, firstFault}
-use Rattle.plain.specs.Plain.{NumberField, NumberIs, PartField}
-use Rattle.plain.proofs.PlainLaws.{number-some, passed-start, passed-number, passed-part, passed-end}
+use Rattle.schema.specs.FirstFault.{firstFault, Sound}
+use Rattle.schema.proofs.SoundLaws.{update-row, response-row}
+use Rattle.plain.specs.Plain.{NumberIs, PartField}
 use Rattle.values.specs.Values.{mergedFields}
 use Rattle.readers.specs.Messages.{updateOf, responseOf}
 use Rattle.readers.specs.Messages as wire
@@ -115,28 +111,21 @@ field-wide m h n (inr e) = subst (λ (k : ℕ). Wide (wire.assignmentOf (mergedF
 
 -- ---- a message of two fields
 
--- its fields are singular, and it needs no other
-module _ (m : List ℕ) (k : MessageKind) (n : ℕ) (number-fits : fitsWire (ruleFor k 1 .value) type.Varint ≡ true)
-    (other : elem (note (ruleFor k 1 .slot) []) (ruleFor k n .slot) ≡ false) (holds : ruleFor k n .value ≡ Message ScalableConsumerAssignment)
-    (whole : complete k (elem (note (ruleFor k n .slot) (note (ruleFor k 1 .slot) []))) ≡ true) where
-  two-valid : {at from to : ℕ} → NumberField 1 m 0 at → PartField n m at from to → length m ≤ to
-      → ((d : ℕ) → faultWithin d ScalableConsumerAssignment (take (to - from) (drop from m)) ≡ Valid)
-      → firstFault k m ≡ Valid
-  unfolding firstFault
-  two-valid i p h v =
-      passed-end (passed-part (passed-number (passed-start k m) 1 refl number-fits i) n other (rw holds) p (λ d. rw holds (v d))) h whole
-      (levels k)
+module _ (m : List ℕ) {head at from to : ℕ} (i : NumberIs 1 m 0 head at) (h : length m ≤ to)
+    (v : (d : ℕ) → Sound d ScalableConsumerAssignment (take (to - from) (drop from m))) where
+  message-row : (n : ℕ) → PartField n m at from to
+      → fieldsOf m ≡ field 1 type.Varint (number head) ∷ field n type.Len (bytes (take (to - from) (drop from m))) ∷ []
+  message-row n p =
+      let z : fieldsOf (drop to m) ≡ [] = fields-nil (drop to m) (omega (arith, length-drop to m)) in
+      i .fields ∙ rw (p .fields, z)
 
-module _ (m : List ℕ) {at from to : ℕ} (i : NumberField 1 m 0 at) (h : length m ≤ to)
-    (v : (d : ℕ) → faultWithin d ScalableConsumerAssignment (take (to - from) (drop from m)) ≡ Valid) where
   message-valid : (n : ℕ) → AssignmentField n → PartField n m at from to → firstFault (messageWith n) m ≡ Valid
-  unfolding ruleFor complete
-  message-valid n (inl e) p = rw e
-      (two-valid m CommandScalableTopicAssignmentUpdate 2 refl refl refl refl i
-      (subst (λ (k : ℕ). PartField k m at from to) e p) h v)
-  message-valid n (inr e) p = rw e
-      (two-valid m CommandScalableTopicSubscribeResponse 4 refl refl refl refl i
-      (subst (λ (k : ℕ). PartField k m at from to) e p) h v)
+  message-valid n (inl e) p =
+      let s = take (to - from) (drop from m) in
+      rw e (update-row m head s (v 3) (message-row 2 (subst (λ (k : ℕ). PartField k m at from to) e p)))
+  message-valid n (inr e) p =
+      let s = take (to - from) (drop from m) in
+      rw e (response-row m head s (v 3) (message-row 4 (subst (λ (k : ℕ). PartField k m at from to) e p)))
 
 -- ---- what the functions answer
 
@@ -158,14 +147,12 @@ module _ (st m b b′ : List ℕ) (n end : ℕ) (o : AssignmentField n) (e : Top
   plain-taken head at from to epoch size i p g x y q =
       let t : PlainTaken (take (end - 7) (drop 7 st)) (take (to - from) (drop from m)) b epoch size b′ = rw y at q in
       let s : List ℕ = take (to - from) (drop from m) in
-      let z : fieldsOf (drop to m) ≡ [] = fields-nil (drop to m) (omega (arith, length-drop to m)) in
-      let fs : fieldsOf m ≡ field 1 type.Varint (number head) ∷ field n type.Len (bytes s) ∷ [] =
-      i .fields ∙ rw (p .fields, z) in
+      let fs = message-row m i g (t .valid) n p in
       let w : mergedFields n (fieldsOf m) ≡ fieldsOf s = rw (fs, eq-eqb n n refl) (append-nil (fieldsOf s)) in
       let c : contentIn st n m ≡ taken (t .assignment) = rw (w, ← e .is) (t .content) in
       let f = content-fits (topicOf (slot st 0)) _ (field-wide m h n o) (t .assignment) c in
       record {
-        valid = message-valid m (number-some i) g (t .valid) n o p;
+        valid = message-valid m i g (t .valid) n o p;
         part = s;
         fields = fs;
         answers = rw c (put-answers (t .assignment) b b′ size l (f .0) (f .1) (t .size) (t .packed));

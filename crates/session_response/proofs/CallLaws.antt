@@ -22,8 +22,8 @@ use Rattle.readers.specs.declared.ErrorCode.{ErrorCode}
 use Rattle.readers.specs.declared.ErrorCode.the-variants.{Given, Absent}
 use Rattle.readers.specs.declared.ResponseHead.{ResponseHead}
 use Rattle.wire.specs.Fields.{Field, fieldsOf}
-use Rattle.values.specs.Values.{partsOf, mergedFields}
-use Rattle.readers.specs.Messages.{WireResponse, present, responseOf}
+use Rattle.values.specs.Values.{partsOf, present, mergedFields}
+use Rattle.readers.specs.Messages.{WireResponse, responseOf}
 use Rattle.readers.specs.Messages as wire
 use Rattle.readers.specs.Places.{ResponseIs}
 use Rattle.packed_int.specs.Put.{put}

@@ -215,7 +215,7 @@ fn answered(
     }
 }
 
-// A response in any form: its message is scanned, 3 to 7, and read.
+// A response in any form: its message is scanned, 3, 4, 7, 6, and read.
 fn scanned(
     r: SessionRecord,
     store: &mut [u8],
@@ -237,7 +237,7 @@ fn scanned(
     }
 }
 
-// The response. Refused in order: 1, 22, 3 to 7, 23, 16 or 17, 9 to 11, 34, 12 to 15, 26, 27. The broker's text of a 16 is `broker_text`.
+// The response. Refused in order: 1, 22, 3, 4, 7, 6, 23, 16 or 17, 9 to 11, 34, 12 to 15, 26, 27. The broker's text of a 16 is `broker_text`.
 pub fn responded(
     r: SessionRecord,
     store: &mut [u8],

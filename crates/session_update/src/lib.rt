@@ -146,7 +146,7 @@ fn addressed(
     }
 }
 
-// An update in any form: its message is scanned, 3 to 7, and read.
+// An update in any form: its message is scanned, 3, 4, 7, 6, and read.
 fn scanned(
     r: SessionRecord,
     store: &mut [u8],
@@ -172,7 +172,7 @@ fn scanned(
     }
 }
 
-// The update. Refused in order: 1, 2, 22, 3 to 7, 23, 24, 9 to 11, 34, 12 to 15, then 26, 28 or 27.
+// The update. Refused in order: 1, 2, 22, 3, 4, 7, 6, 23, 24, 9 to 11, 34, 12 to 15, then 26, 28 or 27.
 pub fn updated(
     r: SessionRecord,
     store: &mut [u8],

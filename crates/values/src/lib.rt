@@ -6,7 +6,7 @@ ghost use mathlib.Core.Path.{_≡_};
 ghost use Rattle.wire.specs.Fields.{fieldsOf};
 ghost use Rattle.values.specs.Integers.{uint32Of, int32Of};
 ghost use Rattle.values.specs.Places.{frontOf, NextPart, PartIs, Inside, NextInner};
-ghost use Rattle.values.specs.Values.{numbersOf, partsOf, lastAfter, lastOf, lastPart, mergedFields, orZero, numberIn};
+ghost use Rattle.values.specs.Values.{numbersOf, partsOf, present, lastAfter, lastOf, lastPart, mergedFields, orZero, numberIn};
 use wire::Body;
 use wire::Key;
 
@@ -127,6 +127,16 @@ pub fn next_part(s: &[u8], from: usize, n: u64) -> PartStep
         }
     }
     PartStep::Absent
+}
+
+// Whether field n has a part.
+pub fn has_part(s: &[u8], n: u64) -> bool
+    ensures { λ r. ⌜ r ≡ present (partsOf n (fieldsOf (now (s .entry)))) ⌝ }
+{
+    match next_part(s, 0, n) {
+        PartStep::Found(_, _, _) => true,
+        PartStep::Absent => false,
+    }
 }
 
 // A part of a message: where it starts, and its length.

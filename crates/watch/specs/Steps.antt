@@ -17,12 +17,12 @@ use Rattle.watch.specs.Watch.{diffIn}
 abbrev pub rest : List ℕ → ℕ → List ℕ → List (List ℕ)
 rest buffer used removed = without (topicsOf (take used buffer)) (topicsOf removed)
 
--- the diff of the part p against the set old: its topics are short, its lists take z and gone bytes, and the new set and the output fit
+-- the diff that is field 3 of p, against the set old: its topics are short, its lists take z and gone bytes, and the new set and the output fit
 -- their rooms
 pub record DiffFits (old : List (List ℕ)) (p : List ℕ) (orders : Orders) (z gone setRoom outRoom : ℕ) : Type 0 where
-  pub told : OrdersOf p orders
-  pub shorts : (allShort (namedIn 1 p) ≡ true) × (allShort (namedIn 2 p) ≡ true)
-  pub added : z ≡ sizeTopics (addedOf old (namedIn 2 p) (namedIn 1 p))
-  pub removed : gone ≡ sizeTopics (removedOf old (namedIn 2 p))
+  pub told : OrdersOf 3 p orders
+  pub shorts : (allShort (namedIn 3 1 p) ≡ true) × (allShort (namedIn 3 2 p) ≡ true)
+  pub added : z ≡ sizeTopics (addedOf old (namedIn 3 2 p) (namedIn 3 1 p))
+  pub removed : gone ≡ sizeTopics (removedOf old (namedIn 3 2 p))
   pub set-fits : sizeTopics (diffIn old p .topics) ≤ setRoom
   pub out-fits : (z < 2 ^ 32) × (5 + z + gone ≤ outRoom)

@@ -1,6 +1,6 @@
 -- The topics watch (01, Watch): `ScalableTopicsWatch::handle_update` on a lent set.
 --
--- "a lent set at the front of its buffer, its byte length given and answered ... A snapshot replaces; a diff removes, then adds." Refused in order: 30, 3 to 7, 29, 16, 17,
+-- "a lent set at the front of its buffer, its byte length given and answered ... A snapshot replaces; a diff removes, then adds." Refused in order: 30, 3, 4, 7, 6, 29, 16, 17,
 -- 31, 21; a refusal changes nothing.
 -- Assumes nothing.
 use Prim.Native.Nat.{ℕ, _+_, _^_}
@@ -12,6 +12,8 @@ use Rattle.refusal.specs.declared.Refusal.{Refusal}
 use Rattle.refusal.specs.declared.Refusal.the-variants.{MalformedSet, WatchMismatch, Broker, EmptyUpdate, SetTooLong, ResultTooLong}
 use Rattle.packed_int.specs.Be.{bytesOf}
 use Rattle.packed_int.specs.Put.{put}
+use Rattle.wire.specs.Fields.{Field, fieldsOf}
+use Rattle.values.specs.Values.{partsOf, mergedFields}
 use Rattle.schema.specs.declared.MessageKind.the-variants.{CommandWatchScalableTopicsUpdate}
 use Rattle.schema.specs.declared.Checked.{Checked}
 use Rattle.schema.specs.declared.Checked.the-variants.{Valid, Refused}
@@ -21,7 +23,7 @@ use Rattle.readers.specs.declared.ErrorCode.the-variants.{Given, Absent}
 use Rattle.readers.specs.Messages.{WireEvent, none, snapshot, diff, WireWatchUpdate, watchUpdateOf}
 use Rattle.topics.specs.Topics.{insertAll, sorted, allShort}
 use Rattle.topics.specs.Packed.{topicsOf, encodeTopics, sizeTopics, isSet}
-use Rattle.topic_window.specs.Lists.{namedIn, kept, addedOf, removedOf}
+use Rattle.topic_window.specs.Lists.{kept, addedOf, removedOf}
 use Rattle.watch.specs.declared.WatchAnswer.{WatchAnswer}
 use Rattle.watch.specs.declared.WatchAnswer.the-variants as answer
 
@@ -52,12 +54,19 @@ diffChange old added removed =
       output = diffOutput (addedOf old removed added) (removedOf old removed);
     }
 
--- field 1 of an event's part are the topics of a snapshot, or those added; field 2 those removed
+-- field 1 of an event are the topics of a snapshot, or those added; field 2 those removed
+abbrev pub snapshotBy : List Field → Change
+snapshotBy fs = snapshotChange (partsOf 1 fs)
+
+abbrev pub diffBy : List (List ℕ) → List Field → Change
+diffBy old fs = diffChange old (partsOf 1 fs) (partsOf 2 fs)
+
+-- the same of an event that is all the parts of its field in p
 abbrev pub snapshotIn : List ℕ → Change
-snapshotIn p = snapshotChange (namedIn 1 p)
+snapshotIn p = snapshotBy (mergedFields 2 (fieldsOf p))
 
 abbrev pub diffIn : List (List ℕ) → List ℕ → Change
-diffIn old p = diffChange old (namedIn 1 p) (namedIn 2 p)
+diffIn old p = diffBy old (mergedFields 3 (fieldsOf p))
 
 -- ---- the call
 
@@ -95,15 +104,15 @@ module _ (buffer out : List ℕ) where
 
   -- 16 or 17 where there is no event
   unfoldable pub byEvent : List (List ℕ) → WireWatchUpdate → WireEvent → Outcome
-  byEvent old u (snapshot p) = settle (snapshotIn p)
-  byEvent old u (diff p) = settle (diffIn old p)
+  byEvent old u (snapshot fs) = settle (snapshotBy fs)
+  byEvent old u (diff fs) = settle (diffBy old fs)
   byEvent old u none = refuse (noEvent (u .watchId) (u .error))
 
   -- 29
   unfoldable pub forWatch : ℕ → List (List ℕ) → WireWatchUpdate → Outcome
   forWatch id old u = cond (not (eqb (u .watchId) id)) (refuse (WatchMismatch (u .watchId) id)) (byEvent old u (u .event))
 
-  -- 3 to 7
+  -- 3, 4, 7, 6
   abbrev pub whenChecked : ℕ → List (List ℕ) → List ℕ → Checked → Outcome
   whenChecked id old message (Refused x) = refuse x
   whenChecked id old message Valid = forWatch id old (watchUpdateOf message)

@@ -30,21 +30,21 @@ pub enum WatchAnswer {
 
 // The topics of a snapshot, as the set at the front of buffer and as the output. Answers the length of the set.
 fn write_snapshot(buffer: &mut [u8], orders: Orders, p: &[u8], out: &mut [u8]) -> usize
-    requires { ⌜ OrdersOf (now p) orders ⌝ }
-    requires { ⌜ allShort (namedIn 1 (now p)) ≡ true ⌝ }
-    requires { ⌜ sizeTopics (sorted (namedIn 1 (now p))) ≤ length (now buffer) ⌝ }
-    requires { ⌜ sizeTopics (sorted (namedIn 1 (now p))) < length (now out) ⌝ }
-    ensures { λ r. ⌜ (now (buffer .exit) ≡ put (now (buffer .entry)) 0 (encodeTopics (sorted (namedIn 1 (now (p .entry))))))
+    requires { ⌜ OrdersOf 2 (now p) orders ⌝ }
+    requires { ⌜ allShort (namedIn 2 1 (now p)) ≡ true ⌝ }
+    requires { ⌜ sizeTopics (sorted (namedIn 2 1 (now p))) ≤ length (now buffer) ⌝ }
+    requires { ⌜ sizeTopics (sorted (namedIn 2 1 (now p))) < length (now out) ⌝ }
+    ensures { λ r. ⌜ (now (buffer .exit) ≡ put (now (buffer .entry)) 0 (encodeTopics (sorted (namedIn 2 1 (now (p .entry))))))
         × (now (out .exit) ≡ put (now (out .entry)) 0 (snapshotIn (now (p .entry)) .output))
-        × (r ≡ sizeTopics (sorted (namedIn 1 (now (p .entry))))) ⌝ }
+        × (r ≡ sizeTopics (sorted (namedIn 2 1 (now (p .entry))))) ⌝ }
 {
-    let n = topic_lists::write_list(Listing::Added, orders, &p[..0], p, buffer);
+    let n = topic_lists::write_list(Listing::Added, orders, &p[..0], p, 2, buffer);
     packed_int::put_bytes(out, 1, &buffer[..n]);
     out[0] = 0;
     n
 }
 
-// A list that is packed is no longer than the message's part of n bytes: it fits without being measured.
+// A list that is packed is no longer than the n bytes of the message in which its topics stand: it fits without being measured.
 fn fits_whole(n: usize, set: usize, out: usize) -> bool
     ensures { λ r. ⌜ (r ≡ true → (n ≤ set) × (n < out)) ⌝ }
 {
@@ -56,7 +56,7 @@ fn snapshot(buffer: &mut [u8], p: &[u8], out: &mut [u8]) -> WatchAnswer
         × (now (buffer .exit) ≡ settle (now (buffer .entry)) (now (out .entry)) (snapshotIn (now (p .entry))) .buffer)
         × (now (out .exit) ≡ settle (now (buffer .entry)) (now (out .entry)) (snapshotIn (now (p .entry))) .out) ⌝ }
 {
-    let s = topic_lists::survey(p, 1);
+    let s = topic_lists::survey(p, 2, 1);
     if !s.short {
         return WatchAnswer::Refused(Refusal::SetTooLong);
     }
@@ -68,7 +68,7 @@ fn snapshot(buffer: &mut [u8], p: &[u8], out: &mut [u8]) -> WatchAnswer
         let n = write_snapshot(buffer, orders, p, out);
         return WatchAnswer::Changed(n, 1 + n);
     }
-    let z = topic_lists::measure(Listing::Added, orders, &p[..0], p);
+    let z = topic_lists::measure(Listing::Added, orders, &p[..0], p, 2);
     if buffer.len() < z {
         return WatchAnswer::Refused(Refusal::SetTooLong);
     }
@@ -82,16 +82,16 @@ fn snapshot(buffer: &mut [u8], p: &[u8], out: &mut [u8]) -> WatchAnswer
 // The output of a diff whose added list has z bytes and whose removed list has gone.
 fn write_lists(set: &[u8], orders: Orders, p: &[u8], z: usize, gone: usize, out: &mut [u8])
     requires { ⌜ isSet (now set) ≡ true ⌝ }
-    requires { ⌜ OrdersOf (now p) orders ⌝ }
-    requires { ⌜ (allShort (namedIn 1 (now p)) ≡ true) × (allShort (namedIn 2 (now p)) ≡ true) ⌝ }
-    requires { ⌜ z ≡ sizeTopics (addedOf (topicsOf (now set)) (namedIn 2 (now p)) (namedIn 1 (now p))) ⌝ }
-    requires { ⌜ gone ≡ sizeTopics (removedOf (topicsOf (now set)) (namedIn 2 (now p))) ⌝ }
+    requires { ⌜ OrdersOf 3 (now p) orders ⌝ }
+    requires { ⌜ (allShort (namedIn 3 1 (now p)) ≡ true) × (allShort (namedIn 3 2 (now p)) ≡ true) ⌝ }
+    requires { ⌜ z ≡ sizeTopics (addedOf (topicsOf (now set)) (namedIn 3 2 (now p)) (namedIn 3 1 (now p))) ⌝ }
+    requires { ⌜ gone ≡ sizeTopics (removedOf (topicsOf (now set)) (namedIn 3 2 (now p))) ⌝ }
     requires { ⌜ (z < 4294967296) × (5 + z + gone ≤ length (now out)) ⌝ }
     ensures { λ _. ⌜ now (out .exit) ≡ put (now (out .entry)) 0 (diffIn (topicsOf (now (set .entry))) (now (p .entry)) .output) ⌝ }
 {
     let at = 5 + z;
-    topic_lists::write_list(Listing::Added, orders, set, p, &mut out[5..at]);
-    topic_lists::write_list(Listing::Removed, orders, set, p, &mut out[at..at + gone]);
+    topic_lists::write_list(Listing::Added, orders, set, p, 3, &mut out[5..at]);
+    topic_lists::write_list(Listing::Removed, orders, set, p, 3, &mut out[at..at + gone]);
     packed_int::write_u32(out, 1, z as u32);
     out[0] = 1;
 }
@@ -157,11 +157,11 @@ fn diff(buffer: &mut [u8], used: usize, p: &[u8], out: &mut [u8]) -> WatchAnswer
         × (now (buffer .exit) ≡ settle (now (buffer .entry)) (now (out .entry)) (diffIn (topicsOf (take used (now (buffer .entry)))) (now (p .entry))) .buffer)
         × (now (out .exit) ≡ settle (now (buffer .entry)) (now (out .entry)) (diffIn (topicsOf (take used (now (buffer .entry)))) (now (p .entry))) .out) ⌝ }
 {
-    let a = topic_lists::survey(p, 1);
+    let a = topic_lists::survey(p, 3, 1);
     if !a.short {
         return WatchAnswer::Refused(Refusal::SetTooLong);
     }
-    let r = topic_lists::survey(p, 2);
+    let r = topic_lists::survey(p, 3, 2);
     if !r.short {
         return WatchAnswer::Refused(Refusal::SetTooLong);
     }
@@ -169,8 +169,8 @@ fn diff(buffer: &mut [u8], used: usize, p: &[u8], out: &mut [u8]) -> WatchAnswer
         added: a.rises,
         removed: r.rises,
     };
-    let gone = topic_lists::measure(Listing::Removed, orders, &buffer[..used], p);
-    let z = topic_lists::measure(Listing::Added, orders, &buffer[..used], p);
+    let gone = topic_lists::measure(Listing::Removed, orders, &buffer[..used], p, 3);
+    let z = topic_lists::measure(Listing::Added, orders, &buffer[..used], p, 3);
     if buffer.len() - (used - gone) < z {
         return WatchAnswer::Refused(Refusal::SetTooLong);
     }
@@ -204,14 +204,8 @@ fn update(id: u64, buffer: &mut [u8], used: usize, message: &[u8], out: &mut [u8
     }
     let event = head.event;
     match event {
-        Event::Snapshot(start, len) => {
-            let end = start + len;
-            snapshot(buffer, &message[start..end], out)
-        }
-        Event::Diff(start, len) => {
-            let end = start + len;
-            diff(buffer, used, &message[start..end], out)
-        }
+        Event::Snapshot(base) => snapshot(buffer, &message[base..], out),
+        Event::Diff(base) => diff(buffer, used, &message[base..], out),
         Event::Nothing => {
             let error = head.error;
             WatchAnswer::Refused(no_event(got, error))

@@ -1,10 +1,9 @@
 -- `scan` meets its contract, by recursion on the depth.
--- The invariant: the fields from `at` on, with the fields seen before it, decide the whole (`Scanned` of proofs/ScanLaws). The loop's
+-- The invariant: the fields from `at` on decide the whole (`Scanned` of proofs/ScanLaws). The loop's
 -- measure is the bytes left. Each answer below cites a law of proofs/ScanLaws at the place's numbers. Assumes nothing.
 use Prim.Native.Nat.{ℕ, _-_, _<_}
 use native.Mathlib.Omega.{arith}
 use mathlib.Core.Path.{_≡_, sym, subst, _∙_}
-use mathlib.Core.Bool.{true, false}
 use lib.ListN.{length}
 use borrow.Author.Needs.{needs}
 use borrow.Fn.Kinds.{In}
@@ -18,7 +17,6 @@ use Rattle.messages.proofs.scan.Kinds as scan-kinds
 use Rattle.messages.proofs.+scan.Lts-scan as scan-lts
 use Rattle.field_step.proofs.read_field.Reads as read-field-reads
 use Rattle.plain.proofs.is_plain.Reads as is-plain-reads
-use Rattle.schema.proofs.complete.Reads as complete-reads
 use Rattle.messages.proofs.+scan.{statement}
 use Rattle.messages.proofs.+scan.Tie.{close}
 
@@ -32,10 +30,10 @@ abbrev scan-below : ℕ → In 1 scan-kinds.ps
 scan-below t = and 1 scan-kinds.ps (falls 1 scan-kinds.ps _<_ μ-scan t) scan.Pre
 
 abbrev Inv-loop : scan-lts.InvT-loop
-Inv-loop depth kind s seen₀ at₀ seen at = Scanned depth kind s seen at
+Inv-loop depth kind s at₀ at = Scanned depth kind s at
 
 abbrev μ-loop : scan-lts.MeasureT-loop
-μ-loop depth kind s seen₀ at₀ seen at = length s - at
+μ-loop depth kind s at₀ at = length s - at
 
 module _ (t : ℕ) where
   abbrev callees : scan-lts.Claims
@@ -46,8 +44,6 @@ module _ (t : ℕ) where
     read-field-reads.Learnt,
     scan-below t,
     scan.Post,
-    complete-reads.Asked,
-    complete-reads.Learnt,
   )
 
   -- a field is read
@@ -57,19 +53,18 @@ module _ (t : ℕ) where
 
   -- what stands behind its key
   behind : (c : scan-lts.After-read-field callees (scan-at t) scan.Post Inv-loop μ-loop) (q : Step) → c .read-field .result .step ≡ q
-      → StepAt (c .before .before .before .loop .inv) (c .read-field .result .slot) (c .read-field .result .size) q
-  behind c q e = subst (StepAt (c .before .before .before .loop .inv) _ _) e (read c .stands)
+      → StepAt (c .before .before .before .loop .inv) (c .read-field .result .size) q
+  behind c q e = subst (StepAt (c .before .before .before .loop .inv) _) e (read c .stands)
 
   -- the field is passed over
   passed : (c : scan-lts.After-known-told2 callees (scan-at t) scan.Post Inv-loop μ-loop)
-      → StepAt (c .before .before .before .before .before .before .before .loop .inv) (c .before .before .before .before .read-field .result .slot)
-      (c .before .before .before .before .read-field .result .size) (step.Next (c .before .step2 .given .0 .0))
+      → StepAt (c .before .before .before .before .before .before .before .loop .inv) (c .before .before .before .before .read-field .result .size)
+      (step.Next (c .before .step2 .given .0 .0))
   passed c = behind (c .before .before .before .before) (step.Next _) (c .before .step2 .given .1)
 
   -- the field is a message
   nested : (c : scan-lts.After-known-told3 callees (scan-at t) scan.Post Inv-loop μ-loop)
-      → StepAt (c .before .before .before .before .before .before .before .loop .inv) (c .before .before .before .before .read-field .result .slot)
-      (c .before .before .before .before .read-field .result .size)
+      → StepAt (c .before .before .before .before .before .before .before .loop .inv) (c .before .before .before .before .read-field .result .size)
       (step.Inner (c .before .step3 .given .0 .0) (c .before .step3 .given .0 .1 .0) (c .before .step3 .given .0 .1 .1 .0))
   nested c = behind (c .before .before .before .before) (step.Inner _ _ _) (c .before .step3 .given .1)
 
@@ -78,7 +73,7 @@ pub +scan-spec : {M : Type 1} → statement M
     close μ-scan λ t. scan-lts.spec (callees t) (scan-at t) scan.Post Inv-loop μ-loop
     -- is-plain-requires, returns: the message is plain
     (λ c κs. search needs)
-    (λ c. sym (c .before .is-plain .ensures (c .if1 .taken) (c .before .before .before .args .depth)))
+    (λ c. sym (c .before .is-plain .ensures (c .if1 .taken) (c .before .before .before .args .depth) .read))
     -- returns-2: no depth is left
     (λ c. rw (c .if2 .taken))
     -- loop-holds
@@ -88,8 +83,7 @@ pub +scan-spec : {M : Type 1} → statement M
     (λ c. search needs)
     (λ c. search needs)
     (λ c κs. search needs)
-    -- array-write-seen, add-at
-    (λ c. read t c .low)
+    -- add-at
     (λ c. let h = read t (c .before) in omega arith)
     -- enum-known-step
     (λ c. search needs)
@@ -124,10 +118,5 @@ pub +scan-spec : {M : Type 1} → statement M
     -- loop-less-2, loop-again-2
     (λ c. let h = nested t (c .before .before .before .before) in omega arith)
     (λ c. nested t (c .before .before .before .before) .2 Valid (sym (c .before .before .scan .ensures) ∙ c .enum-told .given .1))
-    -- complete-requires
-    (λ c κs. search needs)
-    -- returns-5, returns-6: the end
-    (λ c. end-at (c .before .before .before .loop .inv) (c .before .before .loop-test .left) true
-    (sym (c .before .complete .ensures) ∙ c .if3 .taken))
-    (λ c. end-at (c .before .before .before .loop .inv) (c .before .before .loop-test .left) false
-    (sym (c .before .complete .ensures) ∙ c .if3 .left))
+    -- returns-5: the end
+    (λ c. end-at (c .before .loop .inv) (c .loop-test .left))

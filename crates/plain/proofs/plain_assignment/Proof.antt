@@ -4,14 +4,13 @@ use Prim.Native.Nat.{_-_}
 use native.Mathlib.Omega.{arith}
 use mathlib.Core.Path.{refl, subst}
 use mathlib.Core.Bool.{false≢true}
-use mathlib.Core.List.{[], _∷_}
 use lib.ListN.{length}
 use borrow.Author.Needs.{needs}
 use borrow.Author.Tests.{not-false}
-use Rattle.schema.specs.declared.MessageKind.the-variants.{ScalableConsumerAssignment}
-use Rattle.schema.specs.Schema.{ruleFor, complete}
+use Rattle.schema.specs.declared.MessageKind.the-variants.{ScalableConsumerAssignment, ScalableAssignedSegment}
+use Rattle.schema.specs.Schema.{valueFor}
 use Rattle.plain.specs.Plain.{PartField, PartSays, Passed}
-use Rattle.plain.proofs.PlainLaws.{passed-start, passed-number, passed-part, passed-end}
+use Rattle.plain.proofs.PlainLaws.{assignment-start, passed-message, passed-end}
 use Rattle.plain.proofs.number_end.Reads as number-end-reads
 use Rattle.plain.proofs.part_at.Reads as part-at-reads
 use Rattle.plain.proofs.plain_segment.Reads as plain-segment-reads
@@ -21,7 +20,7 @@ use Rattle.plain.proofs.plain_assignment.Reads as reads
 use Rattle.plain.proofs.plain_assignment.Lts as lts
 
 abbrev Inv-loop : tie.InvT-loop
-Inv-loop s at₀ at = Passed ScalableConsumerAssignment (1 ∷ []) s at
+Inv-loop s at₀ at = Passed ScalableConsumerAssignment ScalableAssignedSegment 2 s at
 
 abbrev μ-loop : tie.MeasureT-loop
 μ-loop s at₀ at = length s - at
@@ -43,20 +42,16 @@ found : (c : Found)
 found c = subst (PartSays 2 _ _) (c .before .from .given .1) (c .before .before .before .part-at .ensures)
 
 loop-holds : tie.Need-loop-holds Inv-loop μ-loop
-unfolding ruleFor
-loop-holds c =
-    passed-number (passed-start ScalableConsumerAssignment (c .before .before .before .args .s .now)) 1 refl refl
-    (c .before .number-end .ensures (omega arith))
+loop-holds c = assignment-start (c .before .before .before .args .s .now) (c .before .number-end .ensures (omega arith))
 
 loop-again : tie.Need-loop-again Inv-loop μ-loop
-unfolding ruleFor
+unfolding valueFor
 loop-again c =
-    passed-part (c .before .before .before .before .before .before .before .before .loop .inv) 2 refl refl
+    passed-message (c .before .before .before .before .before .before .before .before .loop .inv) refl
     (found (c .before .before .before)) (c .before .plain-segment .ensures (not-false _ (c .if2 .left)))
 
 returns-4 : tie.Need-returns-4 Inv-loop μ-loop
-unfolding complete
-returns-4 c = λ e. passed-end (c .before .loop .inv) (c .loop-test .left) refl
+returns-4 c = λ e. passed-end (c .before .loop .inv) (c .loop-test .left)
 
 pub plain-assignment-spec : {M : Type 1} → statement M
 plain-assignment-spec =

@@ -4,14 +4,13 @@ use Prim.Native.Nat.{_-_}
 use native.Mathlib.Omega.{arith}
 use mathlib.Core.Path.{refl, subst}
 use mathlib.Core.Bool.{false≢true}
-use mathlib.Core.List.{[], _∷_}
 use lib.ListN.{length}
 use borrow.Author.Needs.{needs}
 use borrow.Author.Tests.{not-false}
-use Rattle.schema.specs.declared.MessageKind.the-variants.{ScalableAssignedSegment}
-use Rattle.schema.specs.Schema.{ruleFor, complete}
+use Rattle.schema.specs.declared.MessageKind.the-variants.{ScalableAssignedSegment, IntRange}
+use Rattle.schema.specs.Schema.{valueFor}
 use Rattle.plain.specs.Plain.{PartField, PartSays, Passed}
-use Rattle.plain.proofs.PlainLaws.{passed-part, passed-end}
+use Rattle.plain.proofs.PlainLaws.{passed-message, passed-end}
 use Rattle.plain.proofs.part_at.Reads as part-at-reads
 use Rattle.plain.proofs.plain_range.Reads as plain-range-reads
 use Rattle.plain.proofs.segment_end.Reads as segment-end-reads
@@ -21,7 +20,7 @@ use Rattle.plain.proofs.plain_segment.Reads as reads
 use Rattle.plain.proofs.plain_segment.Lts as lts
 
 abbrev Inv-loop : tie.InvT-loop
-Inv-loop s at₀ at = Passed ScalableAssignedSegment (4 ∷ 3 ∷ 2 ∷ 1 ∷ []) s at
+Inv-loop s at₀ at = Passed ScalableAssignedSegment IntRange 5 s at
 
 abbrev μ-loop : tie.MeasureT-loop
 μ-loop s at₀ at = length s - at
@@ -46,14 +45,13 @@ loop-holds : tie.Need-loop-holds Inv-loop μ-loop
 loop-holds c = c .before .segment-end .ensures (omega arith)
 
 loop-again : tie.Need-loop-again Inv-loop μ-loop
-unfolding ruleFor
+unfolding valueFor
 loop-again c =
-    passed-part (c .before .before .before .before .before .before .before .before .loop .inv) 5 refl refl
+    passed-message (c .before .before .before .before .before .before .before .before .loop .inv) refl
     (found (c .before .before .before)) (c .before .plain-range .ensures (not-false _ (c .if2 .left)))
 
 returns-4 : tie.Need-returns-4 Inv-loop μ-loop
-unfolding complete
-returns-4 c = λ e. passed-end (c .before .loop .inv) (c .loop-test .left) refl
+returns-4 c = λ e. passed-end (c .before .loop .inv) (c .loop-test .left)
 
 pub plain-segment-spec : {M : Type 1} → statement M
 plain-segment-spec =

@@ -1,12 +1,10 @@
 -- `segment_end` meets its contract: three numbers and a text. Assumes nothing.
 use native.Mathlib.Omega.{arith}
-use mathlib.Core.Path.{refl, sym, subst, _∙_}
+use mathlib.Core.Path.{sym, subst, _∙_}
 use borrow.Author.Needs.{needs}
 use Rattle.utf8.proofs.is_utf8.Reads as is-utf8-reads
-use Rattle.schema.specs.declared.MessageKind.the-variants.{ScalableAssignedSegment}
-use Rattle.schema.specs.Schema.{ruleFor}
 use Rattle.plain.specs.Plain.{PartField, PartSays}
-use Rattle.plain.proofs.PlainLaws.{passed-start, passed-number, passed-part, none-above}
+use Rattle.plain.proofs.PlainLaws.{segment-start, none-above}
 use Rattle.plain.proofs.number_end.Reads as number-end-reads
 use Rattle.plain.proofs.part_at.Reads as part-at-reads
 use Rattle.plain.proofs.segment_end.Statement.{statement}
@@ -31,7 +29,6 @@ found : (c : Found)
 found c = subst (PartSays 4 _ _) (c .before .from .given .1) (c .before .before .before .part-at .ensures)
 
 returns-5 : tie.Need-returns-5
-unfolding ruleFor
 returns-5 c = λ h.
     let q = c .before .before .before .before .before .before .before .before in
     let l = q .before .before .before .before .number-end .ensures (omega arith) in
@@ -39,9 +36,7 @@ returns-5 c = λ h.
     let n = q .number-end3 .ensures (omega arith) in
     let t = sym (c .before .is-utf8 .ensures) ∙ c .if4 .taken in
     let s = q .before .before .before .before .before .before .args .s .now in
-    let p = passed-start ScalableAssignedSegment s in
-    passed-part (passed-number (passed-number (passed-number p 1 refl refl l) 2 refl refl m) 3 refl refl n) 4 refl refl
-    (found (c .before .before .before)) (λ d. rw t)
+    segment-start s l m n (found (c .before .before .before)) t
 
 pub segment-end-spec : {M : Type 1} → statement M
 segment-end-spec =

@@ -1,10 +1,10 @@
 -- `has_part` meets its contract: each arm is a case of `present`. Assumes nothing.
 use mathlib.Core.Path.{sym, ap, subst}
 use borrow.Author.Needs.{needs}
+use Rattle.values.specs.Values.{present}
 use Rattle.values.specs.Places.{NextPart}
-use Rattle.readers.specs.Messages.{present}
-use Rattle.readers.proofs.has_part.Statement.{statement}
-use Rattle.readers.proofs.has_part.Tie as tie
+use Rattle.values.proofs.has_part.Statement.{statement}
+use Rattle.values.proofs.has_part.Tie as tie
 
 next-part-requires : tie.Need-next-part-requires
 next-part-requires c κs = search needs
