@@ -6,22 +6,12 @@ two files to it; the gate has station run every log.
 import pathlib
 import sys
 
+import refusal_table
 from name_vectors import Refused
 
 VECTORS = pathlib.Path(__file__).resolve().parent.parent / "vectors"
-# the refusals that the logs have, as station names them
-NAMES = {
-    8: "IdentityTooLong",
-    20: "MalformedInput",
-    23: "IncarnationMismatch",
-    24: "ConsumerMismatch",
-    25: "NonAdvancingIncarnation",
-    27: "StaleEpoch",
-    33: "UnknownReader",
-    35: "InvalidContract",
-    36: "ChargeTooLarge",
-    37: "InvalidLog",
-}
+# the refusals as station names them
+NAMES = refusal_table.names()
 
 
 def argument(kind, word):

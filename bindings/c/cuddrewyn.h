@@ -87,6 +87,91 @@ typedef struct {
     uint64_t fourth;
 } cuddrewyn_reply;
 
+/* The number of a refusal, and what is attached to it, first to fourth in this order. docs/refusals.txt has what an operator does. */
+enum {
+    /* tools/refusals.py writes: refusals */
+    /* the store has fewer than three slots */
+    CUDDREWYN_STORE_TOO_SHORT = 1,
+    /* the output of an update or a drain cannot hold every delta */
+    CUDDREWYN_OUTPUT_TOO_SHORT = 2,
+    /* the message is no row of Protocol Buffers fields */
+    CUDDREWYN_INVALID_WIRE_FORMAT = 3,
+    /* a known field has another wire type than its own */
+    CUDDREWYN_WRONG_WIRE_TYPE = 4,
+    /* a required field is missing */
+    CUDDREWYN_MISSING_FIELD = 6,
+    /* a text is not UTF-8 */
+    CUDDREWYN_INVALID_UTF8 = 7,
+    /* the three texts of an identity do not fit its slot */
+    CUDDREWYN_IDENTITY_TOO_LONG = 8,
+    /* of a segment in a message: its range is none; of a range outside a message: in a name, or lent to a call. Attached: of a segment in a
+     * message: its id, the kind, the kind's numbers; else the kind and its numbers (kind 1: start too high, start; 2: end too high, end; 3:
+     * reversed, start and end) */
+    CUDDREWYN_INVALID_RANGE = 9,
+    /* a bucket range is none; its place among the segment's buckets, and its ends as they came. Attached: segment id, place of the bucket
+     * from 0, start, end (may be negative) */
+    CUDDREWYN_INVALID_BUCKET_RANGE = 10,
+    /* two bucket ranges of a segment share a value. Attached: segment id */
+    CUDDREWYN_OVERLAPPING_BUCKET_RANGES = 11,
+    /* the parent is no `topic://` with tenant, namespace and rest, or has `?` or `#` in one of them */
+    CUDDREWYN_INVALID_PARENT = 12,
+    /* the segment's topic is not the name of its parent, range and id. Attached: segment id */
+    CUDDREWYN_ATTACHMENT_MISMATCH = 13,
+    /* the segment's id came before. Attached: segment id */
+    CUDDREWYN_DUPLICATE_SEGMENT = 14,
+    /* the packed assignment is longer than a slot */
+    CUDDREWYN_ASSIGNMENT_TOO_LONG = 15,
+    /* the broker answered with an error code. Its text is handed back beside the refusal. Attached: the broker's code (may be negative) */
+    CUDDREWYN_BROKER = 16,
+    /* of a response: neither an assignment nor an error code; of a watch update: neither an event nor an error code. Attached: request id;
+     * of the watch, watch id */
+    CUDDREWYN_EMPTY = 17,
+    /* the text is no name of a segment */
+    CUDDREWYN_INVALID_SEGMENT = 18,
+    /* the name is another segment's. Attached: id given, id in the name */
+    CUDDREWYN_SEGMENT_ID_MISMATCH = 19,
+    /* an assignment, a delta or a segment's record that was lent is malformed */
+    CUDDREWYN_MALFORMED_INPUT = 20,
+    /* the result does not fit the output, or has no packed form */
+    CUDDREWYN_RESULT_TOO_LONG = 21,
+    /* a slot or a queued list in use is malformed, or a count of the record is beyond what it counts */
+    CUDDREWYN_MALFORMED_STORE = 22,
+    /* the call is for another link to the controller. Attached: got, expected */
+    CUDDREWYN_INCARNATION_MISMATCH = 23,
+    /* the update is for another consumer. Attached: got, expected */
+    CUDDREWYN_CONSUMER_MISMATCH = 24,
+    /* the new link's number is not above the old one's. Attached: got, the one before */
+    CUDDREWYN_NON_ADVANCING_INCARNATION = 25,
+    /* the epoch lies below the highest one that was accepted. Attached: got, floor */
+    CUDDREWYN_CROSS_INCARNATION_EPOCH_REGRESSION = 26,
+    /* the epoch lies below that of the list before it. Attached: got, the one before */
+    CUDDREWYN_STALE_EPOCH = 27,
+    /* the queue is full, or the push does not fit the store's free end. Attached: 1,024 or the number queued */
+    CUDDREWYN_PRE_BASELINE_BUFFER_FULL = 28,
+    /* the update is for another watch. Attached: got, expected */
+    CUDDREWYN_WATCH_MISMATCH = 29,
+    /* the topic set that was lent is malformed */
+    CUDDREWYN_MALFORMED_SET = 30,
+    /* the new topic set is longer than its buffer, or one of the event's topics longer than a topic can be */
+    CUDDREWYN_SET_TOO_LONG = 31,
+    /* a key is longer than 65,535 bytes */
+    CUDDREWYN_KEY_TOO_LONG = 32,
+    /* a reader's number is above 7 */
+    CUDDREWYN_UNKNOWN_READER = 33,
+    /* a bucket range lies not wholly inside its segment's range; its place among the segment's buckets. Attached: segment id, place of the
+     * bucket from 0 */
+    CUDDREWYN_BUCKET_OUTSIDE_SEGMENT = 34,
+    /* a contract has an end not after its start, a window beyond the week or a count too large */
+    CUDDREWYN_INVALID_CONTRACT = 35,
+    /* the holding's product and remainder reach 2^64 together, or the remainder lent in is not below the divisor */
+    CUDDREWYN_CHARGE_TOO_LARGE = 36,
+    /* the log's length is no multiple of 9, or one of its filling bits is set */
+    CUDDREWYN_INVALID_LOG = 37,
+    /* a lost count is above 65,535, or the window's own numbers point beyond its 256 places */
+    CUDDREWYN_INVALID_WINDOW = 38,
+    /* tools/refusals.py: end */
+};
+
 /* The record behind a call, and the call's answer. Keep state in place of the record that you gave. */
 typedef struct {
     cuddrewyn_record state;
@@ -113,12 +198,12 @@ cuddrewyn_session_reply cuddrewyn_invalidate(cuddrewyn_record r);
 
 /* A push of the controller (CommandScalableTopicAssignmentUpdate). Lend an output of at least 3,210 bytes.
  * DELTA: first is the delta's length in out; the list held stands in the store at CUDDREWYN_LIST. UNCHANGED: it was queued, or is the list held.
- * Refuses 1, 2, 22, the first of 3, 4 and 7, 6, 23, 24, 9 to 11, 34, 12 to 15, then 26, 28 or 27. */
+ * Refuses 1, 2, 22, 3, 4, 7, 6, 23, 24, 9 to 11, 34, 12 to 15, then 26, 28 or 27. */
 cuddrewyn_session_reply cuddrewyn_update(cuddrewyn_record r, uint8_t *store, size_t store_len, const uint8_t *message, size_t message_len,
                                          uint64_t incarnation, uint8_t *out, size_t out_len);
 
 /* The answer to a registration (CommandScalableTopicSubscribeResponse).
- * ACCEPTED: the baseline stands in the store at CUDDREWYN_BASELINE; each reader drains until UNCHANGED. Refuses 1, 22, the first of 3, 4 and 7, 6, 23, 16 or 17,
+ * ACCEPTED: the baseline stands in the store at CUDDREWYN_BASELINE; each reader drains until UNCHANGED. Refuses 1, 22, 3, 4, 7, 6, 23, 16 or 17,
  * 9 to 11, 34, 12 to 15, 26, 27. */
 cuddrewyn_session_reply cuddrewyn_response(cuddrewyn_record r, uint8_t *store, size_t store_len, const uint8_t *message, size_t message_len,
                                            uint64_t incarnation);
@@ -185,13 +270,14 @@ cuddrewyn_reply cuddrewyn_churn_current(const uint8_t *window, size_t window_len
  * window, 64 bits each, most significant bit first. A term is in seconds since 2000-01-01 00:00 UTC, a Saturday, a
  * window in seconds of a week that starts on Saturday. A start is inside, an end is outside; they may overlap. A second
  * is open if some term and some window hold it.
- * Both calls refuse 35: more than CUDDREWYN_MAX_TERMS or CUDDREWYN_MAX_WINDOWS, an end not after its start, a window's
+ * 35 is a contract with more than CUDDREWYN_MAX_TERMS or CUDDREWYN_MAX_WINDOWS, an end not after its start, a window's
  * end above CUDDREWYN_WEEK, or another length than the counts give. */
 
-/* Whether a second is open. YES or NO. */
+/* Whether a second is open. YES or NO; refuses 35. */
 cuddrewyn_reply cuddrewyn_is_open(const uint8_t *contract, size_t contract_len, uint64_t second);
 
-/* The earliest open second not before the one given. FOUND: first is that second. NO: none from there on is open. */
+/* The earliest open second not before the one given. FOUND: first is that second. NO: none from there on is open.
+ * Refuses 35. */
 cuddrewyn_reply cuddrewyn_earliest_open(const uint8_t *contract, size_t contract_len, uint64_t second);
 
 /* Whether an uploader's log is what deltas, packed one behind another, ask for: delta after delta each lost id detached
@@ -208,7 +294,7 @@ cuddrewyn_reply cuddrewyn_segment_topic(const uint8_t *parent, size_t parent_len
 /* The range in a segment's name. FOUND: first is the start, second the end. Refuses 7, 18, 12, 18, 9, 19. */
 cuddrewyn_reply cuddrewyn_segment_source(uint64_t segment_id, const uint8_t *topic, size_t topic_len);
 
-/* The parent of a segment's name. WRITTEN: first is its length in out. Refuses as cuddrewyn_segment_source without 19, then 21. */
+/* The parent of a segment's name. WRITTEN: first is its length in out. Refuses 7, 18, 12, 18, 9, 21. */
 cuddrewyn_reply cuddrewyn_parent_topic(const uint8_t *topic, size_t topic_len, uint8_t *out, size_t out_len);
 
 /* How many values a range has. FOUND: first is their number. Refuses 9. */
@@ -228,7 +314,7 @@ int32_t cuddrewyn_consumer_type(int32_t value);
 
 /* An update of the topics watch (CommandWatchScalableTopicsUpdate): the set stands in the first `used` bytes of buffer.
  * WRITTEN: first is the length of the new set, second that of the output. Refuses 30,
- * the first of 3, 4 and 7, 6, 29, 16, 17, 31, 21. */
+ * 3, 4, 7, 6, 29, 16, 17, 31, 21. */
 cuddrewyn_reply cuddrewyn_watch(uint64_t watch_id, uint8_t *buffer, size_t buffer_len, size_t used, const uint8_t *message, size_t message_len,
                                 uint8_t *out, size_t out_len);
 

@@ -78,8 +78,8 @@ static cuddrewyn_record follow(cuddrewyn_record r) {
 
     memcpy(before, store, sizeof store);
     memset(out, 0xaa, sizeof out);
-    r = answered("update", push(r, &old), (cuddrewyn_reply){.answer = CUDDREWYN_REFUSED, .number = 27, .count = 2, .first = 2, .second = 4},
-                 expected);
+    r = answered("update", push(r, &old),
+                 (cuddrewyn_reply){.answer = CUDDREWYN_REFUSED, .number = CUDDREWYN_STALE_EPOCH, .count = 2, .first = 2, .second = 4}, expected);
     check_bytes(store, before, sizeof store, "the store after a refusal");
     bool same_output = true;
     for (size_t i = 0; i < sizeof out; i++) {
@@ -95,7 +95,7 @@ static void reconnect(cuddrewyn_record r) {
     cuddrewyn_record expected = {.consumer_id = 7, .incarnation = 2, .has_floor = true, .epoch_floor = 4};
     r = answered("begin", cuddrewyn_begin(r, 2), (cuddrewyn_reply){.answer = CUDDREWYN_ACCEPTED}, expected);
     r = answered("response", cuddrewyn_response(r, store, sizeof store, no.bytes, no.length, 2),
-                 (cuddrewyn_reply){.answer = CUDDREWYN_REFUSED, .number = 16, .count = 1, .first = (uint64_t)-22}, expected);
+                 (cuddrewyn_reply){.answer = CUDDREWYN_REFUSED, .number = CUDDREWYN_BROKER, .count = 1, .first = (uint64_t)-22}, expected);
     cuddrewyn_part text = cuddrewyn_response_text(no.bytes, no.length);
     check_number(text.length, 20, "the text's length");
     check(text.start <= no.length && text.length <= no.length - text.start, "the text inside the message");

@@ -170,18 +170,18 @@ static void lists(void) {
     static const uint8_t list[24] = {[7] = 1, [9] = 1, [17] = 5, [21] = 9};
     check_reply(cuddrewyn_apply(empty, 10, gains, 26, out, OUT), one(CUDDREWYN_WRITTEN, 24));
     check_bytes(out, list, 24, "the list applied");
-    check_reply(cuddrewyn_apply(empty, 10, gains, 25, out, OUT), refused(20, 0, 0, 0, 0, 0));
+    check_reply(cuddrewyn_apply(empty, 10, gains, 25, out, OUT), refused(CUDDREWYN_MALFORMED_INPUT, 0, 0, 0, 0, 0));
     check_reply(cuddrewyn_join(gains, 26, loses, 20, out, OUT), one(CUDDREWYN_WRITTEN, 20));
     check_bytes(out, loses, 20, "the deltas joined");
-    check_reply(cuddrewyn_join(gains, 26, loses, 20, out, 19), refused(21, 0, 0, 0, 0, 0));
+    check_reply(cuddrewyn_join(gains, 26, loses, 20, out, 19), refused(CUDDREWYN_RESULT_TOO_LONG, 0, 0, 0, 0, 0));
 
     message segment = segment_of(5, 0, 9, "segment://a/b/c/0000-0009-5");
     message expected = assignment_of(1, &segment);
     check_reply(cuddrewyn_to_pb(list, 24, TOPIC, TOPIC_LEN, out, OUT), one(CUDDREWYN_WRITTEN, expected.length));
     check_bytes(out, expected.bytes, expected.length, "the list written");
-    check_reply(cuddrewyn_to_pb(list, 24, TOPIC, 3, out, OUT), refused(12, 0, 0, 0, 0, 0));
+    check_reply(cuddrewyn_to_pb(list, 24, TOPIC, 3, out, OUT), refused(CUDDREWYN_INVALID_PARENT, 0, 0, 0, 0, 0));
     static const uint8_t outside[28] = {[7] = 1, [9] = 1, [17] = 5, [21] = 9, [23] = 1, [25] = 9, [27] = 10};
-    check_reply(cuddrewyn_to_pb(outside, 28, TOPIC, 3, out, OUT), refused(34, 2, 5, 0, 0, 0));
+    check_reply(cuddrewyn_to_pb(outside, 28, TOPIC, 3, out, OUT), refused(CUDDREWYN_BUCKET_OUTSIDE_SEGMENT, 2, 5, 0, 0, 0));
 }
 
 /* The hash of "test" is d213: it lies in the range of segment 3, and in its bucket or just before it; segment 5 has all. */
@@ -339,10 +339,10 @@ static void names(void) {
     check_reply(cuddrewyn_segment_topic(TOPIC, TOPIC_LEN, 70000, 0xff, 12, out, OUT), refused(9, 2, 1, 70000, 0, 0));
     check_reply(cuddrewyn_segment_source(12, name, length),
                 two(CUDDREWYN_FOUND, 0x10, 0xff));
-    check_reply(cuddrewyn_segment_source(13, name, length), refused(19, 2, 13, 12, 0, 0));
+    check_reply(cuddrewyn_segment_source(13, name, length), refused(CUDDREWYN_SEGMENT_ID_MISMATCH, 2, 13, 12, 0, 0));
     check_reply(cuddrewyn_parent_topic(name, length, out, OUT), one(CUDDREWYN_WRITTEN, TOPIC_LEN));
     check_bytes(out, TOPIC, TOPIC_LEN, "the parent");
-    check_reply(cuddrewyn_parent_topic(name, 3, out, OUT), refused(18, 0, 0, 0, 0, 0));
+    check_reply(cuddrewyn_parent_topic(name, 3, out, OUT), refused(CUDDREWYN_INVALID_SEGMENT, 0, 0, 0, 0, 0));
     static const uint8_t marked[] = "topic://t?/n/m", marked_name[] = "segment://t/n#/m/0010-00ff-12", marked_id[] = "segment://t/n/m/0010-00ff-?";
     check_reply(cuddrewyn_segment_topic(marked, sizeof marked - 1, 0x10, 0xff, 12, out, OUT), refused(12, 0, 0, 0, 0, 0));
     check_reply(cuddrewyn_segment_source(12, marked_name, sizeof marked_name - 1), refused(12, 0, 0, 0, 0, 0));
@@ -352,7 +352,7 @@ static void names(void) {
 static void ranges(void) {
     check_reply(cuddrewyn_range_len(4, 9), one(CUDDREWYN_FOUND, 6));
     check_reply(cuddrewyn_range_len(9, 4), refused(9, 3, 3, 9, 4, 0));
-    check_reply(cuddrewyn_range_len(9, 65536), refused(9, 2, 2, 65536, 0, 0));
+    check_reply(cuddrewyn_range_len(9, 65536), refused(CUDDREWYN_INVALID_RANGE, 2, 2, 65536, 0, 0));
     check_reply(cuddrewyn_range_contains(4, 9, 9), plain(CUDDREWYN_YES));
     check_reply(cuddrewyn_range_contains(4, 9, 10), plain(CUDDREWYN_NO));
     check_reply(cuddrewyn_range_contains_range(4, 9, 5, 9), plain(CUDDREWYN_YES));

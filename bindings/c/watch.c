@@ -63,12 +63,12 @@ static void refused(size_t used) {
     put_number(&no, 4, (uint64_t)-3);
     put_part(&no, 5, "moved", 5);
     memset(out, 0xaa, sizeof out);
-    check_refused(used - 1, &empty, 30, 0, 0, 0);
-    check_refused(sizeof buffer + 1, &empty, 30, 0, 0, 0);
-    check_refused(used, &other, 29, 2, 6, 5);
-    check_refused(used, &empty, 17, 1, 5, 0);
-    check_refused(used, &longer, 31, 0, 0, 0);
-    check_refused(used, &no, 16, 1, (uint64_t)-3, 0);
+    check_refused(used - 1, &empty, CUDDREWYN_MALFORMED_SET, 0, 0, 0);
+    check_refused(sizeof buffer + 1, &empty, CUDDREWYN_MALFORMED_SET, 0, 0, 0);
+    check_refused(used, &other, CUDDREWYN_WATCH_MISMATCH, 2, 6, 5);
+    check_refused(used, &empty, CUDDREWYN_EMPTY, 1, 5, 0);
+    check_refused(used, &longer, CUDDREWYN_SET_TOO_LONG, 0, 0, 0);
+    check_refused(used, &no, CUDDREWYN_BROKER, 1, (uint64_t)-3, 0);
     check_bytes(buffer, "\0\1a\0\1c\xaa", 7, "the set after refusals");
     check(out[0] == 0xaa, "the output after refusals");
 

@@ -40,7 +40,8 @@ pub enum Call {
 
 use Call::*;
 
-/// A call, the refusals it can give and its other answers. A run in which one of them never came fails.
+/// A call, the refusals it can give and its other answers. A run in which one of them never came fails. The refusals are those of docs/calls.txt;
+/// tools/refusals.py writes them.
 const REACH: &[(Call, &[u8], &[u8])] = &[
     (Open, &[1, 7, 8], &[raw::ACCEPTED]),
     (Matches, &[1, 22], &[raw::YES, raw::NO]),

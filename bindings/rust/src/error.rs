@@ -17,6 +17,7 @@ pub(crate) fn signed(value: u64) -> i32 {
 /// The texts of the refusals that the original does not have, by their numbers.
 pub(crate) fn own_text(number: u8) -> &'static str {
     match number {
+        // tools/refusals.py writes: texts
         1 => "the store is shorter than 6144 bytes",
         2 => "the output is shorter than 3210 bytes",
         3 => "the message is not in the Protocol Buffers wire format",
@@ -36,6 +37,7 @@ pub(crate) fn own_text(number: u8) -> &'static str {
         36 => "the charge is beyond 64 bits, or the remainder is not below 235929600",
         37 => "the length of the log is no multiple of 9, or a filling bit is set",
         38 => "the lost count is above 65535, or the window points beyond its 256 places",
+        // tools/refusals.py: end
         _ => "the call is refused",
     }
 }
@@ -228,9 +230,10 @@ pub enum AssignmentError<'m> {
         /// The request id in the message.
         request_id: u64,
     },
-    /// 1: the store is shorter than [`MIN_STORE`](crate::MIN_STORE).
+    // tools/refusals.py writes: variants of AssignmentError
+    /// 1: the store has fewer than three slots.
     StoreTooShort,
-    /// 2: the output is shorter than [`MIN_OUTPUT`](crate::MIN_OUTPUT).
+    /// 2: the output of an update or a drain cannot hold every delta.
     OutputTooShort,
     /// 3: the message is no row of Protocol Buffers fields.
     InvalidWireFormat,
@@ -240,28 +243,29 @@ pub enum AssignmentError<'m> {
     MissingField,
     /// 7: a text is not UTF-8.
     InvalidUtf8,
-    /// 8: the texts of the registration are longer than 2,041 bytes together.
+    /// 8: the three texts of an identity do not fit its slot.
     IdentityTooLong,
-    /// 15: the packed list is longer than 2,048 bytes.
+    /// 15: the packed assignment is longer than a slot.
     AssignmentTooLong,
-    /// 20: the list, delta or segment that was lent is malformed.
+    /// 20: an assignment, a delta or a segment's record that was lent is malformed.
     MalformedInput,
-    /// 21: the result is longer than the output, or has no packed form.
+    /// 21: the result does not fit the output, or has no packed form.
     ResultTooLong,
-    /// 22: a slot in use is malformed, or a count of the record is beyond what it counts.
+    /// 22: a slot or a queued list in use is malformed, or a count of the record is beyond what it counts.
     MalformedStore,
-    /// 32: the key is longer than [`LONGEST_KEY`](crate::LONGEST_KEY).
+    /// 32: a key is longer than 65,535 bytes.
     KeyTooLong,
-    /// 33: the reader's number is above 7.
+    /// 33: a reader's number is above 7.
     UnknownReader,
-    /// 35: the contract has an end not after its start, a window beyond the week or a count too large.
+    /// 35: a contract has an end not after its start, a window beyond the week or a count too large.
     InvalidContract,
-    /// 36: the product and the remainder reach 2^64 together, or the remainder lent in is not below [`DIVISOR`](crate::DIVISOR).
+    /// 36: the holding's product and remainder reach 2^64 together, or the remainder lent in is not below the divisor.
     ChargeTooLarge,
     /// 37: the log's length is no multiple of 9, or one of its filling bits is set.
     InvalidLog,
-    /// 38: the lost count is above 65,535, or the window's own numbers point beyond its 256 places.
+    /// 38: a lost count is above 65,535, or the window's own numbers point beyond its 256 places.
     InvalidWindow,
+    // tools/refusals.py: end
     /// A reply that this crate does not know: the archive is of another version.
     Unknown(Reply),
 }
@@ -271,6 +275,7 @@ impl<'m> AssignmentError<'m> {
     #[must_use]
     pub const fn number(&self) -> u8 {
         match self {
+            // tools/refusals.py writes: numbers of AssignmentError
             Self::StoreTooShort => 1,
             Self::OutputTooShort => 2,
             Self::InvalidWireFormat => 3,
@@ -278,31 +283,32 @@ impl<'m> AssignmentError<'m> {
             Self::MissingField => 6,
             Self::InvalidUtf8 => 7,
             Self::IdentityTooLong => 8,
+            Self::AssignmentTooLong => 15,
+            Self::MalformedInput => 20,
+            Self::ResultTooLong => 21,
+            Self::MalformedStore => 22,
+            Self::KeyTooLong => 32,
+            Self::UnknownReader => 33,
+            Self::InvalidContract => 35,
+            Self::ChargeTooLarge => 36,
+            Self::InvalidLog => 37,
+            Self::InvalidWindow => 38,
+            // tools/refusals.py: end
             Self::InvalidRange { .. } => 9,
             Self::InvalidBucketRange { .. } => 10,
             Self::OverlappingBucketRanges { .. } => 11,
             Self::SegmentTopic(source) => source.number(),
             Self::AttachmentMismatch { .. } => 13,
             Self::DuplicateSegment { .. } => 14,
-            Self::AssignmentTooLong => 15,
             Self::Broker { .. } => 16,
             Self::Empty { .. } => 17,
-            Self::MalformedInput => 20,
-            Self::ResultTooLong => 21,
-            Self::MalformedStore => 22,
             Self::IncarnationMismatch { .. } => 23,
             Self::ConsumerMismatch { .. } => 24,
             Self::NonAdvancingIncarnation { .. } => 25,
             Self::CrossIncarnationEpochRegression { .. } => 26,
             Self::StaleEpoch { .. } => 27,
             Self::PreBaselineBufferFull { .. } => 28,
-            Self::KeyTooLong => 32,
-            Self::UnknownReader => 33,
             Self::BucketOutsideSegment { .. } => 34,
-            Self::InvalidContract => 35,
-            Self::ChargeTooLarge => 36,
-            Self::InvalidLog => 37,
-            Self::InvalidWindow => 38,
             Self::Unknown(reply) => reply.number,
         }
     }
@@ -311,6 +317,7 @@ impl<'m> AssignmentError<'m> {
     pub(crate) fn from_reply(reply: Reply, message: &'m str) -> Self {
         let Reply { number, first, .. } = reply;
         match number {
+            // tools/refusals.py writes: replies of AssignmentError
             1 => Self::StoreTooShort,
             2 => Self::OutputTooShort,
             3 => Self::InvalidWireFormat,
@@ -318,10 +325,7 @@ impl<'m> AssignmentError<'m> {
             6 => Self::MissingField,
             7 => Self::InvalidUtf8,
             8 => Self::IdentityTooLong,
-            9..=14 | 34 => Self::of_segment(reply),
             15 => Self::AssignmentTooLong,
-            16 => Self::Broker { code: signed(first), message },
-            17 => Self::Empty { request_id: first },
             20 => Self::MalformedInput,
             21 => Self::ResultTooLong,
             22 => Self::MalformedStore,
@@ -331,6 +335,10 @@ impl<'m> AssignmentError<'m> {
             36 => Self::ChargeTooLarge,
             37 => Self::InvalidLog,
             38 => Self::InvalidWindow,
+            // tools/refusals.py: end
+            9..=14 | 34 => Self::of_segment(reply),
+            16 => Self::Broker { code: signed(first), message },
+            17 => Self::Empty { request_id: first },
             _ => Self::of_state(reply),
         }
     }

@@ -84,6 +84,7 @@ pub enum TopicsWatchError<'m> {
         /// The watch id in the message.
         watch_id: u64,
     },
+    // tools/refusals.py writes: variants of TopicsWatchError
     /// 3: the message is no row of Protocol Buffers fields.
     InvalidWireFormat,
     /// 4: a known field has another wire type than its own.
@@ -92,12 +93,13 @@ pub enum TopicsWatchError<'m> {
     MissingField,
     /// 7: a text is not UTF-8.
     InvalidUtf8,
-    /// 21: the change is longer than the output.
+    /// 21: the result does not fit the output, or has no packed form.
     ResultTooLong,
-    /// 30: the set that was lent is malformed.
+    /// 30: the topic set that was lent is malformed.
     MalformedSet,
-    /// 31: the new set is longer than its buffer, or a topic of the event longer than 65,535 bytes.
+    /// 31: the new topic set is longer than its buffer, or one of the event's topics longer than a topic can be.
     SetTooLong,
+    // tools/refusals.py: end
     /// A reply that this crate does not know: the archive is of another version.
     Unknown(Reply),
 }
@@ -107,16 +109,18 @@ impl<'m> TopicsWatchError<'m> {
     #[must_use]
     pub const fn number(&self) -> u8 {
         match self {
+            // tools/refusals.py writes: numbers of TopicsWatchError
             Self::InvalidWireFormat => 3,
             Self::WrongWireType => 4,
             Self::MissingField => 6,
             Self::InvalidUtf8 => 7,
-            Self::Broker { .. } => 16,
-            Self::Empty { .. } => 17,
             Self::ResultTooLong => 21,
-            Self::WatchMismatch { .. } => 29,
             Self::MalformedSet => 30,
             Self::SetTooLong => 31,
+            // tools/refusals.py: end
+            Self::Broker { .. } => 16,
+            Self::Empty { .. } => 17,
+            Self::WatchMismatch { .. } => 29,
             Self::Unknown(reply) => reply.number,
         }
     }
@@ -125,16 +129,18 @@ impl<'m> TopicsWatchError<'m> {
     fn from_reply(reply: Reply, message: &'m str) -> Self {
         let Reply { number, first, second, .. } = reply;
         match number {
+            // tools/refusals.py writes: replies of TopicsWatchError
             3 => Self::InvalidWireFormat,
             4 => Self::WrongWireType,
             6 => Self::MissingField,
             7 => Self::InvalidUtf8,
-            16 => Self::Broker { code: signed(first), message },
-            17 => Self::Empty { watch_id: first },
             21 => Self::ResultTooLong,
-            29 => Self::WatchMismatch { got: first, expected: second },
             30 => Self::MalformedSet,
             31 => Self::SetTooLong,
+            // tools/refusals.py: end
+            16 => Self::Broker { code: signed(first), message },
+            17 => Self::Empty { watch_id: first },
+            29 => Self::WatchMismatch { got: first, expected: second },
             _ => Self::Unknown(reply),
         }
     }
