@@ -10,30 +10,21 @@ use mathlib.Core.Path.{_≡_, refl, sym, ap, _∙_, subst}
 use mathlib.Core.List.{List, [], _∷_, _++_, map, append-nil}
 use lib.ListN.{length, length-append}
 use Rattle.types.specs.declared.KeyRange.{KeyRange}
-use Rattle.wire.specs.declared.WireType.the-variants as type
-use Rattle.wire.specs.Fields.{number, bytes, Field, field, fieldsOf}
+use Rattle.wire.specs.Fields.{Field, fieldsOf}
 use Rattle.wire.proofs.FieldsLaws.{fields-nil}
 use Rattle.wire_writer.specs.Encode.{numberField, partHead, partField}
 use Rattle.wire_writer.proofs.EncodeLaws.{number-reads, part-reads}
 use Rattle.packed.specs.Assignment.{AssignedSegment, ConsumerAssignment}
 use Rattle.packed.proofs.RoundLaws.{FitRange, FitSegment}
 use Rattle.assignment_message.specs.Message.{rangeMessage, bucketFields, topicOf, segmentMessage, segmentFields, assignmentMessage}
+pub use Rattle.assignment_message.specs.WireRows.{numbered, parted, partRow}
 
 -- ---- fields that each hold a part
 
-abbrev pub numbered : ℕ → ℕ → Field
-numbered f v = field f type.Varint (number v)
-
-abbrev pub parted : ℕ → List ℕ → Field
-parted f p = field f type.Len (bytes p)
-
--- each part in field f, as bytes and as a row
+-- each part in field f, as bytes
 abbrev pub partFields : ℕ → List (List ℕ) → List ℕ
 partFields f [] = []
 partFields f (p ∷ ps) = partField f p ++ partFields f ps
-
-abbrev pub partRow : ℕ → List (List ℕ) → List Field
-partRow f ps = map (parted f) ps
 
 part-within : (f : ℕ) (p : List ℕ) → length p ≤ length (partField f p)
 unfolding partField

@@ -24,6 +24,7 @@ use Rattle.packed.specs.Assignment.{AssignedSegment, idOf, sizeSegment, sizeSeg
 use Rattle.packed.proofs.AssignmentLaws.{ok-good, ok-head, ok-tail}
 use Rattle.packed.proofs.RoundLaws.{FitSegment, FitSegments}
 use Rattle.content.specs.Content.{wireId, bucketOf, segmentFault, duplicateFault, firstRefusal, assignedSegment, inIdOrder}
+pub use Rattle.content.specs.Passing.{Passing}
 use Rattle.keyed.proofs.EachLaws.{Each, each-insert}
 use Rattle.content.proofs.SoundLaws.{or-both, if-none, length-map, segment-good, segment-fit}
 use Rattle.content.proofs.WideLaws.{WideSegment}
@@ -250,9 +251,6 @@ order-written f h gs o =
     back : (l : List AssignedSegment) → map assignedSegment (map f l) ≡ l
     back [] = refl
     back (g ∷ l) = let p = back l in cc (h g)
-
-abbrev pub Passing : List ℕ → WireSegment → Type 0
-Passing parent w = segmentFault parent w ≡ none
 
 -- segments that pass, whose ids rise from low on, where none from low on was seen
 refusal-above : (parent seen : List ℕ) (low : ℕ) (ws : List WireSegment) → ((k : ℕ) → low ≤ k → holds self k seen ≡ false)

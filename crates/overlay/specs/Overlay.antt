@@ -10,7 +10,7 @@ use lib.ListN.{length, drop}
 use lib.Dec.{ltb, eqb, leb}
 use Rattle.keyed.specs.Keyed.{self, insertAll}
 use Rattle.packed.specs.Assignment.{AssignedSegment, idOf, sizeSegments, segmentsOf}
-use Rattle.packed.proofs.AssignmentLaws.{Rest}
+use Rattle.packed.specs.Rest.{Rest}
 use Rattle.delta.specs.Delta.{idsOf, idsFrom}
 use Rattle.delta.specs.Join.{strike}
 use Rattle.overlay.specs.declared.Row.{Row}

@@ -4,7 +4,7 @@
 -- and how many there are; a row by its first range (`overlaps-found` to `ok-pass`), and a row that rises (`rising-ok`); segments by their
 -- first (`ok-good`, `ok-head`, `ok-tail`, `ok-weaken`); what `record_at` reads (`Seen`) and answers (`record-short` to `record-good`), and
 -- what its answer says (`Got`, `got`); one turn of reading segments (`size-turn`, `cut`, `stale`, `onward`); a walk over a packed
--- assignment: from the place p on, m records stand in order and within the bytes (`Rest`: `rest-start`, `rest-head`, `rest-next`).
+-- assignment (specs/Rest): `rest-start`, `rest-head`, `rest-next`.
 --
 -- A caller that walks over a packed assignment needs `segments-at` and `Rest`; the rest serves the readers of src/.
 -- Assumes nothing.
@@ -30,6 +30,7 @@ use Rattle.packed.specs.Assignment.{sizeSegment, sizeSegments, sizeAssig
 use Rattle.packed.specs.Assignment.{okAssignment, startsAssignment}
 use Rattle.packed.specs.Answers.{recordGood, recordRead}
 use Rattle.packed.specs.declared.RecordRead.the-variants.{Record, Malformed}
+pub use Rattle.packed.specs.Rest.{Rest}
 
 -- ---- ranges at a place
 
@@ -295,10 +296,6 @@ module _ (s : List ℕ) (p n low end : ℕ) (h : 0 < n) where
     onward k = simp (size-turn s p n z h (g .size-is), ok-turn z (g .size-is), g .ok, ← (g .id-is), le-leb low i k)
 
 -- ---- a walk over a packed assignment
-
-pub record Rest (s : List ℕ) (p m : ℕ) : Type 0 where
-  pub fits : p + sizeSegments (segmentsOf m (drop p s)) ≤ length s
-  pub ok : okFrom 0 (segmentsOf m (drop p s)) ≡ true
 
 pub rest-start : (s : List ℕ) (m : ℕ) → startsAssignment s ≡ true → m ≡ beAt 2 s 8 → Rest s 10 m
 unfolding startsAssignment okAssignment sizeAssignment

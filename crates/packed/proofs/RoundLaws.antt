@@ -1,9 +1,9 @@
 -- Packed assignments and bytes correspond.
 --
--- In order: the fields fit their widths (`FitRange` to `FitAssignment`); how long an encoding is (`length-encodeSegment` to
--- `length-encodeAssignment`); what is encoded is read back, whatever follows it (`read-segment` to `read-assignment`); what is read encodes
--- to the bytes that were read (`write-segment` to `write-assignment`) and fits (`fit-segment` to `fit-assignment`); both ways at once
--- (`starts-encode`, `encode-whole`); values of equal bytes are equal (`segment-inj`, `segment-same`, `assignment-inj`).
+-- In order: how long an encoding is (`length-encodeSegment` to `length-encodeAssignment`); what is encoded is read back, whatever follows
+-- it (`read-segment` to `read-assignment`); what is read encodes to the bytes that were read (`write-segment` to `write-assignment`) and
+-- fits (`fit-segment` to `fit-assignment`); both ways at once (`starts-encode`, `encode-whole`); values of equal bytes are equal
+-- (`segment-inj`, `segment-same`, `assignment-inj`).
 -- Assumes nothing.
 use Prim.Native.Nat.{ℕ, zero, suc, _+_, _*_, _^_, _≤_, _<_}
 use native.Mathlib.Omega.{arith}
@@ -23,31 +23,7 @@ use Rattle.packed.specs.Assignment.{AssignedSegment, ConsumerAssignment,
 use Rattle.packed.specs.Assignment.{encodeRange, encodeRanges, encodeSegment, encodeSegments, encodeAssignment}
 use Rattle.packed.specs.Assignment.{sizeSegment, sizeSegments, sizeAssignment, okAssignment, startsAssignment, isAssignment}
 use Rattle.packed.proofs.AssignmentLaws.{length-rangesOf, length-segmentsOf}
-
--- ---- the fields fit their widths
-
-pub record FitRange (r : KeyRange) : Type 0 where
-  pub start : r .start < 256 ^ 2
-  pub end : r .end < 256 ^ 2
-
-abbrev pub FitRanges : List KeyRange → Type 0
-FitRanges [] = Unit {0}
-FitRanges (r ∷ rs) = FitRange r × FitRanges rs
-
-pub record FitSegment (g : AssignedSegment) : Type 0 where
-  pub id : g .segmentId < 256 ^ 8
-  pub range : FitRange (g .range)
-  pub count : length (g .buckets) < 256 ^ 2
-  pub buckets : FitRanges (g .buckets)
-
-abbrev pub FitSegments : List AssignedSegment → Type 0
-FitSegments [] = Unit {0}
-FitSegments (g ∷ gs) = FitSegment g × FitSegments gs
-
-pub record FitAssignment (a : ConsumerAssignment) : Type 0 where
-  pub epoch : a .layoutEpoch < 256 ^ 8
-  pub count : length (a .segments) < 256 ^ 2
-  pub segments : FitSegments (a .segments)
+pub use Rattle.packed.specs.Fit.{FitRange, FitRanges, FitSegment, FitSegments, FitAssignment}
 
 -- a number that is read is below the bound of its width
 below : (w : ℕ) (l : List ℕ) → Bytes l → be (take w l) < 256 ^ w

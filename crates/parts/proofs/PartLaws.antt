@@ -1,14 +1,15 @@
 -- Laws of parts of a slice, as lists: what every reader needs of `&s[at..]`, `&s[..n]` and `&s[a..e]`.
 --
--- In order: a part up to the slice's end (`rest`); a part of a part (`drop-take`); bytes (`Bytes`), and that parts of bytes are bytes.
+-- In order: a part up to the slice's end (`rest`); a part of a part (`drop-take`); parts of bytes (specs/Bytes) are bytes.
 -- Not here: `take-take`, `drop-drop`, `length-take-le`, `getD-drop` (`lib.Seq`).
 -- Assumes nothing.
-use Prim.Native.Nat.{ℕ, zero, suc, _+_, _-_, _≤_, _<_}
+use Prim.Native.Nat.{ℕ, zero, suc, _+_, _-_}
 use native.Mathlib.Omega.{arith}
 use mathlib.Core.Path.{_≡_}
 use mathlib.Core.List.{List, [], _∷_}
-use lib.ListN.{length, take, drop, getD, length-drop}
+use lib.ListN.{length, take, drop, length-drop}
 use lib.Seq.{take-all, take-nil, getD-drop}
+pub use Rattle.parts.specs.Bytes.{Bytes}
 
 -- `&s[at..]` is what is left behind the first at elements
 pub rest {ℓ} : {A : Type ℓ} (s : List A) (at : ℕ) → take (length s - at) (drop at s) ≡ drop at s
@@ -19,10 +20,6 @@ pub drop-take {ℓ} : {A : Type ℓ} (m n : ℕ) (l : List A) → drop m (take (
 drop-take zero n l = let e : zero + n ≡ n = omega arith in rw e
 drop-take (suc m) n [] = rw (take-nil (suc m + n), take-nil n)
 drop-take (suc m) n (x ∷ l) = let e : suc m + n ≡ suc (m + n) = omega arith in rw e (drop-take m n l)
-
--- every element is a byte: what is known of the elements of a `&[u8]`
-abbrev pub Bytes : List ℕ → Type 0
-Bytes l = (i : ℕ) → getD l i 0 < 256
 
 pub Bytes-take : (n : ℕ) (l : List ℕ) → Bytes l → Bytes (take n l)
 Bytes-take zero l h i = omega arith

@@ -8,7 +8,7 @@ use mathlib.Core.Path.{_≡_}
 use mathlib.Core.Bool.{true, false, cond}
 use mathlib.Core.List.{List, [], _∷_}
 use mathlib.Core.Option.{Option, some, none}
-use Rattle.parts.proofs.PartLaws.{Bytes}
+use Rattle.parts.specs.Bytes.{Bytes}
 use Rattle.packed.specs.Assignment.{ConsumerAssignment}
 use Rattle.delta.specs.Join.{Bracketing, row, joined, apply}
 use Rattle.session.specs.declared.SessionRecord.{SessionRecord}

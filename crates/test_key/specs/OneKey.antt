@@ -4,7 +4,7 @@ use Prim.Native.Nat.{ℕ, _^_, _<_}
 use mathlib.Core.Path.{_≡_}
 use mathlib.Core.List.{List}
 use lib.ListN.{length}
-use Rattle.parts.proofs.PartLaws.{Bytes}
+use Rattle.parts.specs.Bytes.{Bytes}
 use Rattle.murmur3.specs.Murmur3.{murmur3}
 use Rattle.test_key.specs.Inverse.{keyBytes, keyForHash}
 

@@ -1,5 +1,7 @@
--- What is written can be read (`written-reads`): an answer `Written` says that each test before it was passed (`from-test`, `from-inside`,
--- `from-parent`, `from-room`), and what passed them reads back. Assumes nothing.
+-- What is written can be read (`written-reads`): an answer `Written` says that each test before it was passed
+-- (`passed`, by `from-test`, `from-inside`, `from-parent`, `from-room`) and what stands at the output's front
+-- (`front`), and what passed them reads back.
+-- Assumes nothing.
 use Prim.Native.Nat.{ℕ, _+_, _≤_, _<_, _^_}
 use native.Mathlib.Omega.{arith}
 use mathlib.Core.Logic.{_⊎_, inl, inr}
@@ -54,12 +56,12 @@ module _ (o : List ℕ) (n : ℕ) where
       (from-test (leb (length m) (length o)) (outcome (Written (length m)) (put o 0 m)) ResultTooLong e .0)
 
 -- what an answer `Written` says of the bytes, the parent and the output
-record Passed (s parent o : List ℕ) : Type 0 where
-  ok : okAssignment (assignmentOf s) ≡ true
-  inside : outsideIn (assignmentOf s .segments) ≡ none
-  named : (assignmentOf s .segments ≡ []) ⊎ ((isParent parent ≡ true) × (isUtf8 parent ≡ true))
-  room : length (assignmentMessage (pathOf parent) (assignmentOf s)) ≤ length o
-  is : writeOutcome s parent o ≡ written (assignmentMessage (pathOf parent) (assignmentOf s)) o
+pub record Passed (s parent o : List ℕ) : Type 0 where
+  pub ok : okAssignment (assignmentOf s) ≡ true
+  pub inside : outsideIn (assignmentOf s .segments) ≡ none
+  pub named : (assignmentOf s .segments ≡ []) ⊎ ((isParent parent ≡ true) × (isUtf8 parent ≡ true))
+  pub room : length (assignmentMessage (pathOf parent) (assignmentOf s)) ≤ length o
+  pub is : writeOutcome s parent o ≡ written (assignmentMessage (pathOf parent) (assignmentOf s)) o
 
 module _ (s parent o : List ℕ) where
   abbrev a : ConsumerAssignment
@@ -74,7 +76,7 @@ module _ (s parent o : List ℕ) where
   behind-parent (g ∷ gs) r (inl e) = cc
   behind-parent (g ∷ gs) r (inr p) = rw (p .1, p .0)
 
-  passed : (n : ℕ) → writeOutcome s parent o .answer ≡ Written n → Passed s parent o
+  pub passed : (n : ℕ) → writeOutcome s parent o .answer ≡ Written n → Passed s parent o
   unfolding writeOutcome isAssignment startsAssignment
   passed n e =
       let sheet = from-test o n (isAssignment s) (toPb parent a o) MalformedInput e in
@@ -90,7 +92,8 @@ module _ (s parent o : List ℕ) where
       }
 
   -- what stands at the output's front
-  front : (n : ℕ) → Passed s parent o → writeOutcome s parent o .answer ≡ Written n → take n (writeOutcome s parent o .out) ≡ message
+  pub front : (n : ℕ) → Passed s parent o → writeOutcome s parent o .answer ≡ Written n
+      → take n (writeOutcome s parent o .out) ≡ assignmentMessage (pathOf parent) (assignmentOf s)
   unfolding written
   front n p e = go (leb (length message) (length o)) refl
     where

@@ -5,7 +5,7 @@ use Prim.Native.Nat.{ℕ, _^_, _<_}
 use mathlib.Core.Path.{_≡_}
 use mathlib.Core.List.{List}
 use lib.ListN.{length, take}
-use Rattle.parts.proofs.PartLaws.{Bytes}
+use Rattle.parts.specs.Bytes.{Bytes}
 use Rattle.schema.specs.declared.MessageKind.the-variants.{CommandScalableTopicAssignmentUpdate, CommandScalableTopicSubscribeResponse}
 use Rattle.schema.specs.declared.Checked.the-variants.{Valid}
 use Rattle.schema.specs.FirstFault.{firstFault}

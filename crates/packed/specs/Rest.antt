@@ -1,0 +1,13 @@
+-- What is known of the records that a walk over a packed assignment has before it. Internal: cited by the contracts of helpers alone.
+-- Assumes nothing.
+use Prim.Native.Nat.{ℕ, _+_, _≤_}
+use mathlib.Core.Path.{_≡_}
+use mathlib.Core.Bool.{true}
+use mathlib.Core.List.{List}
+use lib.ListN.{length, drop}
+use Rattle.packed.specs.Assignment.{segmentsOf, sizeSegments, okFrom}
+
+-- from the place p on, m records stand in order and within the bytes
+pub record Rest (s : List ℕ) (p m : ℕ) : Type 0 where
+  pub fits : p + sizeSegments (segmentsOf m (drop p s)) ≤ length s
+  pub ok : okFrom 0 (segmentsOf m (drop p s)) ≡ true
