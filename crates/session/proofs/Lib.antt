@@ -11,3 +11,4 @@ pub mod SlotLaws
 pub mod ViewLaws
 pub mod TraceLaws
 pub mod Claimed
+pub mod RoundLaws

@@ -1,2 +1,3 @@
 mod OpenLaws
 mod MatchLaws
+pub mod OpenedLaws
