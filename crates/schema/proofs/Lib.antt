@@ -1,4 +1,5 @@
 pub mod SchemaLaws
+pub mod ScalarLaws
 pub mod FaultLaws
 pub mod RequiredLaws
 pub mod SoundLaws
