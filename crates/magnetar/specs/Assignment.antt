@@ -2,12 +2,12 @@
 -- message's structs are those of the crate readers: `pb::ScalableAssignedSegment` is `WireSegment`, `pb::ScalableConsumerAssignment` is
 -- `WireAssignment`.
 -- Assumes nothing.
-use Prim.Native.Nat.{ℕ}
+use Prim.Native.Nat.{ℕ, _-_, _^_}
 use mathlib.Core.Bool.{Bool, cond, not, _&&_}
-use mathlib.Core.List.{List, [], _∷_, _++_}
+use mathlib.Core.List.{List, [], _∷_, _++_, map}
 use mathlib.Core.Option.{Option, some, none}
 use lib.IntN.{ℤ, pos, negsuc}
-use lib.Dec.{eqb, leb}
+use lib.Dec.{eqb, ltb, leb}
 use Rattle.types.specs.declared.KeyRange.{KeyRange}
 use Rattle.types.specs.declared.KeyRangeError.{KeyRangeError}
 use Rattle.types.specs.declared.SegmentId.{SegmentId}
@@ -16,9 +16,11 @@ use Rattle.readers.specs.declared.IntRange.{IntRange}
 use Rattle.readers.specs.Messages.{WireSegment, WireAssignment}
 use Rattle.magnetar.specs.Result.{Result, Ok, Err, _>>=_, map-err}
 use Rattle.magnetar.specs.Text.{Text, text-eq}
-use Rattle.magnetar.specs.Collections.{Vec-eq, sort-by, windows-any, enumerate-map, collect-results, is-new, with-id}
+use Rattle.magnetar.specs.Order.{Ordering, number-cmp}
+use Rattle.magnetar.specs.Collections.{Vec-eq, sort-by, windows-any, enumerate-map, collect-results}
+use Rattle.magnetar.specs.BTree.{BTreeSet-insert, BTreeSet-is-new}
 use Rattle.magnetar.specs.Ranges.{KeyRange-new, KeyRange-eq, KeyRange-le}
-use Rattle.magnetar.specs.SegmentTopic.{SegmentTopicError, canonical-segment-topic}
+use Rattle.magnetar.specs.SegmentTopic.{SegmentTopicError, canonical-segment-topic, SegmentSource}
 
 -- AssignmentError (RegistrationMismatch is given by no function here)
 pub data AssignmentError : Type 0 where
@@ -45,10 +47,14 @@ pub record AssignedSegment : Type 0 where
   pub bucket-ranges : List KeyRange
   pub segment-topic : Text
 
--- #[derive(PartialEq)]
+-- #[derive(PartialEq, Ord)] of SegmentId
 abbrev pub SegmentId-eq : SegmentId → SegmentId → Bool
 SegmentId-eq a b = eqb (a .0) (b .0)
 
+abbrev pub SegmentId-cmp : SegmentId → SegmentId → Ordering
+SegmentId-cmp a b = number-cmp (a .0) (b .0)
+
+-- #[derive(PartialEq)]
 abbrev pub AssignedSegment-eq : AssignedSegment → AssignedSegment → Bool
 AssignedSegment-eq a b =
     SegmentId-eq (a .segment-id) (b .segment-id)
@@ -84,6 +90,29 @@ AssignedSegment-try-from-pb pb parent-topic = do
     cond (not (text-eq (pb .segmentTopic) expected)) (Err (AttachmentMismatch segment-id expected (pb .segmentTopic)))
         (Ok (record { segment-id = segment-id; key-range = key-range; bucket-ranges = bucket-ranges; segment-topic = pb .segmentTopic })))
 
+-- AssignedSegment::source
+abbrev pub source : AssignedSegment → SegmentSource
+source self = record { segment-id = self .segment-id; topic = self .segment-topic; key-range = self .key-range }
+
+-- `x as i32`, of a u32: the same 32 bits, two's complement
+abbrev pub as-i32 : ℕ → ℤ
+as-i32 x = cond (ltb x (2 ^ 31)) (pos x) (negsuc (2 ^ 32 - 1 - x))
+
+-- |range| pb::IntRange { start: range.start() as i32, end: range.end() as i32 }
+abbrev pub range-to-pb : KeyRange → IntRange
+range-to-pb range = record { start = as-i32 (range .start); end = as-i32 (range .end) }
+
+-- AssignedSegment::to_pb
+abbrev pub AssignedSegment-to-pb : AssignedSegment → WireSegment
+AssignedSegment-to-pb self =
+    record {
+      segmentId = self .segment-id .0;
+      hashStart = self .key-range .start;
+      hashEnd = self .key-range .end;
+      segmentTopic = self .segment-topic;
+      bucketRanges = map range-to-pb (self .bucket-ranges);
+    }
+
 -- ---- ConsumerAssignment
 
 pub record ConsumerAssignment : Type 0 where
@@ -99,8 +128,8 @@ abbrev pub segments-loop : Text → List WireSegment → List AssignedSegment �
 segments-loop parent-topic [] segments ids = Ok segments
 segments-loop parent-topic (pb ∷ rest) segments ids = do
   segment ← AssignedSegment-try-from-pb pb parent-topic
-  cond (not (is-new (segment .segment-id) ids)) (Err (DuplicateSegment (segment .segment-id)))
-      (segments-loop parent-topic rest (segments ++ (segment ∷ [])) (with-id (segment .segment-id) ids))
+  cond (not (BTreeSet-is-new SegmentId-cmp (segment .segment-id) ids)) (Err (DuplicateSegment (segment .segment-id)))
+      (segments-loop parent-topic rest (segments ++ (segment ∷ [])) (BTreeSet-insert SegmentId-cmp (segment .segment-id) ids))
 
 -- segments.sort_by_key(|s| s.segment_id)
 abbrev pub id-le : AssignedSegment → AssignedSegment → Bool
@@ -112,3 +141,11 @@ ConsumerAssignment-try-from-pb pb parent-topic = do
   segments ← segments-loop parent-topic (pb .segments) [] []
   let sorted = sort-by id-le segments
   Ok (record { layout-epoch = pb .layoutEpoch; segments = sorted })
+
+-- ConsumerAssignment::to_pb
+abbrev pub ConsumerAssignment-to-pb : ConsumerAssignment → WireAssignment
+ConsumerAssignment-to-pb self = record { layoutEpoch = self .layout-epoch; segments = map AssignedSegment-to-pb (self .segments) }
+
+-- ConsumerAssignment::segment_topics
+abbrev pub segment-topics : ConsumerAssignment → List Text
+segment-topics self = map (λ (s : AssignedSegment). s .segment-topic) (self .segments)

@@ -1,12 +1,9 @@
--- `Vec`, slices, `BTreeSet` and `BTreeMap` of the Rust, and the methods that the sources call. A set or a map is the list of its entries,
--- whose keys rise; an id's key is its number.
+-- `Vec`, slices and iterators of the Rust, and the methods that the sources call.
 -- Assumes nothing.
 use Prim.Native.Nat.{ℕ, _+_}
-use mathlib.Core.Bool.{Bool, true, false, cond, not, _&&_, _||_}
+use mathlib.Core.Bool.{Bool, true, false, cond, _&&_, _||_}
 use mathlib.Core.List.{List, [], _∷_}
 use mathlib.Core.Option.{Option, some, none}
-use Rattle.types.specs.declared.SegmentId.{SegmentId}
-use Rattle.keyed.specs.Keyed.{find, holds, insert}
 use Rattle.magnetar.specs.Result.{Result, Ok, _>>=_}
 
 -- ---- Vec
@@ -46,31 +43,12 @@ collect-results (result ∷ rest) = do
   xs ← collect-results rest
   Ok (x ∷ xs)
 
--- ---- BTreeSet<SegmentId>
+-- .iter().filter(test)
+abbrev pub filter : {A : Type 0} → (A → Bool) → List A → List A
+filter test [] = []
+filter test (x ∷ xs) = cond (test x) (x ∷ filter test xs) (filter test xs)
 
-abbrev pub id-key : SegmentId → ℕ
-id-key id = id .0
-
--- ids.insert(id): whether it was not there, and the set then
-abbrev pub is-new : SegmentId → List SegmentId → Bool
-is-new id ids = not (holds id-key (id .0) ids)
-
-abbrev pub with-id : SegmentId → List SegmentId → List SegmentId
-with-id id ids = insert id-key id ids
-
--- ---- BTreeMap<SegmentId, &A>, of values that hold their key
-
--- .collect(): one insert after another
-abbrev pub insert-each : {A : Type 0} → (A → ℕ) → List A → List A → List A
-insert-each key map [] = map
-insert-each key map (v ∷ rest) = insert-each key (insert key v map) rest
-
-abbrev pub collect-map : {A : Type 0} → (A → ℕ) → List A → List A
-collect-map key values = insert-each key [] values
-
--- map.get(&id)
-abbrev pub map-get : {A : Type 0} → (A → ℕ) → SegmentId → List A → Option A
-map-get key id map = find key (id .0) map
+-- ---- Option
 
 -- option.is_none_or(test)
 abbrev pub is-none-or : {A : Type 0} → (A → Bool) → Option A → Bool

@@ -1,10 +1,19 @@
--- scalable_consumer.rs: the kind of a consumer from and to the wire's integer. The kind itself is that of the crate types.
+-- scalable_consumer.rs: the kind of a consumer, compared, and from and to the wire's integer. The kind itself is that
+-- of the crate types.
 -- Assumes nothing.
 use Prim.Native.Nat.{zero, suc}
+use mathlib.Core.Bool.{Bool, true, false}
 use lib.IntN.{ℤ, pos, negsuc}
 use Rattle.types.specs.declared.ScalableConsumerType.{ScalableConsumerType}
 use Rattle.types.specs.declared.ScalableConsumerType.the-variants.{Stream, Checkpoint}
 use Rattle.magnetar.specs.Result.{Result, Ok, Err}
+
+-- #[derive(PartialEq)]
+abbrev pub ScalableConsumerType-eq : ScalableConsumerType → ScalableConsumerType → Bool
+ScalableConsumerType-eq Stream Stream = true
+ScalableConsumerType-eq Stream Checkpoint = false
+ScalableConsumerType-eq Checkpoint Stream = false
+ScalableConsumerType-eq Checkpoint Checkpoint = true
 
 -- pulsar.proto.rs: pb::ScalableConsumerType, a prost::Enumeration; its error is prost::UnknownEnumValue(value)
 pub data pb-ScalableConsumerType : Type 0 where

@@ -1,9 +1,14 @@
 pub mod Result
 pub mod Text
+pub mod Order
+pub mod Numerals
+pub mod Collections
+pub mod BTree
 pub mod Ranges
 pub mod ConsumerType
 pub mod SegmentTopic
-pub mod Collections
 pub mod Assignment
 pub mod Session
 pub mod Watch
+pub mod Documented
+pub mod Rows

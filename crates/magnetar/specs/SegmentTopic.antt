@@ -1,21 +1,17 @@
--- scalable_consumer.rs: names of segments, `SegmentSource`. Hexadecimal (`{:04x}`), decimal (`{}`) and their readers are the plain
--- definitions of the crates topic and segment_source. What is written is an end of a range, which `KeyRange::new` keeps below 2 ^ 16, or an
--- id, a `u64`.
+-- scalable_consumer.rs: names of segments, `SegmentSource`.
 -- Assumes nothing.
-use Prim.Native.Nat.{ℕ, _+_, _-_, _^_}
+use Prim.Native.Nat.{ℕ, _+_, _-_}
 use mathlib.Core.Bool.{Bool, true, false, cond, not, _&&_, _||_}
 use mathlib.Core.List.{List, [], _∷_, _++_}
 use mathlib.Core.Option.{Option, some, none}
 use lib.ListN.{length, take}
-use lib.Dec.{eqb, ltb, leb}
+use lib.Dec.{eqb, leb}
 use Rattle.types.specs.declared.KeyRange.{KeyRange}
 use Rattle.types.specs.declared.KeyRangeError.{KeyRangeError}
 use Rattle.types.specs.declared.SegmentId.{SegmentId}
-use Rattle.parents.specs.Parents.{topicScheme}
-use Rattle.topic.specs.Names.{segmentScheme, hex4, decimal}
-use Rattle.digits.specs.Digits.{decimalValue, hexValue}
 use Rattle.magnetar.specs.Result.{Result, Ok, Err, _>>=_, map-err, ok-or}
 use Rattle.magnetar.specs.Text.{Text, text-eq, is-empty, strip-prefix, contains-any, ends-with, starts-with, all-bytes, Split, rsplit-once, split, splitn}
+use Rattle.magnetar.specs.Numerals.{display, lower-hex-4, u32-from-str-radix, parse-u64}
 use Rattle.magnetar.specs.Ranges.{KeyRange-new}
 
 -- SegmentTopicError (NonCanonical is given by no function)
@@ -29,6 +25,13 @@ pub data SegmentTopicError : Type 0 where
 abbrev pub next-and : (Text → Bool) → (List Text → Bool) → List Text → Bool
 next-and test then [] = false
 next-and test then (part ∷ parts) = test part && then parts
+
+-- "topic://", "segment://"
+abbrev pub topic-scheme : Text
+topic-scheme = 0x74 ∷ 0x6F ∷ 0x70 ∷ 0x69 ∷ 0x63 ∷ 0x3A ∷ 0x2F ∷ 0x2F ∷ []
+
+abbrev pub segment-scheme : Text
+segment-scheme = 0x73 ∷ 0x65 ∷ 0x67 ∷ 0x6D ∷ 0x65 ∷ 0x6E ∷ 0x74 ∷ 0x3A ∷ 0x2F ∷ 0x2F ∷ []
 
 -- '/', '-', '?', '#'
 abbrev pub slash : ℕ
@@ -52,20 +55,20 @@ parts-valid parts =
 
 abbrev pub canonical-parent-path : Text → Result Text SegmentTopicError
 canonical-parent-path parent-topic = do
-  path ← ok-or (InvalidParent parent-topic) (strip-prefix topicScheme parent-topic)
+  path ← ok-or (InvalidParent parent-topic) (strip-prefix topic-scheme parent-topic)
   cond (not (parts-valid (splitn 3 slash path))) (Err (InvalidParent parent-topic)) (Ok path)
 
--- KeyRange::to_hex_string
+-- KeyRange::to_hex_string: format!("{:04x}-{:04x}", self.start, self.end)
 abbrev pub to-hex-string : KeyRange → Text
-to-hex-string self = hex4 (self .start) ++ (dash ∷ hex4 (self .end))
+to-hex-string self = lower-hex-4 (self .start) ++ (dash ∷ lower-hex-4 (self .end))
 
 -- canonical_segment_topic
 abbrev pub canonical-segment-topic : Text → KeyRange → SegmentId → Result Text SegmentTopicError
 canonical-segment-topic parent-topic key-range segment-id = do
   parent-path ← canonical-parent-path parent-topic
-  Ok (segmentScheme ++ (parent-path ++ (slash ∷ (to-hex-string key-range ++ (dash ∷ decimal (segment-id .0))))))
+  Ok (segment-scheme ++ (parent-path ++ (slash ∷ (to-hex-string key-range ++ (dash ∷ display (segment-id .0))))))
 
--- parse_canonical_hex_word: u32::from_str_radix of four such digits is never an error
+-- parse_canonical_hex_word
 abbrev pub is-ascii-digit : ℕ → Bool
 is-ascii-digit byte = leb 0x30 byte && leb byte 0x39
 
@@ -73,16 +76,12 @@ abbrev pub is-hex-byte : ℕ → Bool
 is-hex-byte byte = is-ascii-digit byte || (leb 0x61 byte && leb byte 0x66)
 
 abbrev pub parse-canonical-hex-word : Text → Option ℕ
-parse-canonical-hex-word value = cond (eqb (length value) 4 && all-bytes is-hex-byte value) (some (hexValue value)) none
+parse-canonical-hex-word value = cond (eqb (length value) 4 && all-bytes is-hex-byte value) (u32-from-str-radix 16 value) none
 
 -- is_canonical_decimal
 abbrev pub is-canonical-decimal : Text → Bool
 is-canonical-decimal value =
     not (is-empty value) && (all-bytes is-ascii-digit value && (text-eq value (0x30 ∷ []) || not (starts-with 0x30 value)))
-
--- value.parse::<u64>(), of decimal digits
-abbrev pub parse-u64 : Text → Option ℕ
-parse-u64 value = cond (ltb (decimalValue value) (2 ^ 64)) (some (decimalValue value)) none
 
 -- let (Some(start), Some(end), Some(id), None) = (parts.next(), parts.next(), parts.next(), parts.next()) else { .. };
 pub record Descriptor : Type 0 where
@@ -105,9 +104,9 @@ pub record ParsedTopic : Type 0 where
 -- parse_segment_topic
 abbrev pub parse-segment-topic : Text → Result ParsedTopic SegmentTopicError
 parse-segment-topic topic = do
-  path ← ok-or (InvalidSegment topic) (strip-prefix segmentScheme topic)
+  path ← ok-or (InvalidSegment topic) (strip-prefix segment-scheme topic)
   halves ← ok-or (InvalidSegment topic) (rsplit-once slash path)
-  let parent = topicScheme ++ halves .before
+  let parent = topic-scheme ++ halves .before
   ignored ← canonical-parent-path parent
   descriptor ← ok-or (InvalidSegment topic) (descriptor-of (split dash (halves .behind)))
   start ← ok-or (InvalidSegment topic) (parse-canonical-hex-word (descriptor .start))
@@ -139,4 +138,4 @@ without-end n none = []
 without-end n (some rest) = take (length rest - n) rest
 
 abbrev pub parent-topic : SegmentSource → Text
-parent-topic self = topicScheme ++ without-end (behind-length (rsplit-once slash (self .topic))) (strip-prefix segmentScheme (self .topic))
+parent-topic self = topic-scheme ++ without-end (behind-length (rsplit-once slash (self .topic))) (strip-prefix segment-scheme (self .topic))

@@ -6,7 +6,7 @@
 -- `pb::CommandScalableTopicSubscribeResponse` is `WireResponse`.
 -- Assumes nothing.
 use Prim.Native.Nat.{ℕ, max}
-use mathlib.Core.Bool.{Bool, true, false, cond, not}
+use mathlib.Core.Bool.{Bool, true, false, cond, not, _&&_}
 use mathlib.Core.List.{List, [], _∷_, _++_, map}
 use mathlib.Core.Option.{Option, some, none}
 use lib.ListN.{length}
@@ -18,13 +18,15 @@ use Rattle.types.specs.declared.ScalableConsumerType.{ScalableConsumerType}
 use Rattle.readers.specs.declared.ErrorCode.{ErrorCode}
 use Rattle.readers.specs.declared.ErrorCode.the-variants.{Given, Absent}
 use Rattle.readers.specs.Messages.{WireAssignment, WireUpdate, WireResponse}
-use Rattle.keyed.specs.Keyed.{filter}
 use Rattle.magnetar.specs.Result.{Result, Ok, Err, ok-or}
-use Rattle.magnetar.specs.Text.{Text}
-use Rattle.magnetar.specs.Collections.{collect-map, map-get, is-none-or}
+use Rattle.magnetar.specs.Text.{Text, text-eq}
+use Rattle.magnetar.specs.Collections.{filter, is-none-or}
+use Rattle.magnetar.specs.BTree.{Entry, entry, BTreeMap-get, BTreeMap-from-iter}
+use Rattle.magnetar.specs.ConsumerType.{ScalableConsumerType-eq}
 use Rattle.magnetar.specs.Assignment.{AssignmentError, ConsumerMismatch, StaleEpoch, IncarnationMismatch, NonAdvancingIncarnation}
 use Rattle.magnetar.specs.Assignment.{CrossIncarnationEpochRegression, PreBaselineBufferFull, Broker, Empty, AssignedSegment}
-use Rattle.magnetar.specs.Assignment.{AssignedSegment-eq, ConsumerAssignment, ConsumerAssignment-eq, ConsumerAssignment-try-from-pb}
+use Rattle.magnetar.specs.Assignment.{SegmentId-cmp, AssignedSegment-eq, ConsumerAssignment, ConsumerAssignment-eq}
+use Rattle.magnetar.specs.Assignment.{ConsumerAssignment-try-from-pb}
 
 pub record AssignmentDelta : Type 0 where
   pub layout-epoch : ℕ
@@ -160,6 +162,15 @@ new consumer-id topic subscription consumer-name consumer-type incarnation =
       invalidated = false;
     }
 
+-- ---- matches_registration
+
+abbrev pub matches-registration : ScalableConsumerSession → (topic subscription consumer-name : Text) → ScalableConsumerType → Bool
+matches-registration self topic subscription consumer-name consumer-type =
+    text-eq (self .topic) topic
+    && (text-eq (self .subscription) subscription
+    && (text-eq (self .consumer-name) consumer-name
+    && ScalableConsumerType-eq (self .consumer-type) consumer-type))
+
 -- ---- take_replayed_updates: core::mem::take(&mut self.replayed_updates)
 
 abbrev pub take-replayed-updates : Run (List AssignmentReplay)
@@ -223,21 +234,35 @@ abbrev pub is-some-equal : Option ConsumerAssignment → ConsumerAssignment → 
 is-some-equal none incoming = false
 is-some-equal (some assignment) incoming = ConsumerAssignment-eq assignment incoming
 
--- a map's key: (s.segment_id, s)
-abbrev pub segment-key : AssignedSegment → ℕ
-segment-key s = s .segment-id .0
+-- BTreeMap<SegmentId, &AssignedSegment>
+abbrev pub SegmentMap : Type 0
+SegmentMap = List (Entry SegmentId AssignedSegment)
 
--- self.assignment.as_ref().map(|a| a.segments.iter().map(|s| (s.segment_id, s)).collect()).unwrap_or_default()
-abbrev pub before-map : Option ConsumerAssignment → List AssignedSegment
+-- segments.iter().map(|s| (s.segment_id, s)).collect()
+abbrev pub by-id : AssignedSegment → Entry SegmentId AssignedSegment
+by-id s = entry (s .segment-id) s
+
+abbrev pub segment-map : List AssignedSegment → SegmentMap
+segment-map segments = BTreeMap-from-iter SegmentId-cmp (map by-id segments)
+
+-- self.assignment.as_ref().map(|a| ..).unwrap_or_default()
+abbrev pub before-map : Option ConsumerAssignment → SegmentMap
 before-map none = []
-before-map (some a) = collect-map segment-key (a .segments)
+before-map (some a) = segment-map (a .segments)
 
--- map.get(&s.segment_id).is_none_or(|other| *other != *s)
-abbrev pub none-or-differs : List AssignedSegment → AssignedSegment → Bool
-none-or-differs map s = is-none-or (λ other. not (AssignedSegment-eq other s)) (map-get segment-key (s .segment-id) map)
+-- map.get(&id).is_none_or(|other| *other != *s)
+abbrev pub none-or-differs : SegmentMap → SegmentId → AssignedSegment → Bool
+none-or-differs map id s = is-none-or (λ other. not (AssignedSegment-eq other s)) (BTreeMap-get SegmentId-cmp id map)
 
-abbrev pub id-of : AssignedSegment → SegmentId
-id-of s = s .segment-id
+-- |s| before.get(&s.segment_id).is_none_or(..), |(id, before)| after.get(id).is_none_or(..), |(id, _)| *id
+abbrev pub is-gained : SegmentMap → AssignedSegment → Bool
+is-gained before s = none-or-differs before (s .segment-id) s
+
+abbrev pub is-lost : SegmentMap → Entry SegmentId AssignedSegment → Bool
+is-lost after e = none-or-differs after (e .key) (e .value)
+
+abbrev pub key-of : Entry SegmentId AssignedSegment → SegmentId
+key-of e = e .key
 
 -- self.epoch_floor.map_or(epoch, |floor| floor.max(epoch))
 abbrev pub map-or-max : Option ℕ → ℕ → ℕ
@@ -250,9 +275,9 @@ apply-incoming incoming = do
   lift (refuse-stale (self .assignment) incoming)
   cond (is-some-equal (self .assignment) incoming) (pure none) (do
     let before = before-map (self .assignment)
-    let after = collect-map segment-key (incoming .segments)
-    let gained = filter (none-or-differs before) (incoming .segments)
-    let lost = map id-of (filter (none-or-differs after) before)
+    let after = segment-map (incoming .segments)
+    let gained = filter (is-gained before) (incoming .segments)
+    let lost = map key-of (filter (is-lost after) before)
     let layout-epoch = incoming .layout-epoch
     change (with-assignment (some incoming))
     change (with-epoch-floor (some (map-or-max (self .epoch-floor) layout-epoch)))

@@ -19,7 +19,7 @@ use Rattle.magnetar.specs.Text.{Text}
 use Rattle.magnetar.specs.SegmentTopic.{SegmentTopicError, InvalidParent, InvalidRange, canonical-segment-topic}
 use Rattle.same_names.specs.Agree.{rangeOf, isMarked, outcomeOf, fits, BuildAgrees}
 use Rattle.same_names.proofs.ParentAgrees.{segment-topic-agrees}
-use Rattle.same_names.proofs.RangeAgrees.{new-agrees}
+use Rattle.same_names.proofs.RangeAgrees.{new-agrees, valid-made}
 
 -- a call with the outcome x, whose result in the Rust is r
 abbrev pub Gives : List ℕ → Outcome → Result Text SegmentTopicError → Type 0
@@ -49,14 +49,14 @@ module _ (parent : Text) (id : SegmentId) (out : List ℕ) (m : isMarked parent 
   parent-stage range false = λ h. refl
 
   -- 9
-  range-stage : (x : RangeResult) → Gives out (buildName parent x id out) (behindRange parent id (rangeOf x))
+  range-stage : (s e : ℕ) (x : RangeResult) → newKeyRange s e ≡ x → Gives out (buildName parent x id out) (behindRange parent id (rangeOf x))
   unfolding buildName
-  range-stage (Invalid error) = λ h. refl
-  range-stage (Valid range) =
-      gives-by out _ (segment-topic-agrees parent range id m) (parent-stage range (isParent parent))
+  range-stage s e (Invalid error) p = λ h. refl
+  range-stage s e (Valid range) p =
+      gives-by out _ (segment-topic-agrees parent range id m (valid-made s e range p)) (parent-stage range (isParent parent))
 
 pub build-agrees : BuildAgrees
 unfolding canonicalSegmentTopic
 build-agrees parent s e id out u m =
     let x : Outcome = buildName parent (newKeyRange s e) id out in
-    rw u (gives-by out x (ap (behindRange parent id) (new-agrees s e)) (range-stage parent id out m (newKeyRange s e)))
+    rw u (gives-by out x (ap (behindRange parent id) (new-agrees s e)) (range-stage parent id out m s e (newKeyRange s e) refl))

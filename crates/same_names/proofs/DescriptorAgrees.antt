@@ -18,11 +18,14 @@ use Rattle.parents.specs.Parents.{nonEmpty}
 use Rattle.digits.specs.Digits.{every, allDigits, allHexDigits, decimalValue, hexValue, isHexWord, isSegmentId}
 use Rattle.segment_source.specs.Parse.{startPart, endPart, idPart, isDescriptor}
 use Rattle.digits.proofs.TestLaws.{and-both}
+use Rattle.digits.proofs.DigitLaws.{word-bound}
 use Rattle.magnetar.specs.Result.{Result, Ok, Err, _>>=_, ok-or}
 use Rattle.magnetar.specs.Text.{Text, text-eq, contains, starts-with, all-bytes, head-longer, split}
-use Rattle.magnetar.specs.SegmentTopic.{dash, is-ascii-digit, is-hex-byte, parse-canonical-hex-word, is-canonical-decimal, parse-u64}
+use Rattle.magnetar.specs.Numerals.{u32-from-str-radix, parse-u64}
+use Rattle.magnetar.specs.SegmentTopic.{dash, is-ascii-digit, is-hex-byte, parse-canonical-hex-word, is-canonical-decimal}
 use Rattle.magnetar.specs.SegmentTopic.{Descriptor, descriptor-of}
 use Rattle.same_names.proofs.ClassTests.{dash-test, digit-test, hex-test}
+use Rattle.same_names.proofs.NumeralAgrees.{decimal-number, hex-number}
 
 -- ---- digits
 
@@ -31,10 +34,22 @@ unfolding every
 every-agrees f g h [] = refl
 every-agrees f g h (b ∷ s) = rw (h b, every-agrees f g h s)
 
+word-number : (s : Text) → isHexWord s ≡ true → u32-from-str-radix 16 s ≡ some (hexValue s)
+unfolding isHexWord
+word-number s e =
+    let p = and-both (eqb (length s) 4) (allHexDigits s) e in
+    let b : ltb (hexValue s) (2 ^ 32) ≡ true = lt-ltb (hexValue s) (2 ^ 32) (omega (arith, word-bound s e)) in
+    hex-number (2 ^ 32) s (omega (arith, eqb-true (length s) 4 (p .0))) (p .1) ∙ rw b
+
 pub word-agrees : (s : Text) → parse-canonical-hex-word s ≡ cond (isHexWord s) (some (hexValue s)) none
 unfolding isHexWord
 word-agrees s =
-    ap (λ (t : Bool). cond (eqb (length s) 4 && t) (some (hexValue s)) none) (every-agrees is-hex-byte isHexDigit hex-test s)
+    ap (λ (t : Bool). cond (eqb (length s) 4 && t) (u32-from-str-radix 16 s) none) (every-agrees is-hex-byte isHexDigit hex-test s)
+    ∙ go (isHexWord s) refl
+  where
+    go : (t : Bool) → isHexWord s ≡ t → cond t (u32-from-str-radix 16 s) none ≡ cond t (some (hexValue s)) none
+    go true e = word-number s e
+    go false e = refl
 
 -- one digit, or no leading zero; the Rust: "0", or no leading zero
 abbrev led : Text → Bool
@@ -60,16 +75,21 @@ pub id-agrees : {E : Type 0} (e : E) (s : Text)
 unfolding isSegmentId
 id-agrees {E} e s =
     ap (λ (t : Bool). cond (not t) (Err e) (ok-or e (parse-u64 s))) (decimal-agrees s)
-    ∙ go (nonEmpty s) (allDigits s) (led s) (ltb (decimalValue s) (2 ^ 64))
+    ∙ go (nonEmpty s) refl (allDigits s) refl (led s)
   where
-    go : (t u v w : Bool)
-        → cond {A = Result ℕ E} (not (t && (u && v))) (Err e) (ok-or e (cond w (some (decimalValue s)) none))
-        ≡ cond (t && (u && (v && w))) (Ok (decimalValue s)) (Err e)
-    go true true true true = refl
-    go true true true false = refl
-    go true true false w = refl
-    go true false v w = refl
-    go false u v w = refl
+    fits : (w : Bool)
+        → ok-or {E = E} e (cond w (some (decimalValue s)) none) ≡ cond w (Ok (decimalValue s)) (Err e)
+    fits true = refl
+    fits false = refl
+
+    go : (t : Bool) → nonEmpty s ≡ t → (u : Bool) → allDigits s ≡ u → (v : Bool)
+        → cond {A = Result ℕ E} (not (t && (u && v))) (Err e) (ok-or e (parse-u64 s))
+        ≡ cond (t && (u && (v && ltb (decimalValue s) (2 ^ 64)))) (Ok (decimalValue s)) (Err e)
+    go true p true q true =
+        ap (ok-or e) (decimal-number (2 ^ 64) s (ltb-true 0 (length s) p) q) ∙ fits (ltb (decimalValue s) (2 ^ 64))
+    go true p true q false = refl
+    go true p false q v = refl
+    go false p u q v = refl
 
 -- ---- the split at '-'
 

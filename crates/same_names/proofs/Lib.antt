@@ -1,6 +1,8 @@
+pub mod TextAgrees
 pub mod ClassTests
-pub mod ParentAgrees
+pub mod NumeralAgrees
 pub mod RangeAgrees
+pub mod ParentAgrees
 pub mod BuildAgrees
 pub mod DescriptorAgrees
 pub mod ParseAgrees

@@ -4,7 +4,7 @@
 -- In order: a prefix stripped (`strip-agrees`); the split at the first '/' (`split-once-agrees`); the tests of a path's parts; a path
 -- (`path-agrees`, `path-unmarked`); the theorems.
 -- Assumes nothing.
-use Prim.Native.Nat.{ℕ, suc, _-_}
+use Prim.Native.Nat.{ℕ, suc, _-_, _<_}
 use native.Mathlib.Omega.{arith}
 use mathlib.Core.Path.{_≡_, refl, sym, ap, _∙_}
 use mathlib.Core.Bool.{Bool, true, false, cond, not, _&&_, _||_, and-true, and-false, true≢false}
@@ -20,12 +20,17 @@ use Rattle.parents.specs.Parents.{isPath, isParent, pathOf}
 use Rattle.topic.specs.Names.{segmentScheme, hex4, decimal, descriptor, segmentTopic}
 use Rattle.segment_source.specs.Parse.{hasSlash}
 use Rattle.digits.proofs.TestLaws.{and-both}
+use Rattle.types.specs.declared.KeyRange.{KeyRange}
+use Rattle.types.specs.declared.SegmentId.{SegmentId}
 use Rattle.magnetar.specs.Result.{Result, Ok, Err, _>>=_, ok-or}
 use Rattle.magnetar.specs.Text.{Text, is-empty, strip-prefix, contains-any, ends-with, Split, longer, split-once, splitn-from, splitn}
+use Rattle.magnetar.specs.Numerals.{display}
 use Rattle.magnetar.specs.SegmentTopic.{SegmentTopicError, InvalidParent, slash, dash, question, hash, next-and, parts-valid}
-use Rattle.magnetar.specs.SegmentTopic.{to-hex-string}
-use Rattle.same_names.specs.Agree.{isMarkedPath, MarkedDiffers, ParentAgrees, SegmentTopicAgrees}
+use Rattle.magnetar.specs.SegmentTopic.{to-hex-string, canonical-segment-topic}
+use Rattle.same_names.specs.Agree.{isMarked, isMarkedPath, MarkedDiffers, ParentAgrees, SegmentTopicAgrees}
 use Rattle.same_names.proofs.ClassTests.{slash-test, mark-test}
+use Rattle.same_names.proofs.NumeralAgrees.{display-agrees, hex-agrees}
+use Rattle.same_names.proofs.RangeAgrees.{new-bounds}
 
 -- ---- a prefix
 
@@ -172,18 +177,26 @@ marked-differs t m =
       rw (p .0, q .0, not-true (frontClean (pathOf t)) (q .1)),
     )
 
-pub segment-topic-agrees : SegmentTopicAgrees
+-- of a range whose ends have four digits
+named-agrees : (t : Text) (range : KeyRange) (id : SegmentId) → isMarked t ≡ false → range .start < 65536 → range .end < 65536
+    → canonical-segment-topic t range id ≡ cond (isParent t) (Ok (segmentTopic (pathOf t) range id)) (Err (InvalidParent t))
 unfolding segmentTopic descriptor
-segment-topic-agrees t range id m =
+named-agrees t range id m s e =
     ap (λ (r : Result Text SegmentTopicError). r >>= (λ path. Ok (name path))) (parent-agrees t m) ∙ go (isParent t)
   where
     name : Text → Text
-    name path = segmentScheme ++ (path ++ (slash ∷ (to-hex-string range ++ (dash ∷ decimal (id .0)))))
+    name path = segmentScheme ++ (path ++ (slash ∷ (to-hex-string range ++ (dash ∷ display (id .0)))))
 
     go : (u : Bool)
         → (cond u (Ok (pathOf t)) (Err (InvalidParent t)) >>= (λ path. Ok (name path)))
         ≡ cond u (Ok (segmentTopic (pathOf t) range id)) (Err (InvalidParent t))
     go true =
         ap (λ (l : List ℕ). Ok (segmentScheme ++ (pathOf t ++ (slash ∷ l))))
-        (append-assoc (hex4 (range .start)) (dash ∷ hex4 (range .end)) (dash ∷ decimal (id .0)))
+        (rw (hex-agrees (range .start) s, hex-agrees (range .end) e, display-agrees (id .0))
+        (append-assoc (hex4 (range .start)) (dash ∷ hex4 (range .end)) (dash ∷ decimal (id .0))))
     go false = refl
+
+pub segment-topic-agrees : SegmentTopicAgrees
+segment-topic-agrees t range id m made =
+    let b = new-bounds (range .start) (range .end) range made in
+    named-agrees t range id m (omega (arith, b .order, b .bound)) (omega (arith, b .bound))

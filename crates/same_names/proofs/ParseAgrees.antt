@@ -29,7 +29,8 @@ use Rattle.magnetar.specs.Result.{Result, Ok, Err, _>>=_, map-err, ok-or}
 use Rattle.magnetar.specs.Text.{Text, Split, rsplit-from, rsplit-once, split}
 use Rattle.magnetar.specs.Ranges.{KeyRange-new}
 use Rattle.magnetar.specs.SegmentTopic.{SegmentTopicError, InvalidParent, InvalidSegment, InvalidRange, slash, dash}
-use Rattle.magnetar.specs.SegmentTopic.{canonical-parent-path, parse-canonical-hex-word, is-canonical-decimal, parse-u64}
+use Rattle.magnetar.specs.Numerals.{parse-u64}
+use Rattle.magnetar.specs.SegmentTopic.{canonical-parent-path, parse-canonical-hex-word, is-canonical-decimal}
 use Rattle.magnetar.specs.SegmentTopic.{Descriptor, descriptor-of, ParsedTopic}
 use Rattle.same_names.specs.Agree.{paper, rangeOf, readOf, isMarkedPath, ParseAgrees}
 use Rattle.same_names.proofs.ClassTests.{slash-test}

@@ -1,5 +1,6 @@
--- Ranges, the calls on them and the kind of a consumer are the Rust's (`new-agrees`, `length-agrees`, `contains-agrees`,
--- `contains-range-agrees`, `adjacent-agrees`, `to-wire-agrees`, `from-wire-agrees`).
+-- Ranges, the calls on them and the kind of a consumer are the Rust's (`new-agrees`, `length-agrees`,
+-- `contains-agrees`, `contains-range-agrees`, `adjacent-agrees`, `to-wire-agrees`, `from-wire-agrees`). What a range
+-- that `KeyRange::new` makes is: `new-bounds`.
 --
 -- `is_adjacent_to` tests first that a range does not end at the highest value. Where it does, no range that `KeyRange::new` makes starts
 -- behind it (`touches-agrees`).
@@ -19,12 +20,12 @@ use Rattle.types.specs.declared.RangeResult.the-variants.{Valid, Invalid}
 use Rattle.types.specs.declared.ScalableConsumerType.the-variants.{Stream, Checkpoint}
 use Rattle.types.specs.KeyRanges.{maxHash, keyRange, newKeyRange}
 use Rattle.types.specs.ConsumerTypes.{toWire, fromWire}
-use Rattle.types.proofs.KeyRangeLaws.{new-valid}
+use Rattle.types.proofs.KeyRangeLaws.{Makes, new-valid}
 use Rattle.refusal.specs.declared.Refusal.the-variants.{InvalidKeyRange}
 use Rattle.key_range.specs.Calls.{holdsRange, touches, lengthBy, testBy, pairBy, testBoth}
 use Rattle.key_range.specs.Calls.{lengthOf, containsOf, containsRangeOf, isAdjacentOf}
 use Rattle.magnetar.specs.Result.{Result, Ok, Err, _>>=_, map-err}
-use Rattle.magnetar.specs.Ranges.{MAX-HASH, KeyRange-len, KeyRange-contains, KeyRange-contains-range, KeyRange-is-adjacent-to}
+use Rattle.magnetar.specs.Ranges.{MAX-HASH, KeyRange-new, KeyRange-len, KeyRange-contains, KeyRange-contains-range, KeyRange-is-adjacent-to}
 use Rattle.same_names.specs.Agree.{both, rangeOf, lengthTold, testTold, NewAgrees, LengthAgrees, ContainsAgrees, ContainsRangeAgrees}
 use Rattle.same_names.specs.Agree.{AdjacentAgrees, ToWireAgrees, FromWireAgrees}
 
@@ -40,6 +41,19 @@ new-agrees s e = go (ltb maxHash s) (ltb maxHash e) (ltb e s)
     go false true v = refl
     go false false true = refl
     go false false false = refl
+
+pub new-bounds : (s e : ℕ) (r : KeyRange) → KeyRange-new s e ≡ Ok r → Makes s e r
+new-bounds s e r made = go (newKeyRange s e) refl (sym (new-agrees s e) ∙ made)
+  where
+    go : (x : RangeResult) → newKeyRange s e ≡ x → rangeOf x ≡ Ok r → Makes s e r
+    go (Valid range) p q = let z : range ≡ r = cc in new-valid s e r (p ∙ ap Valid z)
+    go (Invalid error) p q = let z : _≡_ {A = ℕ} 0 1 = cc in absurd (omega arith)
+
+-- the range that this port makes is made by the Rust of its own ends
+pub valid-made : (s e : ℕ) (r : KeyRange) → newKeyRange s e ≡ Valid r → KeyRange-new (r .start) (r .end) ≡ Ok r
+valid-made s e r v =
+    let m = new-valid s e r v .made in
+    ap (λ (x : KeyRange). KeyRange-new (x .start) (x .end)) m ∙ new-agrees s e ∙ ap rangeOf v
 
 -- ---- calls on one range
 

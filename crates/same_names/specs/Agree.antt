@@ -82,10 +82,10 @@ MarkedDiffers = (t : Text) → isMarked t ≡ true → (canonical-parent-path t 
 abbrev pub ParentAgrees : Type 0
 ParentAgrees = (t : Text) → isMarked t ≡ false → canonical-parent-path t ≡ cond (isParent t) (Ok (pathOf t)) (Err (InvalidParent t))
 
--- `canonical_segment_topic`
+-- `canonical_segment_topic`, of a range that `KeyRange::new` has made
 abbrev pub SegmentTopicAgrees : Type 0
 SegmentTopicAgrees =
-    (t : Text) (range : KeyRange) (id : SegmentId) → isMarked t ≡ false
+    (t : Text) (range : KeyRange) (id : SegmentId) → isMarked t ≡ false → KeyRange-new (range .start) (range .end) ≡ Ok range
     → canonical-segment-topic t range id ≡ cond (isParent t) (Ok (segmentTopic (pathOf t) range id)) (Err (InvalidParent t))
 
 -- a call with an output: the text at its front and the text's length, or a refusal and the output as it was

@@ -1,5 +1,5 @@
 -- What an assignment of a message comes to: the Rust's `ConsumerAssignment::try_from_pb` refuses and takes it as this port does
--- (`content-agrees`).
+-- (`content-agrees`; `taken-agrees`, of one that this port takes).
 --
 -- The Rust keeps the ids in a set, pushes each segment and sorts at the end; this port inserts each in its place. In order: the loop
 -- (`segments-agree`); sorting with one more at the end (`sort-snoc`); the sorted segments are the inserted ones (`order-agrees`).
@@ -14,24 +14,28 @@ use lib.Dec.{eqb, ltb, leb}
 use borrow.Author.Tests.{ltb-true, ltb-false, leb-true, leb-false, eqb-false, le-leb, lt-leb}
 use Rattle.types.specs.declared.SegmentId.{SegmentId}
 use Rattle.refusal.specs.declared.Refusal.{Refusal}
+use Rattle.refusal.specs.declared.Refusal.the-variants.{AssignmentTooLong}
 use Rattle.readers.specs.Messages.{WireSegment, WireAssignment}
 use Rattle.keyed.specs.Keyed.{orElse, isSome, self, find, holds, insert}
 use Rattle.keyed.proofs.KeyedLaws.{choose, find-insert}
 use Rattle.packed.specs.Assignment as port
-use Rattle.packed.specs.Assignment.{idOf}
+use Rattle.packed.specs.Assignment.{idOf, sizeAssignment, slotSize}
 use Rattle.content.specs.Content.{wireId, segmentFault, duplicateFault, firstRefusal, assignedSegment, inIdOrder, consumerAssignment}
+use Rattle.content.specs.Content.{refused, taken, contentBy, contentOf}
 use Rattle.content.proofs.OrderLaws.{First, refusal-none, SeenIds, seen-start, seen-next, seen-held}
+use Rattle.magnetar.specs.Result.{Result, Ok, Err, map-err}
 use Rattle.magnetar.specs.Text.{Text}
-use Rattle.magnetar.specs.Collections.{insert-by, sort-by, id-key, is-new, with-id}
-use Rattle.magnetar.specs.Assignment.{DuplicateSegment, AssignedSegment, AssignedSegment-try-from-pb, segments-loop, id-le}
-use Rattle.magnetar.specs.Assignment.{ConsumerAssignment-try-from-pb}
-use Rattle.magnetar.specs.Session.{segment-key}
+use Rattle.magnetar.specs.Collections.{insert-by, sort-by}
+use Rattle.magnetar.specs.BTree.{BTreeSet-contains, BTreeSet-insert, BTreeSet-is-new}
+use Rattle.magnetar.specs.Assignment.{DuplicateSegment, SegmentId-cmp, AssignedSegment, AssignedSegment-try-from-pb, segments-loop, id-le}
+use Rattle.magnetar.specs.Assignment.{AssignmentError, ConsumerAssignment, ConsumerAssignment-try-from-pb}
 use Rattle.same_names.specs.Agree.{isMarked}
 use Rattle.same_session.specs.Paper.{paper}
 use Rattle.same_session.specs.Values.{asSegment, asAssignment}
 use Rattle.same_session.proofs.Verdicts.{verdict, Agreed, seq-agreed, test-agreed, or-none}
 use Rattle.same_session.proofs.OursLaws.{Ours}
 use Rattle.same_session.proofs.SegmentAgrees.{segment-agrees}
+use Rattle.same_session.proofs.TreeAgrees.{id-key, contains-agrees, insert-agrees}
 
 -- ---- the loop
 
@@ -39,8 +43,9 @@ use Rattle.same_session.proofs.SegmentAgrees.{segment-agrees}
 abbrev SameIds : List SegmentId → List ℕ → Type 0
 SameIds ids seen = (k : ℕ) → holds id-key k ids ≡ holds self k seen
 
-same-ids : (ids : List SegmentId) (seen : List ℕ) (id : SegmentId) → SameIds ids seen → SameIds (with-id id ids) (id .0 ∷ seen)
-same-ids ids seen id h k = ap isSome (find-insert id-key k id ids) ∙ go (eqb k (id .0))
+same-ids : (ids : List SegmentId) (seen : List ℕ) (id : SegmentId) → SameIds ids seen
+    → SameIds (BTreeSet-insert SegmentId-cmp id ids) (id .0 ∷ seen)
+same-ids ids seen id h k = ap (holds id-key k) (insert-agrees id ids) ∙ ap isSome (find-insert id-key k id ids) ∙ go (eqb k (id .0))
   where
     go : (t : Bool) → isSome (cond t (some id) (find id-key k ids)) ≡ isSome (cond t (some (id .0)) (find self k seen))
     go true = refl
@@ -59,13 +64,17 @@ module _ (parent : Text) (m : isMarked parent ≡ false) where
   segments-agree (w ∷ ws) segments ids seen h =
       seq-agreed Ours paper (AssignedSegment-try-from-pb w parent) (segmentFault parent w) x (segment-agrees parent m w) _
       (orElse (duplicateFault seen w) later) (segments ++ (x ∷ asTheyCame parent ws)) (λ n.
-      test-agreed Ours paper (not (is-new (wireId w) ids)) (holds self (w .segmentId) seen)
-      (Bool·not-not (holds id-key (w .segmentId) ids) ∙ h (w .segmentId)) (DuplicateSegment (wireId w))
-      (segments-loop parent ws (segments ++ (x ∷ [])) (with-id (wireId w) ids)) later (segments ++ (x ∷ asTheyCame parent ws)) (λ u.
-      subst (Agreed Ours paper (segments-loop parent ws (segments ++ (x ∷ [])) (with-id (wireId w) ids)) later)
+      test-agreed Ours paper (not (BTreeSet-is-new SegmentId-cmp (wireId w) ids)) (holds self (w .segmentId) seen)
+      (Bool·not-not (BTreeSet-contains SegmentId-cmp (wireId w) ids) ∙ contains-agrees (wireId w) ids ∙ h (w .segmentId))
+      (DuplicateSegment (wireId w))
+      (segments-loop parent ws (segments ++ (x ∷ [])) more) later (segments ++ (x ∷ asTheyCame parent ws)) (λ u.
+      subst (Agreed Ours paper (segments-loop parent ws (segments ++ (x ∷ [])) more) later)
       (append-assoc segments (x ∷ []) (asTheyCame parent ws))
-      (segments-agree ws (segments ++ (x ∷ [])) (with-id (wireId w) ids) (w .segmentId ∷ seen) (same-ids ids seen (wireId w) h))))
+      (segments-agree ws (segments ++ (x ∷ [])) more (w .segmentId ∷ seen) (same-ids ids seen (wireId w) h))))
     where
+      more : List SegmentId
+      more = BTreeSet-insert SegmentId-cmp (wireId w) ids
+
       x : AssignedSegment
       x = asSegment parent (assignedSegment w)
 
@@ -73,6 +82,9 @@ module _ (parent : Text) (m : isMarked parent ≡ false) where
       later = firstRefusal parent (w .segmentId ∷ seen) ws
 
 -- ---- sorting, with one more at the end
+
+abbrev segment-key : AssignedSegment → ℕ
+segment-key s = s .segment-id .0
 
 other-way : (a b : ℕ) → (a ≡ b → ⊥) → leb a b ≡ true → leb b a ≡ false
 other-way a b n e = lt-leb b a (omega (arith, leb-true a b e, n))
@@ -148,12 +160,12 @@ sort-snoc (a ∷ l) x h =
 -- ---- sorted, and inserted one by one
 
 module _ (parent : Text) where
-  insert-agrees : (g : port.AssignedSegment) (l : List port.AssignedSegment) → holds idOf (g .segmentId) l ≡ false
+  sorted-insert : (g : port.AssignedSegment) (l : List port.AssignedSegment) → holds idOf (g .segmentId) l ≡ false
       → insert-by id-le (asSegment parent g) (map (asSegment parent) l) ≡ map (asSegment parent) (insert idOf g l)
-  insert-agrees g [] h = refl
-  insert-agrees g (y ∷ ys) h =
+  sorted-insert g [] h = refl
+  sorted-insert g (y ∷ ys) h =
       let n = not-first (eqb (g .segmentId) (y .segmentId)) y (find idOf (g .segmentId) ys) h in
-      go (ltb (g .segmentId) (y .segmentId)) refl (n .0) (insert-agrees g ys (n .1))
+      go (ltb (g .segmentId) (y .segmentId)) refl (n .0) (sorted-insert g ys (n .1))
     where
       go : (b : Bool) → ltb (g .segmentId) (y .segmentId) ≡ b → eqb (g .segmentId) (y .segmentId) ≡ false
           → insert-by id-le (asSegment parent g) (map (asSegment parent) ys) ≡ map (asSegment parent) (insert idOf g ys)
@@ -201,7 +213,7 @@ module _ (parent : Text) where
           ∙ holds-as (assignedSegment w .segmentId) done ∙ fresh
 
       next : sort-by id-le (segments ++ (x ∷ [])) ≡ map (asSegment parent) (insert idOf g done)
-      next = sort-snoc segments x absent ∙ ap (insert-by id-le x) e ∙ insert-agrees g done fresh
+      next = sort-snoc segments x absent ∙ ap (insert-by id-le x) e ∙ sorted-insert g done fresh
 
 -- ---- the assignment
 
@@ -217,3 +229,33 @@ content-agrees parent a m =
     (λ n.
     Agreed.agree (ap (λ l. verdict none (record { layout-epoch = a .layoutEpoch; segments = l }))
     (order-agrees parent (a .segments) [] [] [] refl seen-start n))))
+
+-- ---- an assignment that this port takes
+
+refused-taken : {A : Type 0} {x : Refusal} {a : port.ConsumerAssignment} → refused x ≡ taken a → A
+refused-taken e = let z : _≡_ {A = ℕ} 0 1 = cc in absurd (omega arith)
+
+fits-taken : (t : Bool) (c a : port.ConsumerAssignment) → cond t (taken c) (refused AssignmentTooLong) ≡ taken a → c ≡ a
+fits-taken true c a e = cc
+fits-taken false c a e = refused-taken e
+
+ok-agreed : (m : Result ConsumerAssignment AssignmentError) (x : ConsumerAssignment) → map-err paper m ≡ Ok x → m ≡ Ok x
+ok-agreed (Ok y) x e = let p : y ≡ x = cc in ap (λ (b : ConsumerAssignment). Ok b) p
+ok-agreed (Err y) x e = let z : _≡_ {A = ℕ} 0 1 = cc in absurd (omega arith)
+
+pub taken-agrees : (parent : Text) (w : WireAssignment) (a : port.ConsumerAssignment) → isMarked parent ≡ false → contentOf parent w ≡ taken a
+    → ConsumerAssignment-try-from-pb w parent ≡ Ok (asAssignment parent a)
+unfolding contentOf
+taken-agrees parent w a m e = go (firstRefusal parent [] (w .segments)) e (content-agrees parent w m)
+  where
+    c : port.ConsumerAssignment
+    c = consumerAssignment w
+
+    go : (o : Option Refusal) → contentBy o c ≡ taken a
+        → Agreed Ours paper (ConsumerAssignment-try-from-pb w parent) o (asAssignment parent c)
+        → ConsumerAssignment-try-from-pb w parent ≡ Ok (asAssignment parent a)
+    go (some x) e g = refused-taken e
+    go none e (Agreed.agree f) =
+        ok-agreed (ConsumerAssignment-try-from-pb w parent) (asAssignment parent c) f
+        ∙ ap (λ (b : port.ConsumerAssignment). Ok (asAssignment parent b)) (fits-taken (leb (sizeAssignment c) slotSize) c a e)
+    go none e (Agreed.mine x p q) = let z : _≡_ {A = ℕ} 0 1 = cc in absurd (omega arith)

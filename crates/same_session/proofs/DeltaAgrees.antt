@@ -9,7 +9,7 @@ use mathlib.Core.Option.{Option, some, none, Option·map}
 use lib.Dec.{eqb}
 use borrow.Author.Tests.{eqb-true}
 use Rattle.types.specs.declared.KeyRange.{KeyRange}
-use Rattle.keyed.specs.Keyed.{orElse, filter, Rising, find, insert}
+use Rattle.keyed.specs.Keyed.{orElse, Rising, find}
 use Rattle.keyed.proofs.KeyedLaws.{find-insert, find-below, rising-insert, extensional}
 use Rattle.parts.proofs.SameLaws.{same-refl}
 use Rattle.packed.specs.Assignment as port
@@ -20,13 +20,16 @@ use Rattle.delta.specs.Change.{hasSame, without, deltaBetween}
 use Rattle.delta.specs.Join.{Proper}
 use Rattle.delta.proofs.DeltaLaws.{identical, same-found}
 use Rattle.magnetar.specs.Text.{Text, text-eq}
-use Rattle.magnetar.specs.Collections.{Vec-eq, insert-each, collect-map, is-none-or}
+use Rattle.types.specs.declared.SegmentId.{SegmentId}
+use Rattle.magnetar.specs.Collections.{Vec-eq, filter, is-none-or}
+use Rattle.magnetar.specs.BTree.{BTreeMap-get, BTreeMap-insert, BTreeMap-extend}
 use Rattle.magnetar.specs.Ranges.{KeyRange-eq}
-use Rattle.magnetar.specs.Assignment.{AssignedSegment, AssignedSegment-eq, ConsumerAssignment, ConsumerAssignment-eq}
-use Rattle.magnetar.specs.Session.{AssignmentDelta, segment-key, none-or-differs, id-of}
+use Rattle.magnetar.specs.Assignment.{SegmentId-cmp, AssignedSegment, AssignedSegment-eq, ConsumerAssignment, ConsumerAssignment-eq}
+use Rattle.magnetar.specs.Session.{AssignmentDelta, SegmentMap, by-id, segment-map, is-gained, is-lost, key-of}
+use Rattle.same_names.proofs.TextAgrees.{text-same}
 use Rattle.same_session.specs.Values.{asId, asSegment, asAssignment, asDelta}
 use Rattle.same_session.proofs.Verdicts.{or-none}
-use Rattle.same_session.proofs.SegmentAgrees.{text-same}
+use Rattle.same_session.proofs.TreeAgrees.{eq-test, entry-key, map-insert-agrees, filter-agrees}
 
 -- ---- equality
 
@@ -84,50 +87,57 @@ same-swap g h = go (sameSegment g h) refl (sameSegment h g) refl
 
 -- ---- maps
 
-find-each : (k : ℕ) (m xs : List AssignedSegment) → Rising segment-key xs
-    → find segment-key k (insert-each segment-key m xs) ≡ orElse (find segment-key k xs) (find segment-key k m)
+find-each : (k : ℕ) (m xs : SegmentMap) → Rising entry-key xs
+    → find entry-key k (BTreeMap-extend SegmentId-cmp m xs) ≡ orElse (find entry-key k xs) (find entry-key k m)
 find-each k m [] r = refl
 find-each k m (x ∷ xs) r =
-    find-each k (insert segment-key x m) xs (r .1) ∙ ap (orElse (find segment-key k xs)) (find-insert segment-key k x m)
-    ∙ go (eqb k (segment-key x)) refl
+    find-each k (BTreeMap-insert SegmentId-cmp (x .key) (x .value) m) xs (r .1)
+    ∙ ap (λ (l : SegmentMap). orElse (find entry-key k xs) (find entry-key k l)) (map-insert-agrees (x .key) (x .value) m)
+    ∙ ap (orElse (find entry-key k xs)) (find-insert entry-key k x m)
+    ∙ go (eqb k (entry-key x)) refl
   where
-    go : (b : Bool) → eqb k (segment-key x) ≡ b
-        → orElse (find segment-key k xs) (cond b (some x) (find segment-key k m))
-        ≡ orElse (cond b (some x) (find segment-key k xs)) (find segment-key k m)
+    go : (b : Bool) → eqb k (entry-key x) ≡ b
+        → orElse (find entry-key k xs) (cond b (some x) (find entry-key k m))
+        ≡ orElse (cond b (some x) (find entry-key k xs)) (find entry-key k m)
     go true e =
         ap (λ o. orElse o (some x))
-        (find-below segment-key k (segment-key x) xs (omega (arith, eqb-true k (segment-key x) e)) (r .0) (r .1))
+        (find-below entry-key k (entry-key x) xs (omega (arith, eqb-true k (entry-key x) e)) (r .0) (r .1))
     go false e = refl
 
-rising-each : (m xs : List AssignedSegment) → Rising segment-key m → Rising segment-key (insert-each segment-key m xs)
+rising-each : (m xs : SegmentMap) → Rising entry-key m → Rising entry-key (BTreeMap-extend SegmentId-cmp m xs)
 rising-each m [] r = r
-rising-each m (x ∷ xs) r = rising-each (insert segment-key x m) xs (rising-insert segment-key x m r)
+rising-each m (x ∷ xs) r =
+    rising-each (BTreeMap-insert SegmentId-cmp (x .key) (x .value) m) xs
+    (subst (Rising entry-key) (sym (map-insert-agrees (x .key) (x .value) m)) (rising-insert entry-key x m r))
 
 -- the map of a rising list is the list
-collect-rising : (xs : List AssignedSegment) → Rising segment-key xs → collect-map segment-key xs ≡ xs
+collect-rising : (xs : SegmentMap) → Rising entry-key xs → BTreeMap-extend SegmentId-cmp [] xs ≡ xs
 collect-rising xs r =
-    extensional segment-key (collect-map segment-key xs) xs (rising-each [] xs tt) r
-    (λ k. find-each k [] xs r ∙ or-none (find segment-key k xs))
+    extensional entry-key (BTreeMap-extend SegmentId-cmp [] xs) xs (rising-each [] xs tt) r
+    (λ k. find-each k [] xs r ∙ or-none (find entry-key k xs))
 
-rising-as : (t : Text) (gs : List port.AssignedSegment) → Rising idOf gs → Rising segment-key (map (asSegment t) gs)
+-- the entries of the segments
+abbrev asEntries : Text → List port.AssignedSegment → SegmentMap
+asEntries t gs = map by-id (map (asSegment t) gs)
+
+rising-as : (t : Text) (gs : List port.AssignedSegment) → Rising idOf gs → Rising entry-key (asEntries t gs)
 rising-as t [] r = tt
 rising-as t (g ∷ []) r = (tt, tt)
 rising-as t (g ∷ (h ∷ gs)) r = (r .0, rising-as t (h ∷ gs) (r .1))
 
-collected : (t : Text) (gs : List port.AssignedSegment) → Rising idOf gs
-    → collect-map segment-key (map (asSegment t) gs) ≡ map (asSegment t) gs
-collected t gs r = collect-rising (map (asSegment t) gs) (rising-as t gs r)
+collected : (t : Text) (gs : List port.AssignedSegment) → Rising idOf gs → segment-map (map (asSegment t) gs) ≡ asEntries t gs
+collected t gs r = collect-rising (asEntries t gs) (rising-as t gs r)
 
 -- ---- deltas
 
-find-as : (t : Text) (k : ℕ) (gs : List port.AssignedSegment)
-    → find segment-key k (map (asSegment t) gs) ≡ Option·map (asSegment t) (find idOf k gs)
-find-as t k [] = refl
-find-as t k (g ∷ gs) = go (eqb k (g .segmentId)) (find-as t k gs)
+find-as : (t : Text) (id : SegmentId) (gs : List port.AssignedSegment)
+    → BTreeMap-get SegmentId-cmp id (asEntries t gs) ≡ Option·map (asSegment t) (find idOf (id .0) gs)
+find-as t id [] = refl
+find-as t id (g ∷ gs) = rw (eq-test (id .0) (g .segmentId)) (go (eqb (id .0) (g .segmentId)) (find-as t id gs))
   where
-    go : (b : Bool) → find segment-key k (map (asSegment t) gs) ≡ Option·map (asSegment t) (find idOf k gs)
-        → cond b (some (asSegment t g)) (find segment-key k (map (asSegment t) gs))
-        ≡ Option·map (asSegment t) (cond b (some g) (find idOf k gs))
+    go : (b : Bool) → BTreeMap-get SegmentId-cmp id (asEntries t gs) ≡ Option·map (asSegment t) (find idOf (id .0) gs)
+        → cond b (some (asSegment t g)) (BTreeMap-get SegmentId-cmp id (asEntries t gs))
+        ≡ Option·map (asSegment t) (cond b (some g) (find idOf (id .0) gs))
     go true ih = refl
     go false ih = ih
 
@@ -148,38 +158,44 @@ filter-as f p q e (x ∷ xs) = go (p (f x)) (q x) (e x) (filter-as f p q e xs)
     go false true z ih = absurd (false≢true z)
     go false false z ih = ih
 
-ids-as : (t : Text) (gs : List port.AssignedSegment) → map id-of (map (asSegment t) gs) ≡ map asId (map idOf gs)
+-- entries that are lost are those of segments that are
+lost-as : (after : SegmentMap) (xs : List AssignedSegment) → filter (is-lost after) (map by-id xs) ≡ map by-id (filter (is-gained after) xs)
+lost-as after xs = filter-as by-id (is-lost after) (is-gained after) (λ x. refl) xs
+
+ids-as : (t : Text) (gs : List port.AssignedSegment) → map key-of (asEntries t gs) ≡ map asId (map idOf gs)
 ids-as t [] = refl
 ids-as t (g ∷ gs) = ap (asId (g .segmentId) ∷_) (ids-as t gs)
 
 -- the segments of gs without an identical one in hs
 without-agrees : (t : Text) (gs hs : List port.AssignedSegment) → Rising idOf hs
-    → filter (none-or-differs (collect-map segment-key (map (asSegment t) hs))) (map (asSegment t) gs) ≡ map (asSegment t) (without gs hs)
+    → filter (is-gained (segment-map (map (asSegment t) hs))) (map (asSegment t) gs) ≡ map (asSegment t) (without gs hs)
 unfolding without
 without-agrees t gs hs r =
-    filter-as (asSegment t) (none-or-differs (collect-map segment-key (map (asSegment t) hs))) (λ g. not (hasSame hs g)) (λ g.
-    ap (λ m. none-or-differs m (asSegment t g)) (collected t hs r)
-    ∙ ap (is-none-or (λ other. not (AssignedSegment-eq other (asSegment t g)))) (find-as t (g .segmentId) hs)
+    filter-as (asSegment t) (is-gained (segment-map (map (asSegment t) hs))) (λ g. not (hasSame hs g)) (λ g.
+    ap (λ m. is-gained m (asSegment t g)) (collected t hs r)
+    ∙ ap (is-none-or (λ other. not (AssignedSegment-eq other (asSegment t g)))) (find-as t (asId (g .segmentId)) hs)
     ∙ differs t (find idOf (g .segmentId) hs) g
     ∙ ap not (sym (same-found hs g r))) gs
+    ∙ ap (map (asSegment t)) (filter-agrees (λ g. not (hasSame hs g)) gs)
 
 -- what `apply_incoming` computes
 abbrev pub rustDelta : List AssignedSegment → List AssignedSegment → ℕ → AssignmentDelta
 rustDelta old new epoch =
     record {
       layout-epoch = epoch;
-      gained = filter (none-or-differs (collect-map segment-key old)) new;
-      lost = map id-of (filter (none-or-differs (collect-map segment-key new)) (collect-map segment-key old));
+      gained = filter (is-gained (segment-map old)) new;
+      lost = map key-of (filter (is-lost (segment-map new)) (segment-map old));
     }
 
 pub delta-agrees : (t : Text) (a b : port.ConsumerAssignment) → Proper a → Proper b
     → rustDelta (map (asSegment t) (a .segments)) (map (asSegment t) (b .segments)) (b .layoutEpoch) ≡ asDelta t (deltaBetween a b)
 unfolding deltaBetween
 delta-agrees t a b r s =
+    let after : SegmentMap = segment-map (map (asSegment t) (b .segments)) in
     let gained = without-agrees t (b .segments) (a .segments) r in
     let lost =
-    ap (λ l. map id-of (filter (none-or-differs (collect-map segment-key (map (asSegment t) (b .segments)))) l))
-    (collected t (a .segments) r)
-    ∙ ap (map id-of) (without-agrees t (a .segments) (b .segments) s)
+    ap (λ (l : SegmentMap). map key-of (filter (is-lost after) l)) (collected t (a .segments) r)
+    ∙ ap (map key-of) (lost-as after (map (asSegment t) (a .segments)))
+    ∙ ap (λ (l : List AssignedSegment). map key-of (map by-id l)) (without-agrees t (a .segments) (b .segments) s)
     ∙ ids-as t (without (a .segments) (b .segments)) in
     λ i. record { layout-epoch = b .layoutEpoch; gained = gained i; lost = lost i }

@@ -1,6 +1,7 @@
 mod OverlapAgrees
 mod Verdicts
 mod SegmentAgrees
+mod TreeAgrees
 pub mod ContentAgrees
 mod DeltaAgrees
 mod ReplayAgrees

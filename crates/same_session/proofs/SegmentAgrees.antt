@@ -2,17 +2,20 @@
 -- first refusal with its numbers.
 -- Assumes nothing.
 use Prim.Native.Nat.{ℕ, _+_}
+use native.Mathlib.Omega.{arith}
 use mathlib.Core.Path.{_≡_, refl, ap, _∙_}
-use mathlib.Core.Bool.{Bool, true, false, cond, not, _&&_}
+use mathlib.Core.Bool.{Bool, true, false, cond, not}
 use mathlib.Core.List.{List, [], _∷_, map}
 use mathlib.Core.Option.{Option, some, none}
 use lib.IntN.{ℤ, pos, negsuc}
-use lib.Dec.{eqb, ltb, leb}
+use lib.Dec.{ltb, leb}
 use Rattle.types.specs.declared.KeyRange.{KeyRange}
 use Rattle.types.specs.declared.KeyRangeError.the-variants.{StartOutOfBounds, EndOutOfBounds, Reversed}
+use Rattle.types.specs.declared.RangeResult.{RangeResult}
 use Rattle.types.specs.declared.RangeResult.the-variants.{Valid, Invalid}
 use Rattle.types.specs.declared.SegmentId.{SegmentId}
 use Rattle.types.specs.KeyRanges.{maxHash, keyRange, newKeyRange}
+use Rattle.types.proofs.KeyRangeLaws.{new-valid}
 use Rattle.refusal.specs.declared.Refusal.{Refusal}
 use Rattle.refusal.specs.declared.Refusal.the-variants as refusal
 use Rattle.parts.specs.Same.{sameBytes}
@@ -36,7 +39,9 @@ use Rattle.magnetar.specs.SegmentTopic.{canonical-segment-topic}
 use Rattle.magnetar.specs.Assignment.{AssignmentError, InvalidRange, InvalidBucketRange, OverlappingBucketRanges, AttachmentMismatch}
 use Rattle.magnetar.specs.Assignment.{SegmentTopic, AssignedSegment, u32-try-from, bucket-range-from, bucket-range}
 use Rattle.magnetar.specs.Assignment.{AssignedSegment-try-from-pb}
-use Rattle.same_names.specs.Agree.{isMarked}
+use Rattle.same_names.specs.Agree.{rangeOf, isMarked}
+use Rattle.same_names.proofs.TextAgrees.{text-same}
+use Rattle.same_names.proofs.RangeAgrees.{new-agrees}
 use Rattle.same_names.proofs.ParentAgrees.{segment-topic-agrees}
 use Rattle.same_session.specs.Paper.{paper}
 use Rattle.same_session.specs.Values.{asSegment}
@@ -61,6 +66,14 @@ range-agrees id a b = go (ltb maxHash a) (ltb maxHash b) (ltb b a)
     go false true v = refl
     go false false true = refl
     go false false false = refl
+
+-- with no fault the Rust makes the range
+range-made : (id : SegmentId) (a b : ℕ) → rangeFaultBy id (newKeyRange a b) ≡ none → KeyRange-new a b ≡ Ok (keyRange a b)
+range-made id a b n = new-agrees a b ∙ go (newKeyRange a b) refl n
+  where
+    go : (x : RangeResult) → newKeyRange a b ≡ x → rangeFaultBy id x ≡ none → rangeOf x ≡ Ok (keyRange a b)
+    go (Valid r) p n = ap (λ (q : KeyRange). Ok q) (new-valid a b r p .made)
+    go (Invalid e) p n = let z : _≡_ {A = ℕ} 0 1 = cc in absurd (omega arith)
 
 -- with one error for all of its errors
 valid-agrees : (e : AssignmentError) (a b : ℕ)
@@ -115,15 +128,6 @@ buckets-ordered id index (r ∷ rs) e =
     let p = unless-none (bucketOk r) (refusal.InvalidBucketRange id index (r .start) (r .end)) (bucketFault id (index + 1) rs) e in
     (bucket-sound r (p .0) .order, buckets-ordered id (index + 1) rs (p .1))
 
--- ---- names
-
-pub text-same : (a b : Text) → text-eq a b ≡ sameBytes a b
-unfolding sameBytes
-text-same [] [] = refl
-text-same [] (y ∷ b) = refl
-text-same (x ∷ a) [] = refl
-text-same (x ∷ a) (y ∷ b) = ap (λ t. eqb x y && t) (text-same a b)
-
 -- ---- the segment, from each `?` on
 
 abbrev made : WireSegment → KeyRange → List KeyRange → Text → AssignedSegment
@@ -157,10 +161,12 @@ module _ (parent : Text) (unmarked : isMarked parent ≡ false) (w : WireSegment
       (ap (λ t. Ok (made w range (bucketsOf w) t)) (same-eq (w .segmentTopic) (expectedTopic parent w) e))
   attach-agrees false e = rw (text-same (w .segmentTopic) (expectedTopic parent w), e)
 
-  names-agree : map-err paper (named parent w range (bucketsOf w)) ≡ verdict (nameFault parent w) (asSegment parent (assignedSegment w))
+  names-agree : KeyRange-new (w .hashStart) (w .hashEnd) ≡ Ok range
+      → map-err paper (named parent w range (bucketsOf w)) ≡ verdict (nameFault parent w) (asSegment parent (assignedSegment w))
   unfolding nameFault assignedSegment
-  names-agree =
-      ap (λ m. map-err paper (map-err SegmentTopic m >>= attached w range (bucketsOf w))) (segment-topic-agrees parent range (wireId w) unmarked)
+  names-agree new =
+      ap (λ m. map-err paper (map-err SegmentTopic m >>= attached w range (bucketsOf w)))
+      (segment-topic-agrees parent range (wireId w) unmarked new)
       ∙ go (isParent parent)
     where
       go : (b : Bool)
@@ -173,14 +179,15 @@ module _ (parent : Text) (unmarked : isMarked parent ≡ false) (w : WireSegment
       go false = refl
 
   -- 34: the Rust does not ask
-  inside-agrees : Agreed Ours paper (named parent w range (bucketsOf w)) (orElse (outsideFault w) (nameFault parent w))
+  inside-agrees : rangeFault w ≡ none
+      → Agreed Ours paper (named parent w range (bucketsOf w)) (orElse (outsideFault w) (nameFault parent w))
       (asSegment parent (assignedSegment w))
-  inside-agrees = go (firstOutside range 0 (bucketsOf w))
+  inside-agrees n = go (firstOutside range 0 (bucketsOf w))
     where
       go : (o : Option ℕ)
           → Agreed Ours paper (named parent w range (bucketsOf w)) (orElse (outsideFaultBy (wireId w) o) (nameFault parent w))
           (asSegment parent (assignedSegment w))
-      go none = Agreed.agree names-agree
+      go none = Agreed.agree (names-agree (range-made (wireId w) (w .hashStart) (w .hashEnd) n))
       go (some i) = Agreed.mine (refusal.BucketOutsideSegment (wireId w) i) refl refl
 
   pub segment-agrees : Agreed Ours paper (AssignedSegment-try-from-pb w parent) (segmentFault parent w) (asSegment parent (assignedSegment w))
@@ -194,7 +201,7 @@ module _ (parent : Text) (unmarked : isMarked parent ≡ false) (w : WireSegment
       (Agreed.agree (buckets-agree (wireId w) 0 (w .bucketRanges))) (apart parent w range) (orElse (overlapFault w) others) x (λ m.
       test-agreed Ours paper (windows-any (λ a b. leb (b .start) (a .end)) (sort-by KeyRange-le (bucketsOf w))) (anyOverlap (bucketsOf w))
       (windows-agree (bucketsOf w) (buckets-ordered (wireId w) 0 (w .bucketRanges) m)) (OverlappingBucketRanges (wireId w))
-      (named parent w range (bucketsOf w)) others x (λ u. inside-agrees)))
+      (named parent w range (bucketsOf w)) others x (λ u. inside-agrees n)))
     where
       x : AssignedSegment
       x = asSegment parent (assignedSegment w)

@@ -1,3 +1,4 @@
+mod SetAgrees
 mod SortLaws
 mod LoopLaws
 mod OursLaws

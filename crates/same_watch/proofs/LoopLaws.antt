@@ -1,10 +1,11 @@
 -- The Rust's two loops over a diff give our lists (`diff-is`): the set after the removals and the insertions, and what was pushed, sorted.
 --
--- A loop is said from any set and vector on: the set behind it, the members of the vector, and that none comes twice (`Gone`, `New`).
+-- The loops are said over this port's sets first (`removed-said`, `added-said`). A loop is said from any set and vector
+-- on: the set behind it, the members of the vector, and that none comes twice (`Gone`, `New`).
 -- Assumes nothing.
 use Prim.Native.Nat.{ℕ}
 use mathlib.Core.Path.{_≡_, refl, sym, ap, ap₂, _∙_}
-use mathlib.Core.Bool.{Bool, true, false, not, _&&_, _||_, and-true, and-false, or-false, false≢true, true≢false}
+use mathlib.Core.Bool.{Bool, true, false, cond, not, _&&_, _||_, and-true, and-false, or-false, false≢true, true≢false}
 use mathlib.Core.List.{List, [], _∷_, _++_}
 use Rattle.parts.specs.Same.{sameBytes}
 use Rattle.parts.proofs.SameLaws.{same-eq}
@@ -15,9 +16,37 @@ use Rattle.topics.proofs.SetLaws.{extensional}
 use Rattle.topic_window.specs.declared.Listing.the-variants.{Added, Removed}
 use Rattle.topic_window.specs.Lists.{kept, isListed, addedOf, removedOf}
 use Rattle.magnetar.specs.Result.{Ok}
-use Rattle.magnetar.specs.Text.{Text, text-eq}
-use Rattle.magnetar.specs.Watch.{TopicsChange, Diff, WatchDid, Loop, loop, remove, removed-loop, added-loop, sort, handle-diff}
-use Rattle.same_watch.proofs.SortLaws.{same-sym, text-same, Distinct, has-snoc, distinct-snoc, sort-is}
+use Rattle.magnetar.specs.Text.{Text}
+use Rattle.magnetar.specs.Watch.{TopicsChange, Snapshot, Diff, WatchDid, Loop, loop, removed-loop, added-loop, sort, handle-snapshot, handle-diff}
+use Rattle.same_watch.proofs.SetAgrees.{contains-agrees, insert-agrees, extend-agrees, remove, remove-agrees}
+use Rattle.same_watch.proofs.SortLaws.{same-sym, Distinct, has-snoc, distinct-snoc, sort-is}
+
+-- ---- the loops, over this port's sets
+
+abbrev removedLoop : List Text → Loop → Loop
+removedLoop [] l = l
+removedLoop (t ∷ rest) l = removedLoop rest (cond (has t (l .topics)) (loop (remove t (l .topics)) (l .pushed ++ (t ∷ []))) l)
+
+abbrev addedLoop : List Text → Loop → Loop
+addedLoop [] l = l
+addedLoop (t ∷ rest) l = addedLoop rest (cond (has t (l .topics)) l (loop (insert t (l .topics)) (l .pushed ++ (t ∷ []))))
+
+removed-said : (rest : List Text) (l : Loop) → removed-loop rest l ≡ removedLoop rest l
+removed-said [] l = refl
+removed-said (t ∷ rest) l =
+    removed-said rest _ ∙ ap (removedLoop rest) (rw (contains-agrees t (l .topics), remove-agrees t (l .topics)))
+
+turned : {A : Type 0} (b : Bool) (x y : A) → cond (not b) x y ≡ cond b y x
+turned true x y = refl
+turned false x y = refl
+
+added-said : (rest : List Text) (l : Loop) → added-loop rest l ≡ addedLoop rest l
+added-said [] l = refl
+added-said (t ∷ rest) l =
+    added-said rest _
+    ∙ ap (addedLoop rest)
+    (rw (contains-agrees t (l .topics), insert-agrees t (l .topics))
+    (turned (has t (l .topics)) (loop (insert t (l .topics)) (l .pushed ++ (t ∷ []))) l))
 
 -- ---- tests of one topic against two lists
 
@@ -68,10 +97,10 @@ rising-kept topics rest r = rising-filter (λ t. not (has t rest)) topics r
 
 has-remove : (u t : Text) (topics : List Text) → has u (remove t topics) ≡ (has u topics && not (sameBytes u t))
 has-remove u t topics =
-    has-filter (λ v. not (text-eq t v)) u topics ∙ ap (λ (b : Bool). has u topics && not b) (text-same t u ∙ same-sym t u)
+    has-filter (λ v. not (sameBytes t v)) u topics ∙ ap (λ (b : Bool). has u topics && not b) (same-sym t u)
 
 rising-remove : (t : Text) (topics : List Text) → rising topics ≡ true → rising (remove t topics) ≡ true
-rising-remove t topics r = rising-filter (λ v. not (text-eq t v)) topics r
+rising-remove t topics r = rising-filter (λ v. not (sameBytes t v)) topics r
 
 kept-none : (topics : List Text) → rising topics ≡ true → topics ≡ kept topics []
 unfolding has
@@ -142,12 +171,12 @@ not-pushed t topics pushed a h = go (has t pushed) refl
     go false e = e
 
 removals : (rest topics pushed : List Text) → rising topics ≡ true → Distinct pushed → Apart pushed topics
-    → Gone rest topics pushed (removed-loop rest (loop topics pushed))
+    → Gone rest topics pushed (removedLoop rest (loop topics pushed))
 unfolding has
 removals [] topics pushed r d a =
     record { topics-is = kept-none topics r; pushed-has = λ u. sym (or-false (has u pushed)); once = d }
 removals (t ∷ rest) topics pushed r d a =
-    choose (λ x. Gone (t ∷ rest) topics pushed (removed-loop rest x)) (has t topics)
+    choose (λ x. Gone (t ∷ rest) topics pushed (removedLoop rest x)) (has t topics)
     (λ h. gone-took t rest topics pushed r _ h
     (removals rest (remove t topics) (pushed ++ (t ∷ [])) (rising-remove t topics r)
     (distinct-snoc pushed t d (not-pushed t topics pushed a h)) (apart-took t topics pushed a)))
@@ -204,11 +233,11 @@ not-inside t topics pushed a h = go (has t pushed) refl
     go false e = e
 
 insertions : (rest topics pushed : List Text) → rising topics ≡ true → Distinct pushed → Inside pushed topics
-    → New rest topics pushed (added-loop rest (loop topics pushed))
+    → New rest topics pushed (addedLoop rest (loop topics pushed))
 unfolding has insertAll
 insertions [] topics pushed r d a = record { topics-is = refl; pushed-has = λ u. sym (or-false (has u pushed)); once = d }
 insertions (t ∷ rest) topics pushed r d a =
-    choose (λ x. New (t ∷ rest) topics pushed (added-loop rest x)) (has t topics)
+    choose (λ x. New (t ∷ rest) topics pushed (addedLoop rest x)) (has t topics)
     (λ h. new-there t rest topics pushed r _ h (insertions rest topics pushed r d a))
     (λ h. new-put t rest topics pushed r _ h
     (insertions rest (insert t topics) (pushed ++ (t ∷ [])) (rising-insert t topics r)
@@ -221,18 +250,18 @@ abbrev pub did : ℕ → List Text → TopicsChange → WatchDid
 did id topics change = record { after = record { watch-id = id; topics = topics }; result = Ok change }
 
 module _ (id : ℕ) (old added removed : List Text) (r : rising old ≡ true) where
-  gone : Gone removed old [] (removed-loop removed (loop old []))
+  gone : Gone removed old [] (removedLoop removed (loop old []))
   unfolding has
   gone = removals removed old [] r tt (λ u e. absurd (false≢true e))
 
-  new : New added (kept old removed) [] (added-loop added (loop (kept old removed) []))
+  new : New added (kept old removed) [] (addedLoop added (loop (kept old removed) []))
   unfolding has
   new = insertions added (kept old removed) [] (rising-kept old removed r) tt (λ u e. absurd (false≢true e))
 
-  removed-is : sort (removed-loop removed (loop old []) .pushed) ≡ removedOf old removed
+  removed-is : sort (removedLoop removed (loop old []) .pushed) ≡ removedOf old removed
   unfolding has removedOf isListed
   removed-is =
-      let p = removed-loop removed (loop old []) .pushed in
+      let p = removedLoop removed (loop old []) .pushed in
       sort-is p (gone .once)
       ∙ extensional (sorted p) (removedOf old removed) (rising-sorted p)
       (rising-filter (isListed Removed old removed) (sorted removed) (rising-sorted removed))
@@ -241,10 +270,10 @@ module _ (id : ℕ) (old added removed : List Text) (r : rising old ≡ true) wh
       ∙ ap (λ (b : Bool). b && has u old) (sym (has-sorted u removed))
       ∙ sym (has-filter (isListed Removed old removed) u (sorted removed)))
 
-  added-is : sort (added-loop added (loop (kept old removed) []) .pushed) ≡ addedOf old removed added
+  added-is : sort (addedLoop added (loop (kept old removed) []) .pushed) ≡ addedOf old removed added
   unfolding has addedOf isListed
   added-is =
-      let p = added-loop added (loop (kept old removed) []) .pushed in
+      let p = addedLoop added (loop (kept old removed) []) .pushed in
       sort-is p (new .once)
       ∙ extensional (sorted p) (addedOf old removed added) (rising-sorted p)
       (rising-filter (isListed Added old removed) (sorted added) (rising-sorted added))
@@ -253,11 +282,23 @@ module _ (id : ℕ) (old added removed : List Text) (r : rising old ≡ true) wh
       ∙ ap (λ (b : Bool). b && not (has u (kept old removed))) (sym (has-sorted u added))
       ∙ sym (has-filter (isListed Added old removed) u (sorted added)))
 
-  abbrev behind : List Text → WatchDid
-  behind topics =
-      let new = added-loop added (loop topics []) in
-      did id (new .topics) (Diff (sort (new .pushed)) (sort (removed-loop removed (loop old []) .pushed)))
+  -- the removals, and the change that they and the insertions make
+  abbrev first : Loop
+  first = removedLoop removed (loop old [])
+
+  abbrev changed : Loop → Loop → WatchDid
+  changed gone new = did id (new .topics) (Diff (sort (new .pushed)) (sort (gone .pushed)))
 
   pub diff-is : handle-diff added removed (record { watch-id = id; topics = old })
       ≡ did id (insertAll added (kept old removed)) (Diff (addedOf old removed added) (removedOf old removed))
-  diff-is = ap behind (gone .topics-is) ∙ λ i. did id (new .topics-is i) (Diff (added-is i) (removed-is i))
+  diff-is =
+      ap (λ (l : Loop). changed l (added-loop added (loop (l .topics) []))) (removed-said removed (loop old []))
+      ∙ ap (changed first) (added-said added (loop (first .topics) []))
+      ∙ ap (λ (topics : List Text). changed first (addedLoop added (loop topics []))) (gone .topics-is)
+      ∙ λ i. did id (new .topics-is i) (Diff (added-is i) (removed-is i))
+
+-- ---- the snapshot
+
+pub snapshot-is : (id : ℕ) (old topics : List Text)
+    → handle-snapshot topics (record { watch-id = id; topics = old }) ≡ did id (sorted topics) (Snapshot (sorted topics))
+snapshot-is id old topics = ap (λ (set : List Text). did id set (Snapshot set)) (extend-agrees topics [])

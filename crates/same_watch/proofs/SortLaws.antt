@@ -1,19 +1,20 @@
 -- The Rust's `sort` of a vector in which no topic comes twice: it is the rising list of its topics (`sort-is`).
 -- Assumes nothing.
 use mathlib.Core.Path.{_≡_, refl, sym, ap, _∙_}
-use mathlib.Core.Bool.{Bool, true, false, cond, not, _&&_, _||_, or-false, false≢true}
+use mathlib.Core.Bool.{Bool, true, false, cond, _||_, or-false, false≢true}
 use mathlib.Core.List.{List, [], _∷_, _++_}
-use lib.Dec.{eqb}
 use Rattle.parts.specs.Same.{sameBytes}
 use Rattle.parts.proofs.SameLaws.{same-refl, same-eq}
 use Rattle.topics.specs.declared.Order.{Order}
 use Rattle.topics.specs.declared.Order.the-variants.{Less, Equal, Greater}
-use Rattle.topics.specs.Topics.{order, byOrder, before, has, insert, insertAll, sorted}
-use Rattle.topics.proofs.OrderLaws.{order-equal, less-flip, greater-flip}
+use Rattle.topics.specs.Topics.{order, byOrder, has, insert, insertAll, sorted}
+use Rattle.topics.proofs.OrderLaws.{order-equal}
 use Rattle.topics.proofs.SetLaws.{has-append, has-insert, rising-insert, rising-sorted, has-sorted, extensional}
-use Rattle.magnetar.specs.Text.{Text, text-eq}
+use Rattle.magnetar.specs.Text.{Text}
+use Rattle.magnetar.specs.Order.{is-le, str-cmp}
 use Rattle.magnetar.specs.Collections.{insert-by}
 use Rattle.magnetar.specs.Watch.{sort}
+use Rattle.same_watch.proofs.SetAgrees.{by-agrees}
 
 -- ---- equality of texts
 
@@ -25,13 +26,6 @@ same-sym a b = go (sameBytes a b) refl (sameBytes b a) refl
     go false e false f = e ∙ sym f
     go true e false f = absurd (false≢true (sym f ∙ ap (sameBytes b) (same-eq a b e) ∙ same-refl b))
     go false e true f = absurd (false≢true (sym e ∙ ap (sameBytes a) (same-eq b a f) ∙ same-refl a))
-
-pub text-same : (a b : Text) → text-eq a b ≡ sameBytes a b
-unfolding sameBytes
-text-same [] [] = refl
-text-same [] (y ∷ ys) = refl
-text-same (x ∷ xs) [] = refl
-text-same (x ∷ xs) (y ∷ ys) = ap (λ (b : Bool). eqb x y && b) (text-same xs ys)
 
 -- ---- vectors in which no topic comes twice
 
@@ -59,20 +53,22 @@ distinct-snoc (u ∷ us) t d h =
 -- ---- sorted
 
 abbrev at-most : Text → Text → Bool
-at-most a b = not (before b a)
+at-most a b = is-le (str-cmp a b)
 
 place-is : (t : Text) (l : List Text) → has t l ≡ false → insert-by at-most t l ≡ insert t l
 unfolding insert has
 place-is t [] h = refl
-place-is t (u ∷ us) h = go (order t u) refl (place-is t us (neither (sameBytes t u) (has t us) h .1))
+place-is t (u ∷ us) h =
+    ap (λ (b : Bool). cond b (t ∷ u ∷ us) (u ∷ insert-by at-most t us)) (by-agrees t u true true false)
+    ∙ go (order t u) refl (place-is t us (neither (sameBytes t u) (has t us) h .1))
   where
     go : (o : Order) → order t u ≡ o → insert-by at-most t us ≡ insert t us
-        → cond (not (byOrder (order u t) true false false)) (t ∷ u ∷ us) (u ∷ insert-by at-most t us)
-        ≡ byOrder (order t u) (t ∷ u ∷ us) (u ∷ us) (u ∷ insert t us)
-    go Less e k = rw (e, less-flip t u e)
+        → cond (byOrder o true true false) (t ∷ u ∷ us) (u ∷ insert-by at-most t us)
+        ≡ byOrder o (t ∷ u ∷ us) (u ∷ us) (u ∷ insert t us)
+    go Less e k = refl
     go Equal e k =
         absurd (false≢true (sym (neither (sameBytes t u) (has t us) h .0) ∙ ap (sameBytes t) (sym (order-equal t u e)) ∙ same-refl t))
-    go Greater e k = rw (e, greater-flip t u e, k)
+    go Greater e k = ap (λ (l : List Text). u ∷ l) k
 
 sorted-cons : (t : Text) (ts : List Text) → insert t (sorted ts) ≡ sorted (t ∷ ts)
 unfolding has

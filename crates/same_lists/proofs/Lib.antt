@@ -1,0 +1,3 @@
+pub mod MatchesAgrees
+pub mod ToPbAgrees
+pub mod NamesAgree
