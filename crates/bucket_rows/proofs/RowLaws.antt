@@ -1,22 +1,24 @@
 -- Laws of the rows that a segment's bucket ranges are loaded into, and of the tests row against row.
 --
 -- In order: a row that is being loaded (`Loading`): at its start, with one more range, where no range is left, and full; what a loaded row
--- says of the ranges from its place on: fewer are left behind it (`fewer`); they against another row (`cross-none`, `cross-found`,
--- `cross-goes`); they against one another (`any-none`, `any-found`, `later-found`, `any-goes`); the ranges one by one against the segment's
--- (`Within`): at the start, one that is outside, one that is inside, and the end.
+-- says of the ranges from its place on: fewer are left behind it (`fewer`); rows that are marked one after the other (`Marked`): at the start, where
+-- a value is found marked already (`marked-found`), behind the last row (`marked-last`), with one more row (`marked-next`); the ranges one by one
+-- against the segment's (`Within`): at the start, one that is outside, one that is inside, and the end.
 -- Assumes nothing.
 use Prim.Native.Nat.{ℕ, _+_, _-_, _≤_, _<_}
 use native.Mathlib.Nat.{add-sub-cancel-left}
 use native.Mathlib.Numerals.{add-one}
 use native.Mathlib.Omega.{arith}
-use mathlib.Core.Path.{_≡_, refl, sym, ap, _∙_}
-use mathlib.Core.Bool.{Bool, true, false, _||_}
-use mathlib.Core.List.{List, [], _∷_, _++_}
+use mathlib.Core.Path.{_≡_, refl, sym, ap, subst, _∙_}
+use mathlib.Core.Bool.{Bool, true, false}
+use mathlib.Core.List.{List, [], _∷_, _++_, append-assoc, append-nil}
 use lib.ListN.{length, take, drop, set, length-append, length-set}
 use lib.Seq.{take-suc-set, length-take-le, append-snoc}
 use Rattle.types.specs.declared.KeyRange.{KeyRange}
-use Rattle.ranges.specs.Overlap.{anyOverlap, crossOverlap}
-use Rattle.ranges.proofs.OverlapLaws.{cross-nil, cross-append, any-append}
+use Rattle.ranges.specs.Overlap.{anyOverlap}
+use Rattle.ranges.proofs.OverlapLaws.{any-append}
+use Rattle.marks.specs.Marks.{AllGood, RowMarking}
+use Rattle.marks.proofs.RowLaws.{good-left, Apart}
 use Rattle.values.specs.declared.PartStep.the-variants as step
 use Rattle.values.specs.Places.{NextPart}
 use Rattle.readers.specs.declared.IntRange.{IntRange}
@@ -55,16 +57,21 @@ module _ {p : List ℕ} {at : ℕ} {row : List KeyRange} {count next : ℕ} (L :
       }
 
   pub loaded-none : NextPart 5 p next step.Absent → LoadedIs p at (record { row = row; count = count; next = next })
-  loaded-none q = record { few = L .few; long = L .long; split = L .split; some = λ e. L .split ∙ rw (e, q) }
+  loaded-none q = record { few = L .few; long = L .long; split = L .split; last = λ _. rw q }
 
   pub loaded-full : 506 ≤ count → LoadedIs p at (record { row = row; count = count; next = next })
-  loaded-full h = record { few = L .few; long = L .long; split = L .split; some = λ e. absurd (omega arith) }
+  loaded-full h = record { few = L .few; long = L .long; split = L .split; last = λ e. absurd (omega arith) }
 
 -- ---- what a loaded row says of the ranges from its place on
 
-any-nil : anyOverlap [] ≡ false
-unfolding anyOverlap
-any-nil = refl
+-- the ranges before the place at are marked in the words, and no two share a value
+pub record Marked (p words : List ℕ) (at : ℕ) : Type 0 where
+  pub before : List KeyRange
+  pub split : bucketsFrom p 0 ≡ before ++ bucketsFrom p at
+  pub marks : Apart words before
+
+pub marked-start : (p words : List ℕ) → Apart words [] → Marked p words 0
+marked-start p words a = record { before = []; split = refl; marks = a }
 
 module _ {p : List ℕ} {at : ℕ} {l : Loaded} (L : LoadedIs p at l) where
   -- the ranges in the row, and those behind it
@@ -80,38 +87,37 @@ module _ {p : List ℕ} {at : ℕ} {l : Loaded} (L : LoadedIs p at l) where
       let f : length here ≡ l .count = length-take-le (l .count) (l .row) (omega (arith, L .few, L .long)) in
       omega (arith, e, f)
 
-  pub cross-none : (row : List KeyRange) → l .count ≡ 0 → crossOverlap row (bucketsFrom p at) ≡ false
-  cross-none row e = rw (L .some e) (cross-nil row)
+  module _ {words : List ℕ} (M : Marked p words at) where
+    -- the ranges before the row, the row, and those behind it
+    whole : bucketsFrom p 0 ≡ (M .before ++ here) ++ behind
+    whole = M .split ∙ ap (λ (l : List KeyRange). M .before ++ l) (L .split) ∙ sym (append-assoc (M .before) here behind)
 
-  -- t is whether the other row and this one share a value
-  module _ (row : List KeyRange) {t : Bool} (said : t ≡ crossOverlap row here) where
-    cross-opened : crossOverlap row (bucketsFrom p at) ≡ t || crossOverlap row behind
-    cross-opened = ap (crossOverlap row) (L .split) ∙ cross-append row here behind ∙ rw (← said)
+    module _ (g : AllGood (bucketsFrom p 0)) {t : Bool} {words′ : List ℕ} (R : RowMarking words here t words′) where
+      good : AllGood (M .before ++ here)
+      good = good-left (M .before ++ here) behind (subst AllGood whole g)
 
-    pub cross-found : t ≡ true → crossOverlap row (bucketsFrom p at) ≡ true
-    cross-found y = cross-opened ∙ rw y
+      told : t ≡ anyOverlap (M .before ++ here)
+      told = R .told (M .before) (M .marks .holds) good (M .marks .apart)
 
-    pub cross-goes : t ≡ false → crossOverlap row (bucketsFrom p at) ≡ crossOverlap row behind
-    cross-goes y = cross-opened ∙ rw y
+      pub marked-found : t ≡ true → true ≡ anyOverlap (bucketsFrom p 0)
+      marked-found y = sym (ap anyOverlap whole ∙ any-append (M .before ++ here) behind ∙ rw (← told, y))
 
-  pub any-none : l .count ≡ 0 → anyOverlap (bucketsFrom p at) ≡ false
-  any-none e = rw (L .some e) any-nil
+      pub marked-last : t ≡ false → l .count < 506 → false ≡ anyOverlap (bucketsFrom p 0)
+      marked-last y h =
+          let e : bucketsFrom p 0 ≡ M .before ++ here =
+          whole ∙ ap (λ (r : List KeyRange). (M .before ++ here) ++ r) (L .last h) ∙ append-nil (M .before ++ here) in
+          sym (ap anyOverlap e ∙ sym told ∙ y)
 
-  -- t is whether two ranges of the row share a value
-  module _ {t : Bool} (said : t ≡ anyOverlap here) where
-    any-opened : anyOverlap (bucketsFrom p at) ≡ t || (crossOverlap here behind || anyOverlap behind)
-    any-opened = ap anyOverlap (L .split) ∙ any-append here behind ∙ rw (← said)
-
-    pub any-found : t ≡ true → anyOverlap (bucketsFrom p at) ≡ true
-    any-found y = any-opened ∙ rw y
-
-    -- u is whether the row and the ranges behind it share a value
-    module _ {u : Bool} (says : u ≡ crossOverlap here behind) (y : t ≡ false) where
-      pub later-found : u ≡ true → anyOverlap (bucketsFrom p at) ≡ true
-      later-found z = any-opened ∙ rw (y, ← says, z)
-
-      pub any-goes : u ≡ false → anyOverlap (bucketsFrom p at) ≡ anyOverlap behind
-      any-goes z = any-opened ∙ rw (y, ← says, z)
+      pub marked-next : t ≡ false → Marked p words′ (l .next)
+      marked-next y = record {
+        before = M .before ++ here;
+        split = whole;
+        marks = record {
+          good = good;
+          apart = sym told ∙ y;
+          holds = R .holds (M .before) (M .marks .holds) good (M .marks .apart) y;
+        };
+      }
 
 -- ---- the ranges one by one against the segment's
 

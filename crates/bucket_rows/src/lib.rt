@@ -1,11 +1,11 @@
 // Tests over all bucket ranges of a segment: whether two share a value, "handed to this test as a row of ranges, more than 506 of them row
 // against row", and which lies outside the segment's range first.
 //
-// Only buckets that do not rise are tested row against row. They are read from the message row by row, so any number takes two rows of memory.
+// Only buckets that do not rise are tested row against row: they are read from the message row by row, and each row is lent to the
+// test, which marks its values. So any number of ranges takes one row and the marks, and each range is read once.
 ghost use mathlib.Core.Path.{_≡_};
-ghost use Prim.Native.Nat.{_≤_};
-ghost use lib.ListN.{take};
-ghost use Rattle.ranges.specs.Overlap.{anyOverlap, crossOverlap};
+ghost use Rattle.ranges.specs.Overlap.{anyOverlap};
+ghost use Rattle.marks.specs.Marks.{AllGood};
 ghost use Rattle.content.specs.Content.{firstOutside, outsideOf};
 ghost use Rattle.bucket_rows.specs.Rows.{bucketsFrom, LoadedIs};
 use content::Outside;
@@ -32,7 +32,7 @@ fn load_row(p: &[u8], at: usize) -> Loaded
                 return Loaded { row, count, next };
             }
             PartStep::Found(start, len, after) => {
-                let r = readers::read_range(&p[start..start + len]);
+                let r = segment_scan::read_bucket(&p[start..start + len]);
                 row[count] = segment_scan::key_range_of(r);
                 count = count + 1;
                 next = after;
@@ -42,46 +42,24 @@ fn load_row(p: &[u8], at: usize) -> Loaded
     Loaded { row, count, next }
 }
 
-// One of the first m ranges of the row shares a value with one of those from a place on.
-fn later_overlap(p: &[u8], at: usize, row: [KeyRange; 506], m: usize) -> bool
-    requires { ⌜ m ≤ 506 ⌝ }
-    ensures { λ r. ⌜ r ≡ crossOverlap (take m row) (bucketsFrom (now (p .entry)) at) ⌝ }
-{
-    let mut from = at;
-    loop {
-        let other = load_row(p, from);
-        let count = other.count;
-        if count == 0 {
-            return false;
-        }
-        let ranges = other.row;
-        if ranges::firsts_overlap(row, m, ranges, count) {
-            return true;
-        }
-        from = other.next;
-    }
-}
-
-// Two bucket ranges of the segment p share a value.
+// Two bucket ranges of the segment p share a value. Each row is marked in its turn, and so tested against all rows before it.
 pub fn buckets_overlap(p: &[u8]) -> bool
+    requires { ⌜ AllGood (bucketsFrom (now p) 0) ⌝ }
     ensures { λ r. ⌜ r ≡ anyOverlap (bucketsFrom (now (p .entry)) 0) ⌝ }
 {
+    let mut words = [0u64; marks::WORDS];
     let mut at: usize = 0;
     loop {
         let loaded = load_row(p, at);
         let count = loaded.count;
-        if count == 0 {
+        let row = loaded.row;
+        if marks::mark_first(row, count, &mut words) {
+            return true;
+        }
+        if count < 506 {
             return false;
         }
-        let row = loaded.row;
-        if ranges::first_overlap(row, count) {
-            return true;
-        }
-        let next = loaded.next;
-        if later_overlap(p, next, row, count) {
-            return true;
-        }
-        at = next;
+        at = loaded.next;
     }
 }
 
@@ -97,7 +75,7 @@ pub fn first_outside(p: &[u8], range: KeyRange) -> Outside
                 return Outside::Nothing;
             }
             PartStep::Found(start, len, after) => {
-                let r = readers::read_range(&p[start..start + len]);
+                let r = segment_scan::read_bucket(&p[start..start + len]);
                 let bucket = segment_scan::key_range_of(r);
                 if bucket.start < range.start {
                     return Outside::At(index);

@@ -4,13 +4,17 @@ use Prim.Native.Nat.{ℕ, _+_, _-_, _*_, _≤_, _<_}
 use mathlib.Core.Path.{_≡_}
 use mathlib.Core.Bool.{true, false}
 use mathlib.Core.Logic.{_⊎_}
-use mathlib.Core.List.{List, [], _∷_, _++_}
+use mathlib.Core.List.{List, [], _∷_, _++_, map}
 use mathlib.Core.Option.{Option, some, none}
 use lib.ListN.{length, take, drop}
 use Rattle.refusal.specs.declared.Refusal.{Refusal}
 use Rattle.refusal.specs.declared.Refusal.the-variants.{DuplicateSegment}
 use Rattle.packed_int.specs.Be.{bytesOf}
 use Rattle.packed_int.specs.Put.{put}
+use Rattle.wire.specs.Fields.{fieldsOf}
+use Rattle.values.specs.declared.Cursor.{Cursor}
+use Rattle.values.specs.Values.{partsOf, mergedFields}
+use Rattle.values.specs.Places.{Inside, innerFrom}
 use Rattle.readers.specs.Messages.{WireSegment, segmentOf}
 use Rattle.keyed.specs.Keyed.{holds, insert}
 use Rattle.packed.specs.Assignment.{idOf, slotSize}
@@ -29,6 +33,13 @@ use Rattle.intake.specs.declared.Intake.the-variants as intake
 
 -- ---- segments by themselves
 
+-- the segments of the message's assignments in field n, and those that a cursor has before it
+abbrev pub wires : ℕ → List ℕ → List WireSegment
+wires n m = map segmentOf (partsOf 2 (mergedFields n (fieldsOf m)))
+
+abbrev pub wiresFrom : ℕ → List ℕ → Cursor → List WireSegment
+wiresFrom n m c = map segmentOf (innerFrom n 2 m c)
+
 abbrev pub afterTest : Option Refusal → ℕ → Tested → Tested
 afterTest (some x) i t = tested.Bad i x
 afterTest none i t = t
@@ -37,6 +48,13 @@ afterTest none i t = t
 unfoldable pub testFrom : List ℕ → ℕ → List WireSegment → Tested
 testFrom parent i [] = tested.Clear i
 testFrom parent i (w ∷ ws) = afterTest (segmentFault parent w) i (testFrom parent (i + 1) ws)
+
+-- the i segments behind the cursor c have passed
+pub record Passed (n : ℕ) (m parent : List ℕ) (c : Cursor) (i : ℕ) : Type 0 where
+  pub inside : Inside m c
+  pub few : i ≤ c .at
+  pub within : c .at ≤ length m
+  pub whole : testFrom parent 0 (wires n m) ≡ testFrom parent i (wiresFrom n m c)
 
 -- an id that comes again is refused before what lies behind it
 abbrev pub repeatOr : Repeat → Refusal → Refusal

@@ -1,6 +1,7 @@
 pub mod AssignmentLaws
 pub mod EqualLaws
 mod FrontLaws
+mod MarkedLaws
 pub mod RoundLaws
 pub mod RowLaws
 pub mod WholeLaws

@@ -1,7 +1,7 @@
 // Packed assignments read where they lie: 01's sheets.
 //
-// `read_front` tests the one at the front of a slot, `read_whole` one that is lent alone. Both are linear where the buckets of each segment rise; only others are
-// compared pairwise.
+// `read_front` tests the one at the front of a slot, `read_whole` one that is lent alone. Both are linear. Buckets that rise are told in one pass; others are
+// compared pairwise where they are few, and marked where they are many.
 ghost use mathlib.Core.Path.{_≡_};
 ghost use Prim.Native.Nat.{_+_, _*_, _≤_, min};
 ghost use mathlib.Core.Bool.{not, _&&_};
@@ -14,6 +14,9 @@ use types::KeyRange;
 
 // The most bytes of a packed assignment: a slot.
 pub const SLOT: usize = 2048;
+
+// Fewer buckets than these are compared pairwise: that is cheaper than to clear the marks.
+const MANY: usize = 32;
 
 // What stands at a record's place.
 pub enum RecordRead {
@@ -76,7 +79,7 @@ fn bucket_overlaps(s: &[u8], at: usize, n: usize, range: KeyRange) -> bool
     false
 }
 
-// No range of the n from a place on is reversed, and no two share a value: every pair is compared.
+// No range of the n from a place on is reversed, and no two share a value: every pair of a few is compared.
 fn buckets_apart(s: &[u8], at: usize, n: usize) -> bool
     requires { ⌜ at + 4 * n ≤ length (now s) ⌝ }
     ensures { λ r. ⌜ r ≡ okBuckets (rangesOf n (drop at (now (s .entry)))) ⌝ }
@@ -97,6 +100,32 @@ fn buckets_apart(s: &[u8], at: usize, n: usize) -> bool
     true
 }
 
+// The same of many: each is marked, and so tested against all before it.
+fn buckets_marked(s: &[u8], at: usize, n: usize) -> bool
+    requires { ⌜ at + 4 * n ≤ length (now s) ⌝ }
+    ensures { λ r. ⌜ r ≡ okBuckets (rangesOf n (drop at (now (s .entry)))) ⌝ }
+{
+    let mut words = [0u64; marks::WORDS];
+    let mut p = at;
+    let mut left = n;
+    while 0 < left {
+        let first = packed_int::read_u16(s, p);
+        let last = packed_int::read_u16(s, p + 2);
+        if last < first {
+            return false;
+        }
+        let start = first as u32;
+        let end = last as u32;
+        let range = KeyRange { start, end };
+        if marks::mark(&mut words, range) {
+            return false;
+        }
+        p = p + 4;
+        left = left - 1;
+    }
+    true
+}
+
 // The n ranges from a place on may be a segment's buckets.
 pub fn buckets_ok(s: &[u8], at: usize, n: usize) -> bool
     requires { ⌜ at + 4 * n ≤ length (now s) ⌝ }
@@ -105,7 +134,10 @@ pub fn buckets_ok(s: &[u8], at: usize, n: usize) -> bool
     if buckets_rise(s, at, n) {
         return true;
     }
-    buckets_apart(s, at, n)
+    if n < MANY {
+        return buckets_apart(s, at, n);
+    }
+    buckets_marked(s, at, n)
 }
 
 // The record at the place at, which has to end by the place end.

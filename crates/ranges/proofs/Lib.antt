@@ -1,6 +1,1 @@
-mod LendRow
 pub mod OverlapLaws
-mod Row
-mod RowTests
-pub mod Walk
-pub mod Words

@@ -23,11 +23,6 @@ unfoldable pub anyOverlap : List KeyRange → Bool
 anyOverlap [] = false
 anyOverlap (x ∷ xs) = overlapsAny x xs || anyOverlap xs
 
--- some range of the first row shares a value with one of the second
-unfoldable pub crossOverlap : List KeyRange → List KeyRange → Bool
-crossOverlap [] ys = false
-crossOverlap (x ∷ xs) ys = overlapsAny x ys || crossOverlap xs ys
-
 -- r is not reversed and starts at low or above
 abbrev pub startsFrom : ℕ → KeyRange → Bool
 startsFrom low r = leb low (r .start) && leb (r .start) (r .end)

@@ -5,11 +5,13 @@
 -- Assumes nothing.
 use Prim.Native.Nat.{ℕ, _+_, _-_}
 use native.Mathlib.Nat.{add-sub-cancel-left}
-use mathlib.Core.Path.{_≡_, refl, sym, ap, _∙_}
+use native.Mathlib.Omega.{arith}
+use mathlib.Core.Path.{_≡_, refl, sym, ap, subst, _∙_}
 use mathlib.Core.Bool.{Bool, true, false, cond}
-use mathlib.Core.List.{List}
+use mathlib.Core.List.{List, [], _∷_}
 use mathlib.Core.Option.{Option, some, none}
 use lib.ListN.{length, take, drop}
+use borrow.Author.Tests.{leb-true}
 use Rattle.parts.specs.Same.{sameBytes}
 use Rattle.parts.proofs.PartLaws.{rest}
 use Rattle.types.specs.declared.KeyRange.{KeyRange}
@@ -21,7 +23,11 @@ use Rattle.types.specs.KeyRanges.{keyRange, newKeyRange}
 use Rattle.refusal.specs.declared.Refusal.{Refusal}
 use Rattle.refusal.specs.declared.Refusal.the-variants.{InvalidRange, InvalidBucketRange, OverlappingBucketRanges}
 use Rattle.refusal.specs.declared.Refusal.the-variants.{InvalidParent, AttachmentMismatch, BucketOutsideSegment}
+use Rattle.ranges.specs.Meaning.{both-true}
 use Rattle.ranges.specs.Overlap.{anyOverlap}
+use Rattle.marks.specs.Marks.{AllGood, more}
+use Rattle.packed.specs.Assignment.{inOrder, allInOrder}
+use Rattle.packed.proofs.RoundLaws.{FitRanges}
 use Rattle.parents.specs.Parents.{isParent}
 use Rattle.topic.specs.Names.{segmentTopic}
 use Rattle.keyed.specs.Keyed.{orElse}
@@ -33,7 +39,7 @@ use Rattle.content.specs.declared.Outside.the-variants.{At, Nothing}
 use Rattle.content.specs.Content.{wireId, bucketFault, bucketsOf, overlapFault, firstOutside, outsideOf, outsideFault, nameFault, segmentFault}
 use Rattle.content.proofs.OutsideLaws.{place-found, place-none}
 use Rattle.segment_scan.specs.declared.SegmentScan.{SegmentScan}
-use Rattle.segment_scan.proofs.RunLaws.{run-bad, run-good, run-rising}
+use Rattle.segment_scan.proofs.RunLaws.{run-bad, run-good, run-ok, run-rising}
 use Rattle.bucket_rows.specs.Rows.{bucketsFrom}
 use Rattle.segment_check.specs.declared.Verdict.{Verdict}
 use Rattle.segment_check.specs.declared.Verdict.the-variants.{Good, Refused}
@@ -96,6 +102,15 @@ module _ (parent : List ℕ) {p : List ℕ} {head : SegmentHead} (S : SegmentIs 
 
 -- ---- the buckets, then the others
 
+-- in order, with ends of two bytes: such ranges can be marked
+all-good : (rs : List KeyRange) → allInOrder rs ≡ true → FitRanges rs → AllGood rs
+unfolding allInOrder
+all-good [] o f = AllGood.none
+all-good (r ∷ rs) o f =
+    let p = both-true (inOrder r) (allInOrder rs) o in
+    let e = f .0 .end in
+    more (record { in-order = leb-true (r .start) (r .end) (p .0); small = omega arith }) (all-good rs (p .1) (f .1))
+
 -- what is left of the tests behind the range
 abbrev pub bucketsFault : List ℕ → List ℕ → Option Refusal
 bucketsFault parent p =
@@ -113,6 +128,11 @@ module _ (parent : List ℕ) {p : List ℕ} {scan : SegmentScan} (S : ScanOf p s
   module _ (g : scan .run .good ≡ true) where
     good : (id : SegmentId) → bucketFault id 0 (segmentOf p .bucketRanges) ≡ none
     good = run-good (segmentOf p .bucketRanges) (rw (S .run) at g)
+
+    pub buckets-good : AllGood (bucketsFrom p 0)
+    buckets-good =
+        let o = run-ok (segmentOf p .bucketRanges) (rw (S .run) at g) in
+        subst AllGood (buckets-are p) (all-good (bucketsOf (segmentOf p)) (o .0) (o .1))
 
     -- no two share a value
     apart : anyOverlap (bucketsOf (segmentOf p)) ≡ false → {r : Verdict} → r ≡ verdictOf (insideFault parent p)

@@ -37,7 +37,7 @@ pub struct SegmentScan {
 }
 
 // The bucket range in the part p. One in its usual form, field 1 and then field 2, is told quickly.
-fn read_bucket(p: &[u8]) -> IntRange
+pub fn read_bucket(p: &[u8]) -> IntRange
     ensures { λ r. ⌜ r ≡ intRangeOf (now (p .entry)) ⌝ }
 {
     if p.len() < 4 {

@@ -1,18 +1,17 @@
--- The session's types in a walk by hand (`Flat`, ranges' proofs/Walk), and that the parts of a `Changed` are what its machine value has.
+-- The session's types in a walk by hand (`Flat`, marks' proofs/Walk), and that the parts of a `Changed` are what its machine value has.
 -- Assumes nothing.
-use mathlib.Core.Path.{refl, subst}
-use mathlib.Core.List.{List, [], _∷_}
-use mir.Syntax.{w64}
-use mir.Val.{Val}
+use mathlib.Core.Path.{refl}
+use mathlib.Core.List.{[], _∷_}
+use mir.Syntax.{Width, w64, tyInt}
+use mir.Val.{vint}
+use denote.Plain.{UInt, uint-tells, uint-lawful, uint-makes}
 use denote.Builtin.{usize}
-use denote.RattleType.{RattleType}
-use denote.Laws.{Is}
 use denote.Lowered.{Lowered}
 use denote.Struct.Laws as LL
 use denote.Enum.Enum.{Few, Plainss}
 use denote.Enum.Declared as Enum
 use denote.Enum.Laws as EL
-use Rattle.ranges.proofs.Walk.{Flat, flat-struct, flat-uint, low, IsLow}
+use Rattle.marks.proofs.Walk.{Flat, flat-struct, low, IsLow, is-low}
 use Rattle.types.proofs.ControllerIncarnation as I
 use Rattle.types.proofs.ControllerIncarnation.Laws as I′
 use Rattle.session.specs.declared.SessionRecord.{SessionRecord}
@@ -24,6 +23,13 @@ use Rattle.session.proofs.Answer as A
 use Rattle.session.proofs.Answer.Laws as A′
 use Rattle.session.proofs.Changed as C
 use Rattle.session.proofs.Changed.Laws as C′
+
+abbrev flat-uint : (w : Width) → Flat (UInt w)
+flat-uint w = record {
+  lowers = record { mir = tyInt w; lowered = vint w; layout-is = refl; val-is = uint-tells w };
+  lawful = λ 𝓤 H A W. uint-lawful 𝓤 H A W w;
+  makes = λ 𝓤 H A W. uint-makes 𝓤 H A W w;
+}
 
 abbrev flat-enum : (T : Enum.Declared) (L : EL.Laws T) → Few (Enum.shape T) → Lowered (Enum.row T) → Plainss (Enum.variants T)
     → Flat (Enum.row T)
@@ -43,9 +49,6 @@ answer = flat-enum A.the-type A′.the-laws tt A′.lowers A′.the-plain
 
 abbrev pub changed : Flat C.the-row
 changed = flat-struct C.the-type C′.the-laws C′.lowers C′.the-plain
-
-pub is-low : {R : RattleType} (F : Flat R) (x : R .Denot) (vs : List Val) → Is R x vs → IsLow F x
-is-low {R} F x vs is = subst (Is R x) (F .lowers .val-is x vs is) is
 
 pub next-is : (u : Changed) → IsLow changed u → IsLow session (u .next)
 next-is u is = is-low session (u .next) _ (LL.owed C.the-type C′.the-laws u _ is .0)

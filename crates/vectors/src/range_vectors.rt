@@ -1,4 +1,5 @@
 // Ranges at the limits: the calls on ranges, and rows of ranges.
+ghost use Prim.Native.Nat.{_≤_};
 use crate::print;
 use key_range::LengthAnswer;
 use key_range::TestAnswer;
@@ -32,6 +33,14 @@ fn test(place: usize, line: &[u8]) {
     }
 }
 
+// Two of the first n ranges share a value.
+fn share(row: [KeyRange; 506], n: usize)
+    requires { ⌜ n ≤ 506 ⌝ }
+{
+    let mut words = [0u64; marks::WORDS];
+    print::yes(marks::mark_first(row, n, &mut words));
+}
+
 // overlap COUNT and COUNT pairs START END, 506 at most
 fn overlap(line: &[u8]) {
     let mut row = [KeyRange { start: 0, end: 0 }; 506];
@@ -39,7 +48,7 @@ fn overlap(line: &[u8]) {
     let mut n: usize = 0;
     while n < 506 {
         if count <= n {
-            print::yes(ranges::first_overlap(row, n));
+            share(row, n);
             return;
         }
         let start = lines::number32_at(line, 2 * n + 2);
@@ -47,7 +56,7 @@ fn overlap(line: &[u8]) {
         row[n] = KeyRange { start, end };
         n = n + 1;
     }
-    print::yes(ranges::first_overlap(row, 506));
+    share(row, 506);
 }
 
 pub fn run(name: &[u8], line: &[u8]) -> bool {

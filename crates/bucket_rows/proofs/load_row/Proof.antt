@@ -10,7 +10,7 @@ use Rattle.bucket_rows.proofs.load_row.Statement.{statement}
 use Rattle.bucket_rows.proofs.load_row.Tie as tie
 use Rattle.bucket_rows.proofs.load_row.Reads as reads
 use Rattle.bucket_rows.proofs.load_row.Lts as lts
-use Rattle.readers.proofs.read_range.Reads as range-reads
+use Rattle.segment_scan.proofs.read_bucket.Reads as range-reads
 use Rattle.segment_scan.proofs.key_range_of.Reads as key-range-reads
 use Rattle.values.proofs.next_part.Reads as next-part-reads
 
@@ -51,20 +51,20 @@ returns c =
 enum-known-start : tie.Need-enum-known-start Inv-loop μ-loop
 enum-known-start c = search needs
 
-add-read-range : tie.Need-add-read-range Inv-loop μ-loop
-add-read-range c = let q = part (c .before .before .before) _ (c .before .start .given .1) in omega (arith, q .0, q .1, q .2)
+add-read-bucket : tie.Need-add-read-bucket Inv-loop μ-loop
+add-read-bucket c = let q = part (c .before .before .before) _ (c .before .start .given .1) in omega (arith, q .0, q .1, q .2)
 
-sub-read-range : tie.Need-sub-read-range Inv-loop μ-loop
-sub-read-range c = search needs
+sub-read-bucket : tie.Need-sub-read-bucket Inv-loop μ-loop
+sub-read-bucket c = search needs
 
-part-read-range-start : tie.Need-part-read-range-start Inv-loop μ-loop
-part-read-range-start c = search needs
+part-read-bucket-start : tie.Need-part-read-bucket-start Inv-loop μ-loop
+part-read-bucket-start c = search needs
 
-part-read-range-end : tie.Need-part-read-range-end Inv-loop μ-loop
-part-read-range-end c = let q = part (c .before .before .before) _ (c .before .start .given .1) in omega (arith, q .0, q .1, q .2)
+part-read-bucket-end : tie.Need-part-read-bucket-end Inv-loop μ-loop
+part-read-bucket-end c = let q = part (c .before .before .before) _ (c .before .start .given .1) in omega (arith, q .0, q .1, q .2)
 
-read-range-requires : tie.Need-read-range-requires Inv-loop μ-loop
-read-range-requires c κs = search needs
+read-bucket-requires : tie.Need-read-bucket-requires Inv-loop μ-loop
+read-bucket-requires c κs = search needs
 
 key-range-of-requires : tie.Need-key-range-of-requires Inv-loop μ-loop
 key-range-of-requires c κs = search needs
@@ -86,7 +86,7 @@ loop-again c =
     let s = c .before .before .before .before .start .given in
     let q = c .before .before .before .before .before .before in
     loading-next (q .before .before .loop .inv) (s .0 .0) (s .0 .1 .0) (s .0 .1 .1 .0) (part q _ (s .1))
-    (c .before .read-range .ensures) (c .key-range-of .ensures) (omega arith)
+    (c .before .read-bucket .ensures) (c .key-range-of .ensures) (omega arith)
 
 returns-2 : tie.Need-returns-2 Inv-loop μ-loop
 returns-2 c = loaded-full (c .before .loop .inv) (omega arith)
@@ -102,11 +102,11 @@ load-row-spec =
     enum-told
     returns
     enum-known-start
-    add-read-range
-    sub-read-range
-    part-read-range-start
-    part-read-range-end
-    read-range-requires
+    add-read-bucket
+    sub-read-bucket
+    part-read-bucket-start
+    part-read-bucket-end
+    read-bucket-requires
     key-range-of-requires
     mul-row
     array-set-from-row

@@ -1,14 +1,14 @@
 -- `begin` meets its contract: a walk of its MIR by hand (proofs/Lent). Of `begun` only its contract is used.
 -- Assumes nothing.
-use Rattle.ranges.proofs.Words.{refl, none, some, List, [], _∷_, URA, id⊢, Heap, Model, Running, GhostRules, givenOf, tablesOf, Given}
-use Rattle.ranges.proofs.Words.{_$_, !, and-then, no-more, params1, pass1, pass0, init}
+use Rattle.marks.proofs.Words.{refl, none, some, List, [], _∷_, URA, id⊢, Heap, Model, Running, GhostRules, givenOf, tablesOf, Given}
+use Rattle.marks.proofs.Words.{_$_, !, and-then, no-more, params1, pass1, pass0, init}
 use lib.ListN.{drop}
 use contract.Lifetimes.{Lfts}
 use denote.Laws.{Spells}
 use denote.Signature.{Slot, plain, typesAt}
 use denote.Triple.Clauses.{Clauses}
 use Rattle.types.proofs.ControllerIncarnation as I
-use Rattle.ranges.proofs.Walk.{low, fits, mine}
+use Rattle.marks.proofs.Walk.{low, fits, mine}
 use Rattle.session_lent.proofs.Types.{link}
 use Rattle.session_lent.proofs.Lent.{copies-record, hands-on, Walked, lent-proved}
 use Rattle.session_link.proofs.begun as g

@@ -1,11 +1,11 @@
 -- `begin_owned` meets its contract: a walk of its MIR by hand. A local that holds the record is lent to `begin` for a lifetime that is made
 -- for the call (proofs/Lend). Of `begin` only its contract is used.
 -- Assumes nothing.
-use Rattle.ranges.proofs.Words.{_≡_, refl, ℕ, some, List, [], _∷_, URA, fullShare, named, Val, SProp, ent, emp, id⊢, ftrue, flft, Model}
-use Rattle.ranges.proofs.Words.{Heap, Env, Tables, fmOf, factI, Running, GhostRules, givenOf, tablesOf, Given, Sq, runs, params′, atRet}
-use Rattle.ranges.proofs.Words.{‵, raw, _⊛_, ⋆, _$_, _∵_, !, qed, by, move, drop, use1, split, join, fsplit, fjoin, frame, done, look}
-use Rattle.ranges.proofs.Words.{addr, returns, of-opd, and-then, no-more, stop, from, params1, pass1, pass0, init, RefT, heard, nothing}
-use Rattle.ranges.proofs.Words.{Contract, Triple, Clauses}
+use Rattle.marks.proofs.Words.{_≡_, refl, ℕ, some, List, [], _∷_, URA, fullShare, named, Val, SProp, ent, emp, id⊢, ftrue, flft, Model}
+use Rattle.marks.proofs.Words.{Heap, Env, Tables, fmOf, factI, Running, GhostRules, givenOf, tablesOf, Given, Sq, runs, params′, atRet}
+use Rattle.marks.proofs.Words.{‵, raw, _⊛_, ⋆, _$_, _∵_, !, qed, by, move, drop, use1, split, join, fsplit, fjoin, frame, done, look}
+use Rattle.marks.proofs.Words.{addr, returns, of-opd, and-then, no-more, stop, from, params1, pass1, pass0, init, RefT, heard, nothing}
+use Rattle.marks.proofs.Words.{Contract, Triple, Clauses}
 use mir.Val.{vptr}
 use base.Fml.{GName}
 use contract.Monad.{fact}
@@ -17,10 +17,10 @@ use Rattle.session.specs.declared.SessionRecord.{SessionRecord}
 use Rattle.session.specs.declared.Changed.{Changed}
 use Rattle.session.specs.Link.{beginOf}
 use Rattle.session.proofs.SessionRecord as R
-use Rattle.ranges.proofs.Walk.{low, IsLow, fits, held, envOf, closes, lifts, lays, mine, sets, lands-in, Meant, has}
-use Rattle.ranges.proofs.Walk.{Ends, leaves, table, knows, proved}
+use Rattle.marks.proofs.Walk.{low, IsLow, fits, held, envOf, closes, lifts, lays, mine, sets, lands-in, Meant, has, asks}
+use Rattle.marks.proofs.Walk.{dropped, all-go, Ends, leaves, table, knows, proved}
 use Rattle.session_lent.proofs.Types.{session, link, answer, changed, changed-is}
-use Rattle.session_lent.proofs.Lend.{lends, back, asks}
+use Rattle.session_lent.proofs.Lend.{lends, back}
 use Rattle.session_lent.proofs.begin as g
 use Rattle.session_lent.proofs.begin.Symbol as g-def
 use Rattle.session_lent.proofs.begin.Met as g-thm
@@ -97,7 +97,9 @@ module _ {M : Type 1} (𝓤 : URA M) (H : Heap 𝓤) (𝓜 : Model 𝓤 H) (𝓖
 pub begin-owned-spec : {M : Type 1} → stated.statement M
 unfolding code.routine tablesOf
 begin-owned-spec 𝓤 H 𝓜 𝓖 𝓡 =
-    proved 𝓤 H 𝓜 𝓖 𝓡 code.env f-key.name code.function f.ended (f.clauses 𝓤 H (𝓖 .A) (𝓜 .mem) (𝓡 .run)) (code.unfolded 𝓤 H 𝓜 𝓡)
-    ((λ κs x f. refl), ((λ κs x f. refl), tt)) (λ κs. ((λ x. low session x ∷ []), ((λ x. low link x ∷ []), tt)))
+    proved 𝓤 H 𝓜 𝓖 𝓡 code.env f-key.name code.function f.ended (dropped (f.ended .signature .params) (f.ended .kept))
+    (f.clauses 𝓤 H (𝓖 .A) (𝓜 .mem) (𝓡 .run)) (code.unfolded 𝓤 H 𝓜 𝓡)
+    (all-go 𝓤 H (𝓖 .A) (givenOf 𝓤 H 𝓜 𝓖) (f.ended .signature .params) (f.ended .kept) ((λ κs x f. refl), ((λ κs x f. refl), tt)))
+    (λ κs. ((λ x. low session x ∷ []), ((λ x. low link x ∷ []), tt)))
     (λ κs. (session .lowers .val-is, (link .lowers .val-is, tt))) (λ κs qs bounds a g are b. drop ! $ drop ! $ drop ! $
     walk 𝓤 H 𝓜 𝓖 𝓡 (a .0) (a .1 .0) (are .0) (are .1 .0) b)

@@ -1,13 +1,13 @@
 -- `invalidate` meets its contract: a walk of its MIR by hand (proofs/Lent). Of `invalidated` only its contract is used.
 -- Assumes nothing.
-use Rattle.ranges.proofs.Words.{refl, none, some, List, [], _∷_, URA, id⊢, Heap, Model, Running, GhostRules, tablesOf}
-use Rattle.ranges.proofs.Words.{_$_, !, and-then, no-more, params1, pass1, pass0, init}
+use Rattle.marks.proofs.Words.{refl, none, some, List, [], _∷_, URA, id⊢, Heap, Model, Running, GhostRules, tablesOf}
+use Rattle.marks.proofs.Words.{_$_, !, and-then, no-more, params1, pass1, pass0, init}
 use lib.ListN.{drop}
 use contract.Lifetimes.{Lfts}
 use denote.Laws.{Spells}
 use denote.Signature.{Slot, typesAt}
 use denote.Triple.Clauses.{Clauses}
-use Rattle.ranges.proofs.Walk.{mine}
+use Rattle.marks.proofs.Walk.{mine}
 use Rattle.session_lent.proofs.Lent.{copies-record, hands-on, Walked, lent-proved}
 use Rattle.session_link.proofs.invalidated as g
 use Rattle.session_link.proofs.invalidated.Symbol as g-def

@@ -1,8 +1,9 @@
 -- `response` meets its contract: a walk of its MIR by hand (proofs/Lent). Of `responded` only its contract is used.
 -- Assumes nothing.
-use Rattle.ranges.proofs.Words.{refl, none, some, List, [], _∷_, URA, named, id⊢, Heap, Model, Running, GhostRules, givenOf, tablesOf, Given}
-use Rattle.ranges.proofs.Words.{_$_, !, and-then, no-more, params1, pass1, pass0, init, slice-vals, shr-slice-tells}
+use Rattle.marks.proofs.Words.{refl, none, some, List, [], _∷_, URA, named, id⊢, Heap, Model, Running, GhostRules, givenOf, tablesOf, Given}
+use Rattle.marks.proofs.Words.{_$_, !, and-then, no-more, params1, pass1, pass0, init, slice-vals, shr-slice-tells}
 use lib.ListN.{drop}
+use mir.Syntax.{w8}
 use contract.Lifetimes.{Lfts}
 use denote.Builtin.{u8}
 use denote.Laws.{Spells}
@@ -10,9 +11,10 @@ use denote.Slice.{mut-slice-tells}
 use denote.Signature.{Slot, plain, shrSlice, mutSlice, typesAt}
 use denote.Triple.Clauses.{Clauses}
 use Rattle.types.proofs.ControllerIncarnation as I
-use Rattle.ranges.proofs.Walk.{low, fits, mine}
+use Rattle.marks.proofs.Walk.{low, fits, mine}
+use Rattle.marks.proofs.LentSlice.{slice-fits, borrows-on}
 use Rattle.session_lent.proofs.Types.{link}
-use Rattle.session_lent.proofs.Lent.{slice-fits, copies-record, borrows-on, hands-on, Walked, lent-proved}
+use Rattle.session_lent.proofs.Lent.{copies-record, hands-on, Walked, lent-proved}
 use Rattle.session_response.proofs.responded as g
 use Rattle.session_response.proofs.responded.Symbol as g-def
 use Rattle.session_response.proofs.responded.Met as g-thm
@@ -41,11 +43,11 @@ module _ {M : Type 1} (𝓤 : URA M) (H : Heap 𝓤) (𝓜 : Model 𝓤 H) (𝓖
 
   walk : Walked 𝓤 H 𝓜 𝓖 𝓡 code.env ss c f-key.name code.function spelt
   walk κs qs r rest _ are m =
-      params1 ! $ pass1 ! (init ! 7 refl (tt, tt)) $ pass1 ! (init ! 9 refl (slice-fits (are .0 .0 .1))) $
-      pass1 ! (init ! 11 refl (slice-fits (are .1 .0 .0 .1))) $
+      params1 ! $ pass1 ! (init ! 7 refl (tt, tt)) $ pass1 ! (init ! 9 refl (slice-fits w8 (are .0 .0 .1))) $
+      pass1 ! (init ! 11 refl (slice-fits w8 (are .1 .0 .0 .1))) $
       pass1 ! (init ! 13 refl (fits link W (rest .1 .1 .0) (are .1 .1 .0))) $ pass0 ! $
       copies-record ! (κs .0) (qs .0) r refl refl refl refl (λ is.
-      borrows-on ! 6 refl refl refl (tt, tt) refl refl refl (slice-fits (are .0 .0 .1)) $
+      borrows-on ! 6 refl refl refl (tt, tt) refl refl refl (slice-fits w8 (are .0 .0 .1)) $
       hands-on 𝓤 H 𝓜 𝓖 𝓡 code.env ss c κs qs r rest (spelt κs) tt (drop 2 steps.locals) m ss′ (g.clauses 𝓤 H (𝓖 .A) (𝓜 .mem) (𝓡 .run))
       rest _ tt ! g-def.name g-def.routine code.calls-session-response·responded (g-thm.met 𝓤 H 𝓜 𝓖 𝓡)
       (id⊢ 𝓤 _, (λ u ws. (ws, id⊢ 𝓤 _, id⊢ 𝓤 _))) is 3 (some _ ∷ some _ ∷ some _ ∷ none ∷ some _ ∷ some _ ∷ some _ ∷ [])

@@ -35,8 +35,8 @@ use denote.Steps.{only, facts}
 use borrow.Table.Elements.{at, cut-app, join-app, take-le, length-take-le}
 use Rattle.types.specs.declared.KeyRange.{KeyRange}
 use Rattle.types.proofs.KeyRange as T
-use Rattle.ranges.proofs.Row.{range, Own, vals}
-use Rattle.ranges.proofs.Walk.{Flat, ty, low, IsLow, has}
+use Rattle.marks.proofs.Row.{range, Own, vals}
+use Rattle.marks.proofs.Walk.{Flat, ty, low, IsLow, has}
 
 abbrev R : RattleType
 R = T.the-row

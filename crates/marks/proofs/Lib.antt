@@ -1,0 +1,9 @@
+mod Again
+mod BitLaws
+mod LendRow
+pub mod LentSlice
+pub mod MarkLaws
+mod Row
+pub mod RowLaws
+pub mod Walk
+pub mod Words
