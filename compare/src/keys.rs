@@ -1,5 +1,5 @@
 //! The segment of a lent list that takes a key, and test keys: against the model, and against published hashes.
-use crate::lists::{random_sheet, spoiled_sheet};
+use crate::lists::{any_sheet, spoiled_sheet};
 use crate::model::lookup::{KEY_MOST, murmur3, segment_for_key};
 use crate::model::sheet::{Segment, Sheet};
 use crate::model::test_key::{key_for_hash, key_in_segment};
@@ -125,8 +125,7 @@ impl Keys {
     pub fn step(&mut self, tally: &mut Tally) {
         for _ in 0..40 {
             let key = self.key();
-            let most = self.rng.pick(&[60, 200, 2048]);
-            let mut sheet = random_sheet(self.rng.word(), most, &mut self.rng);
+            let mut sheet = any_sheet(&mut self.rng);
             around(&mut sheet, murmur3(&key) as u16, &mut self.rng);
             let packed = sheet.packed();
             let lent = if self.rng.one_in(5) { spoiled_sheet(packed, &mut self.rng) } else { packed };

@@ -3,6 +3,7 @@ use crate::generate::Assignment;
 use crate::model::delta::{self, Delta, Written, within};
 use crate::model::names;
 use crate::model::sheet::{Segment, Sheet};
+use crate::names::long_path;
 use crate::oracle;
 use crate::ours;
 use crate::output::Output;
@@ -62,6 +63,29 @@ pub fn random_sheet(epoch: u64, most: usize, rng: &mut Rng) -> Sheet {
     sheet
 }
 
+/// Of so many random lists one has just 2,048 bytes, or 2 or 4 more.
+pub const AT_LIMIT: usize = 40;
+
+/// The longest packed list, two times in three, or the next longer ones.
+pub fn size_at_limit(rng: &mut Rng) -> usize {
+    rng.pick(&[2048, 2048, 2048, 2048, 2050, 2052])
+}
+
+/// A list of so many bytes, an even number, by any mix of segments and buckets. All of its ranges are the whole key space.
+pub fn sheet_of_size(epoch: u64, size: usize, rng: &mut Rng) -> Sheet {
+    let left = size - 10;
+    let mixes: Vec<usize> = (1..=left / 14).filter(|count| (left - 14 * count) % 4 == 0).collect();
+    let count = if rng.one_in(3) { rng.pick(&[mixes[0], mixes[1], mixes[mixes.len() - 1]]) } else { rng.pick(&mixes) };
+    let first = rng.pick(&[0, 1, 1 << 40, u64::MAX - 200]);
+    let mut segments = bare(first..first + count as u64);
+    for _ in 0..(left - 14 * count) / 4 {
+        let buckets = &mut segments[rng.below(count)].buckets;
+        let start = 3 * buckets.len() as u16;
+        buckets.push((start, start + rng.below(3) as u16));
+    }
+    Sheet { epoch, segments }
+}
+
 /// A list with one place spoiled, which may or may not make it malformed.
 pub fn spoiled_sheet(mut packed: Vec<u8>, rng: &mut Rng) -> Vec<u8> {
     let at = rng.below(packed.len());
@@ -91,11 +115,20 @@ pub fn lent(packed: Vec<u8>, rng: &mut Rng) -> Vec<u8> {
     if rng.one_in(5) { spoiled_sheet(packed, rng) } else { packed }
 }
 
-/// A random list, packed, now and then spoiled.
-pub fn lent_sheet(rng: &mut Rng) -> Vec<u8> {
+/// A random list, one in `AT_LIMIT` of about the largest size.
+pub fn any_sheet(rng: &mut Rng) -> Sheet {
     let epoch = rng.word() >> rng.below(64);
     let most = rng.pick(&[60, 200, 2048]);
-    let packed = random_sheet(epoch, most, rng).packed();
+    if rng.one_in(AT_LIMIT) {
+        let size = size_at_limit(rng);
+        return sheet_of_size(epoch, size, rng);
+    }
+    random_sheet(epoch, most, rng)
+}
+
+/// A random list, packed, now and then spoiled.
+pub fn lent_sheet(rng: &mut Rng) -> Vec<u8> {
+    let packed = any_sheet(rng).packed();
     lent(packed, rng)
 }
 
@@ -152,9 +185,12 @@ fn check_to_pb(tally: &mut Tally, output: &mut Output, sheet: &[u8], parent: &[u
     let given = ours::to_pb(&mut sheet_lent, &mut parent_lent, output.lent(room));
     let out = std::str::from_utf8(parent).is_ok_and(oracle::left_out);
     tally.left_out[tally::LISTS] += u64::from(out);
-    tally.count(Call::ToPb, &given, !out && matches!(expected.0.number, 0 | 12));
+    let by_rust = !out && matches!(expected.0.number, 0 | 12);
+    tally.count(Call::ToPb, &given, by_rust);
     let lent = [(&sheet_lent[..], sheet), (&parent_lent[..], parent)];
-    output.check(tally, Call::ToPb, &given, &expected, &lent, || format!("output of {room}, parent {}, sheet {}", hex(parent), hex(sheet)));
+    let wrong = output.differs(&given, &expected, &lent);
+    let found = if by_rust { [None, wrong] } else { [wrong, None] };
+    output.settle(tally, Call::ToPb, found, || format!("output of {room}, parent {}, sheet {}", hex(parent), hex(sheet)));
 }
 
 fn check_apply(tally: &mut Tally, output: &mut Output, sheet: &[u8], delta: &[u8], room: usize) {
@@ -200,12 +236,21 @@ impl Lists {
         lent(delta.packed().expect("few ids"), &mut self.rng)
     }
 
+    /// One in eight is long: 43 bytes or a few more, or as long as an identity's texts can be.
+    fn parent(&mut self) -> Vec<u8> {
+        if self.rng.one_in(8) {
+            let length = self.rng.pick(&[43, 2033]) + self.rng.below(16);
+            return format!("topic://{}", long_path(length - 8, &mut self.rng)).into_bytes();
+        }
+        self.rng.pick(PARENTS).to_vec()
+    }
+
     fn try_to_pb(&mut self, tally: &mut Tally) {
         let sheet = lent_sheet(&mut self.rng);
-        let parent = self.rng.pick(PARENTS);
-        let needed = written(&sheet, parent, usize::MAX).1.len();
+        let parent = self.parent();
+        let needed = written(&sheet, &parent, usize::MAX).1.len();
         let room = room(needed, self.output.length(), &mut self.rng);
-        check_to_pb(tally, &mut self.output, &sheet, parent, room);
+        check_to_pb(tally, &mut self.output, &sheet, &parent, room);
     }
 
     fn try_apply(&mut self, tally: &mut Tally) {
@@ -235,7 +280,6 @@ pub fn delta_of(lost: impl Iterator<Item = u64>, gained: Vec<Segment>) -> Vec<u8
 pub fn directed(tally: &mut Tally, seed: u64) {
     let mut rng = Rng::new(seed, "large lists");
     let mut output = Output::new(3 << 20, &mut rng);
-    large_counts(tally, &mut output);
     parents(tally, &mut output);
     buckets_outside(tally, &mut output);
     let most = output.length();
@@ -247,6 +291,7 @@ pub fn directed(tally: &mut Tally, seed: u64) {
         check_to_pb(tally, &mut output, &full, PARENTS[0], most);
     }
     many_buckets(tally, &mut output, &mut rng);
+    large_counts(tally, &mut output);
 }
 
 fn large_counts(tally: &mut Tally, output: &mut Output) {

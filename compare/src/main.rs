@@ -39,6 +39,8 @@ mod tally;
 mod texts;
 #[cfg(feature = "watch")]
 mod watch;
+#[cfg(feature = "watch")]
+mod windows;
 
 use parts::Parts;
 use tally::Tally;

@@ -8,7 +8,8 @@ use crate::raw::{self, Reply};
 use crate::reply::{refused, show, taken};
 use crate::rng::Rng;
 use crate::scalable_consumer::{ScalableConsumerType, SegmentSource, SegmentTopicError, canonical_segment_topic};
-use crate::tally::{Call, NAMES, Tally, hex};
+use crate::spoil::reported;
+use crate::tally::{Call, LONG_NAMES, NAMES, Tally, hex};
 use crate::types::{KeyRange, SegmentId};
 
 const EDGES: &[u32] = &[0, 1, 2, 9, 0x0a0b, 0x7fff, 0x8000, 65_534, 65_535, 65_536, 65_537, 1 << 31, u32::MAX];
@@ -49,9 +50,29 @@ const NEAR_NAMES: &[&str] = &[
 const GOOD_PARENTS: &[&str] = &["topic://a/b/c", "topic://t/n//m", "topic://t-0/n_1/m", "topic://é/日/\u{10ffff}"];
 const NEAR_PARENTS: &[&str] = &["topic://t?/n/m", "topic://t/#/m", "topic://a?/b#/c", "topic://t?/n", "topic://t?/n/m/", "topic://t/n/m#"];
 
+/// Of so many random paths one is long.
+const LONG_PATH: usize = 8;
+
+/// A path of a parent that is so many bytes long, 5 at least: its parts anywhere.
+pub fn long_path(length: usize, rng: &mut Rng) -> String {
+    let mut path = vec![b'x'; length];
+    let namespace = rng.between(1, length - 4);
+    path[namespace] = b'/';
+    path[rng.between(namespace + 2, length - 2)] = b'/';
+    String::from_utf8(path).expect("a text")
+}
+
 pub struct Names {
     rng: Rng,
     output: Output,
+}
+
+/// A call on a name: what ours gave, what the model says, the name behind it and before, whether the Rust is left out.
+struct Asked<'a> {
+    given: Reply,
+    expected: Written,
+    lent: (&'a [u8], &'a [u8]),
+    out: bool,
 }
 
 /// The Rust's. The parent's text and the range are tested before it is asked: 7, 9.
@@ -85,58 +106,50 @@ fn parent(topic: &[u8], room: usize) -> Written {
     }
 }
 
-/// Holds the Rust's answer to the model's, unless it is left out.
-fn judged(tally: &mut Tally, call: Call, out: bool, expected: &Written, theirs: impl FnOnce() -> Written, input: impl FnOnce() -> String) {
-    if out {
-        tally.left_out[NAMES] += 1;
-        return;
-    }
-    let theirs = theirs();
-    if theirs != *expected {
-        tally.differ(call, &format!("the model {}, the Rust {}", show(&expected.0), show(&theirs.0)), input);
-    }
-}
-
 impl Names {
     pub fn new(seed: u64) -> Self {
         let mut rng = Rng::new(seed, "names");
-        let output = Output::new(512, &mut rng);
+        let output = Output::new(4096, &mut rng);
         Self { rng, output }
     }
 
+    /// Holds ours to the model and to the Rust, unless that is left out.
+    fn judge(&mut self, tally: &mut Tally, call: Call, asked: Asked, theirs: impl FnOnce() -> Written, input: impl FnOnce() -> String) {
+        let Asked { given, expected, lent, out } = asked;
+        tally.left_out[NAMES] += u64::from(out);
+        tally.count(call, &given, !out && !matches!(expected.0.number, 7 | 21));
+        let theirs = if out { None } else { Some(theirs()) };
+        let by_rust = theirs.and_then(|theirs| self.output.differs_from_the_rust(&given, &theirs));
+        let by_model = self.output.differs(&given, &expected, &[lent]);
+        self.output.settle(tally, call, [by_model, by_rust], input);
+    }
+
     fn check_built(&mut self, tally: &mut Tally, parent: &[u8], range: (u32, u32), id: u64, room: usize) {
-        let expected = model::built(parent, range, id, room);
-        let out = std::str::from_utf8(parent).is_ok_and(left_out);
         let mut lent = parent.to_vec();
         let given = ours::segment_topic(&mut lent, range, id, self.output.lent(room));
-        tally.count(Call::SegmentTopic, &given, !out && !matches!(expected.0.number, 7 | 21));
+        let out = std::str::from_utf8(parent).is_ok_and(left_out);
+        let asked = Asked { given, expected: model::built(parent, range, id, room), lent: (&lent, parent), out };
         let input = || format!("parent {}, range {range:?}, id {id}, output of {room}", hex(parent));
-        self.output.check(tally, Call::SegmentTopic, &given, &expected, &[(&lent, parent)], input);
-        judged(tally, Call::SegmentTopic, out, &expected, || built(parent, range, id, room), input);
+        self.judge(tally, Call::SegmentTopic, asked, || built(parent, range, id, room), input);
     }
 
     fn check_source(&mut self, tally: &mut Tally, id: u64, topic: &[u8]) {
-        let expected = (model::source(id, topic), Vec::new());
-        let out = std::str::from_utf8(topic).is_ok_and(left_out_name);
         let mut lent = topic.to_vec();
         let given = ours::segment_source(id, &mut lent);
-        tally.count(Call::SegmentSource, &given, !out && expected.0.number != 7);
-        let input = || format!("id {id}, name {}", hex(topic));
-        self.output.check(tally, Call::SegmentSource, &given, &expected, &[(&lent, topic)], input);
+        let out = std::str::from_utf8(topic).is_ok_and(left_out_name);
+        tally.limits[LONG_NAMES] += u64::from(given.answer == raw::FOUND && topic.len() > 42);
+        let asked = Asked { given, expected: (model::source(id, topic), Vec::new()), lent: (&lent, topic), out };
         let found = |source: SegmentSource| taken(raw::FOUND, &[source.key_range().start().into(), source.key_range().end().into()]);
         let theirs = || (source(id, topic).map_or_else(|reply| reply, found), Vec::new());
-        judged(tally, Call::SegmentSource, out, &expected, theirs, input);
+        self.judge(tally, Call::SegmentSource, asked, theirs, || format!("id {id}, name {}", hex(topic)));
     }
 
     fn check_parent(&mut self, tally: &mut Tally, topic: &[u8], room: usize) {
-        let expected = model::parent(topic, room);
-        let out = std::str::from_utf8(topic).is_ok_and(left_out_name);
         let mut lent = topic.to_vec();
         let given = ours::parent_topic(&mut lent, self.output.lent(room));
-        tally.count(Call::ParentTopic, &given, !out && !matches!(expected.0.number, 7 | 21));
-        let input = || format!("name {}, output of {room}", hex(topic));
-        self.output.check(tally, Call::ParentTopic, &given, &expected, &[(&lent, topic)], input);
-        judged(tally, Call::ParentTopic, out, &expected, || parent(topic, room), input);
+        let out = std::str::from_utf8(topic).is_ok_and(left_out_name);
+        let asked = Asked { given, expected: model::parent(topic, room), lent: (&lent, topic), out };
+        self.judge(tally, Call::ParentTopic, asked, || parent(topic, room), || format!("name {}, output of {room}", hex(topic)));
     }
 
     /// A name in every call, with the id that it has and another, with room that is enough, exact and short.
@@ -179,6 +192,7 @@ impl Names {
 
     /// All edits of one byte of the good names, and all short names over small alphabets.
     pub fn directed(&mut self, tally: &mut Tally) {
+        self.kinds(tally);
         for name in GOOD_NAMES.iter().chain(NEAR_NAMES).chain(GOOD_PARENTS).chain(NEAR_PARENTS) {
             self.name(tally, name.as_bytes());
             self.parent(tally, name.as_bytes());
@@ -218,7 +232,12 @@ impl Names {
         }
     }
 
+    /// One in eight is long: 43 bytes or a few more, or around 256 or 2,048.
     fn random_path(&mut self) -> Vec<u8> {
+        if self.rng.one_in(LONG_PATH) {
+            let length = self.rng.pick(&[43, 250, 2040]) + self.rng.below(16);
+            return long_path(length, &mut self.rng).into_bytes();
+        }
         let pieces = ["a", "b", "/", "/", "//", "?", "#", "é", "-", "0", "topic"];
         (0..self.rng.between(1, 9)).flat_map(|_| self.rng.pick(&pieces).bytes()).collect()
     }
@@ -260,6 +279,11 @@ impl Names {
                 }
             }
         }
+    }
+
+    /// Kinds of consumers, and the first of the ranges.
+    fn kinds(&mut self, tally: &mut Tally) {
+        check_ranges(tally, (0, 9), (10, 65_535));
         for kind in (-300..300).chain([i32::MIN, i32::MAX, 1 << 16, (1 << 16) + 1]) {
             check_kind(tally, kind);
         }
@@ -288,8 +312,9 @@ fn edits(name: &[u8], mut each: impl FnMut(&[u8])) {
 
 fn check(tally: &mut Tally, call: Call, given: &Reply, expected: &Reply, input: impl FnOnce() -> String) {
     tally.count(call, given, true);
-    if given != expected {
-        tally.differ(call, &format!("ours {}, the Rust {}", show(given), show(expected)), input);
+    let wrong = (given != expected).then(|| format!("ours {}, the Rust {}", show(given), show(expected)));
+    if let Some(what) = reported([None, wrong]) {
+        tally.differ(call, &what, input);
     }
 }
 
@@ -315,7 +340,8 @@ fn check_ranges(tally: &mut Tally, range: (u32, u32), other: (u32, u32)) {
 fn check_kind(tally: &mut Tally, value: i32) {
     let (given, expected) = (ours::consumer_type(value), ScalableConsumerType::from_pb_i32(value).to_pb_i32());
     tally.count(Call::ConsumerType, &taken(raw::FOUND, &[]), true);
-    if given != expected {
-        tally.differ(Call::ConsumerType, &format!("ours {given}, the Rust {expected}"), || value.to_string());
+    let wrong = (given != expected).then(|| format!("ours {given}, the Rust {expected}"));
+    if let Some(what) = reported([None, wrong]) {
+        tally.differ(Call::ConsumerType, &what, || value.to_string());
     }
 }

@@ -14,34 +14,30 @@ use crate::short::Short;
 use crate::tally::Tally;
 use std::time::{Duration, Instant};
 
+/// What is written down, or goes the same way each time: each part with its name.
+pub const DIRECTED: &[(&str, fn(&mut Tally, u64))] = &[
+    ("rows and traps", rows::run),
+    ("limits", limits::run),
+    ("two orders, written down", orders::directed),
+    ("names, written down", |tally, seed| Names::new(seed).directed(tally)),
+    ("large lists", lists::directed),
+    ("either order, written down", either_order::directed),
+    ("published hashes", |tally, _| keys::directed(tally)),
+    ("prices", |tally, _| charges::directed(tally)),
+    ("counts, written down", |tally, _| churns::directed(tally)),
+    ("contracts, written down", |tally, _| hours::directed(tally)),
+    ("logs, written down", |tally, _| attach_logs::directed(tally)),
+    #[cfg(feature = "watch")]
+    ("long topics", crate::watch::directed),
+    #[cfg(feature = "watch")]
+    ("the watch's windows", crate::windows::directed),
+];
+
 /// All that is written down.
 pub fn directed(tally: &mut Tally, seed: u64) {
-    tally.place = "rows and traps".into();
-    rows::run(tally, seed);
-    tally.place = "limits".into();
-    limits::run(tally, seed);
-    tally.place = "segments in two orders".into();
-    orders::directed(tally, seed);
-    tally.place = "names".into();
-    Names::new(seed).directed(tally);
-    tally.place = "large lists".into();
-    lists::directed(tally, seed);
-    tally.place = EITHER_ORDER.into();
-    either_order::directed(tally, seed);
-    tally.place = "published hashes".into();
-    keys::directed(tally);
-    tally.place = CHARGES.into();
-    charges::directed(tally);
-    tally.place = CHURN.into();
-    churns::directed(tally);
-    tally.place = HOURS.into();
-    hours::directed(tally);
-    tally.place = ATTACH_LOGS.into();
-    attach_logs::directed(tally);
-    #[cfg(feature = "watch")]
-    {
-        tally.place = "long topics".into();
-        crate::watch::directed(tally, seed);
+    for (name, run) in DIRECTED {
+        tally.place = (*name).into();
+        run(tally, seed);
     }
 }
 
@@ -107,7 +103,7 @@ impl Part {
 
 pub struct Parts(Vec<Part>);
 
-/// The parts that the self-test asks for.
+/// The parts that the self-test asks for by name.
 pub const SMALL_STORES: &str = "sessions, small stores";
 pub const ORDERS: &str = "segments in two orders";
 pub const NAMES: &str = "names, ranges, kinds";
@@ -149,6 +145,10 @@ impl Parts {
     pub fn step(&mut self, tally: &mut Tally) -> bool {
         let behind = self.0.iter_mut().filter(|part| !part.over).min_by_key(|part| part.time / part.weight);
         behind.map(|part| part.step(tally)).is_some()
+    }
+
+    pub fn names(&self) -> Vec<&'static str> {
+        self.0.iter().map(|part| part.name).collect()
     }
 
     /// A step of the part with this name.

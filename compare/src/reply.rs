@@ -1,6 +1,9 @@
 //! Replies made by hand: what an answer should be, in the numbers of the exported library.
 use crate::raw::{self, Reply};
 
+// OURS: the refusals of docs/refusals.txt that the Rust does not have
+include!(concat!(env!("OUT_DIR"), "/ours.rs"));
+
 fn with(answer: u8, number: u8, values: &[u64]) -> Reply {
     let at = |k: usize| values.get(k).copied().unwrap_or(0);
     Reply { answer, number, count: values.len() as u8, first: at(0), second: at(1), third: at(2), fourth: at(3) }
@@ -21,14 +24,17 @@ pub fn word(value: i32) -> u64 {
     i64::from(value) as u64
 }
 
-/// Whether a refusal is one that the Rust does not know: such a call is not fed to it. A push that does not fit tells a max below 1,024.
+/// How many pushes the Rust's queue takes, which its 28 tells.
+const QUEUE_MOST: u64 = 1024;
+
+/// Whether it is the 28 of a push that does not fit: it tells a max below 1,024.
+pub fn is_no_room(reply: &Reply) -> bool {
+    reply.answer == raw::REFUSED && reply.number == 28 && reply.first < QUEUE_MOST
+}
+
+/// Whether a refusal is one that the Rust does not know: such a call is not fed to it.
 pub fn is_ours(reply: &Reply) -> bool {
-    let number = if reply.answer == raw::REFUSED { reply.number } else { 0 };
-    match number {
-        1..=8 | 15 | 20..=22 | 30..=38 => true,
-        28 => reply.first < 1024,
-        _ => false,
-    }
+    is_no_room(reply) || (reply.answer == raw::REFUSED && OURS.contains(&reply.number))
 }
 
 /// An answer in words; values beyond its count only where they are not 0.

@@ -27,11 +27,13 @@ pub const FIELDS: usize = POSITIONS + READERS;
 
 thread_local! {
     static ARMED: Cell<Option<(Call, Place)>> = const { Cell::new(None) };
+    /// A bit for each call that was made since `forget`.
+    static MADE: Cell<u64> = const { Cell::new(0) };
     static JUDGE: Cell<Judge> = const { Cell::new(Judge::All) };
 }
 
-/// Whose word on a session's calls is reported.
-#[derive(Clone, Copy, PartialEq, Eq)]
+/// Whose word on a call is reported.
+#[derive(Clone, Copy, Debug, PartialEq, Eq)]
 pub enum Judge {
     All,
     Model,
@@ -40,7 +42,7 @@ pub enum Judge {
     Order,
 }
 
-/// Leaves the judgement of a session's calls to this one.
+/// Leaves the judgement of calls to this one.
 pub fn leave_to(judge: Judge) {
     JUDGE.set(judge);
 }
@@ -48,6 +50,21 @@ pub fn leave_to(judge: Judge) {
 /// Whether this one's word is reported.
 pub fn listens_to(judge: Judge) -> bool {
     JUDGE.get() == Judge::All || JUDGE.get() == judge
+}
+
+/// What is reported of what the model and the Rust find wrong.
+pub fn reported([model, rust]: [Option<String>; 2]) -> Option<String> {
+    model.filter(|_| listens_to(Judge::Model)).or(rust.filter(|_| listens_to(Judge::Rust)))
+}
+
+/// Forgets which calls were made.
+pub fn forget() {
+    MADE.set(0);
+}
+
+/// Whether this call was made since then.
+pub fn was_made(call: Call) -> bool {
+    MADE.get() >> call as u32 & 1 == 1
 }
 
 /// The next call of this kind where the place exists is spoiled there.
@@ -66,6 +83,7 @@ pub fn disarm() {
 }
 
 fn waiting(call: Call) -> Option<Place> {
+    MADE.set(MADE.get() | 1 << call as u32);
     ARMED.get().filter(|(armed, _)| *armed == call).map(|(_, place)| place)
 }
 

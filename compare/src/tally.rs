@@ -1,5 +1,7 @@
 //! What was called, what was answered, and where the two sides differ.
 use crate::raw::{self, Reply};
+use crate::reply::{OURS, is_no_room};
+use std::panic::resume_unwind;
 
 #[derive(Clone, Copy, Debug, PartialEq, Eq)]
 pub enum Call {
@@ -79,22 +81,44 @@ const REACH: &[(Call, &[u8], &[u8])] = &[
 ];
 
 /// The calls of this build: the watch only where the library has it.
-fn reach() -> impl Iterator<Item = &'static (Call, &'static [u8], &'static [u8])> {
+pub fn reach() -> impl Iterator<Item = &'static (Call, &'static [u8], &'static [u8])> {
     REACH.iter().filter(|row| cfg!(feature = "watch") || !matches!(row.0, Watch | WatchText))
 }
 
-/// Above the number of every refusal.
-const NUMBERS: usize = 64;
-const COLUMNS: usize = NUMBERS + 16;
+impl Call {
+    /// Whether the Rust knows the call: each of its answers that are not ours alone has to be compared with the Rust's.
+    pub fn is_of_the_rust(self) -> bool {
+        match self {
+            Open | Matches | Begin | Invalidate | Update | Response | ResponseText | Drain => true,
+            ToPb | SegmentTopic | SegmentSource | ParentTopic => true,
+            RangeLen | RangeContains | RangeContainsRange | RangeAdjacent | ConsumerType => true,
+            Watch | WatchText => true,
+            Apply | Join | JoinEitherOrder | ApplyEitherOrder => false,
+            SegmentForKey | KeyForHash | KeyInSegment | Charge => false,
+            ChurnPush | ChurnClear | ChurnCurrent | IsOpen | EarliestOpen | CheckLog => false,
+        }
+    }
+}
+
+/// A column for each number that a refusal can have, then one for each other answer: none is shared.
+const NUMBERS: usize = 1 + u8::MAX as usize;
+const COLUMNS: usize = 2 * NUMBERS;
 
 fn column(answer: u8, number: u8) -> usize {
-    let at = if answer == raw::REFUSED { usize::from(number) } else { NUMBERS + usize::from(answer) };
-    at.min(COLUMNS - 1)
+    if answer == raw::REFUSED { usize::from(number) } else { NUMBERS + usize::from(answer) }
+}
+
+/// Whether the answers of a column are ours alone.
+fn is_ours(column: usize) -> bool {
+    OURS.iter().any(|number| usize::from(*number) == column)
 }
 
 fn column_name(at: usize) -> String {
     let answers = ["?", "accepted", "unchanged", "delta", "replay", "written", "yes", "no", "found"];
-    if at < NUMBERS { at.to_string() } else { (*answers.get(at - NUMBERS).unwrap_or(&"?")).to_string() }
+    match at.checked_sub(NUMBERS) {
+        None => at.to_string(),
+        Some(answer) => answers.get(answer).map_or_else(|| format!("answer {answer}"), ToString::to_string),
+    }
 }
 
 #[derive(Clone, Copy, Default)]
@@ -117,6 +141,24 @@ pub const RESPONSES: usize = 1;
 #[cfg_attr(not(feature = "watch"), allow(dead_code))]
 pub const WATCHES: usize = 2;
 
+/// The places in `Tally::limits`, and what each counts.
+pub const FULL_LISTS: usize = 0;
+pub const LONG_LISTS: usize = 1;
+pub const LONG_PARENTS: usize = 2;
+pub const LONG_NAMES: usize = 3;
+#[cfg_attr(not(feature = "watch"), allow(dead_code))]
+pub const LONG_TOPICS: usize = 4;
+const LIMITS: [&str; 5] = [
+    "lists of just 2,048 bytes taken",
+    "lists of 2 or 4 bytes more refused",
+    "sessions opened below a parent longer than 42 bytes",
+    "names longer than 42 bytes found",
+    "topics of 65,535 bytes taken",
+];
+
+/// What unwinds where `Tally::stops` is set and something differs, or as many calls as `Tally::most` were made.
+pub struct Stopped;
+
 pub struct Tally {
     counts: Vec<[Count; COLUMNS]>,
     pub calls: u64,
@@ -129,9 +171,16 @@ pub struct Tally {
     pub several_readers: u64,
     /// Messages with a singular field that comes again, compared with the Rust: updates, responses, watch updates.
     pub again: [u64; 3],
+    /// What random inputs reached of each limit.
+    pub limits: [u64; 5],
+    /// Pushes that did not fit the store.
+    no_room: u64,
     /// The part of the run that is on, and its step.
     pub place: String,
     pub quiet: bool,
+    /// Whether a difference ends the part that is on, and how many calls end it, by unwinding: the self-test's.
+    pub stops: bool,
+    pub most: u64,
 }
 
 impl Tally {
@@ -144,8 +193,12 @@ impl Tally {
             left_out: [0; 3],
             several_readers: 0,
             again: [0; 3],
+            limits: [0; 5],
+            no_room: 0,
             place: String::new(),
             quiet: false,
+            stops: false,
+            most: u64::MAX,
         }
     }
 
@@ -154,7 +207,11 @@ impl Tally {
         let count = &mut self.counts[call as usize][column(reply.answer, reply.number)];
         count.all += 1;
         count.oracle += u64::from(oracle);
+        self.no_room += u64::from(is_no_room(reply));
         self.calls += 1;
+        if self.calls == self.most {
+            resume_unwind(Box::new(Stopped));
+        }
     }
 
     /// A difference: what differs, and the input that shows it.
@@ -162,6 +219,9 @@ impl Tally {
         self.differences += 1;
         if !self.quiet && self.differences as usize <= PRINTED {
             println!("DIFFERENCE in {call:?} ({}): {what}\n    {}", self.place, input());
+        }
+        if self.stops {
+            resume_unwind(Box::new(Stopped));
         }
     }
 
@@ -186,6 +246,8 @@ impl Tally {
         println!("  sessions drained by several readers, by the model alone: {}", self.several_readers);
         let [updates, responses, watches] = self.again;
         println!("  singular fields that come again, compared with the Rust: {updates} updates, {responses} responses, {watches} watch updates");
+        let limits: Vec<String> = LIMITS.iter().zip(self.limits).map(|(what, count)| format!("{count} {what}")).collect();
+        println!("  at their limits: {}; {} pushes that did not fit", limits.join(", "), self.no_room);
     }
 
     /// The answers that should have come and did not.
@@ -203,17 +265,69 @@ impl Tally {
         if self.again[..if cfg!(feature = "watch") { 3 } else { 2 }].contains(&0) {
             missing.push("messages of each kind with a singular field that comes again, compared with the Rust".into());
         }
-        for (call, numbers, answers) in reach() {
-            let refusals = numbers.iter().map(|number| column(raw::REFUSED, *number));
-            let others = answers.iter().map(|answer| column(*answer, 0));
-            for at in refusals.chain(others) {
-                if self.counts[*call as usize][at].all == 0 {
-                    missing.push(format!("{call:?} {}", column_name(at)));
-                }
+        if self.no_room == 0 {
+            missing.push("Update 28 for want of room".into());
+        }
+        for (call, at) in columns() {
+            let count = self.counts[call as usize][at];
+            if count.all == 0 {
+                missing.push(format!("{call:?} {}", column_name(at)));
+            } else if count.oracle == 0 && call.is_of_the_rust() && !is_ours(at) {
+                missing.push(format!("{call:?} {} compared with the Rust", column_name(at)));
             }
         }
         missing
     }
+
+    /// The limits that random inputs have not reached. The self-test asks for it, since a short run may have none.
+    pub fn unreached(&self) -> Vec<&'static str> {
+        let here = if cfg!(feature = "watch") { LIMITS.len() } else { LONG_TOPICS };
+        LIMITS.into_iter().zip(self.limits).take(here).filter(|(_, count)| *count == 0).map(|(what, _)| what).collect()
+    }
+
+    /// A run in which everything came, each answer of the Rust's calls also compared with it.
+    fn whole() -> Self {
+        let mut tally = Self { orders: [1; 3], left_out: [1; 3], several_readers: 1, again: [1; 3], no_room: 1, ..Self::new() };
+        for (call, at) in columns() {
+            tally.counts[call as usize][at] = Count { all: 1, oracle: 1 };
+        }
+        tally
+    }
+
+    /// What a run could lack, or not compare with the Rust, without a word of `unseen`: to be nothing. And how many such things there are.
+    pub fn untold() -> (Vec<String>, usize) {
+        let mut lacking = vec![];
+        for (call, at) in columns() {
+            let name = format!("{call:?} {}", column_name(at));
+            let without = |count: Count| {
+                let mut tally = Self::whole();
+                tally.counts[call as usize][at] = count;
+                tally
+            };
+            lacking.push((name.clone(), without(Count::default())));
+            if call.is_of_the_rust() && !is_ours(at) {
+                lacking.push((format!("{name} by the Rust"), without(Count { all: 1, oracle: 0 })));
+            }
+        }
+        let watches = usize::from(cfg!(feature = "watch"));
+        lacking.extend((0..3).map(|at| (format!("order {at}"), Self { orders: [0, 1, 2].map(|k| u64::from(k != at)), ..Self::whole() })));
+        lacking.extend((0..3).map(|at| (format!("left out {at}"), Self { left_out: [0, 1, 2].map(|k| u64::from(k != at)), ..Self::whole() })));
+        lacking.extend((0..2 + watches).map(|at| (format!("again {at}"), Self { again: [0, 1, 2].map(|k| u64::from(k != at)), ..Self::whole() })));
+        lacking.push(("several readers".into(), Self { several_readers: 0, ..Self::whole() }));
+        lacking.push(("no room".into(), Self { no_room: 0, ..Self::whole() }));
+        let mut untold: Vec<String> = lacking.iter().filter(|(_, tally)| tally.unseen().len() != 1).map(|(name, _)| name.clone()).collect();
+        untold.extend(Self::whole().unseen());
+        untold.extend(REACH.iter().enumerate().filter(|(at, row)| row.0 as usize != *at).map(|(_, row)| format!("{:?}: not in its row", row.0)));
+        (untold, lacking.len())
+    }
+}
+
+/// Each call with each column that it can come to.
+fn columns() -> impl Iterator<Item = (Call, usize)> {
+    reach().flat_map(|(call, numbers, answers)| {
+        let refusals = numbers.iter().map(|number| column(raw::REFUSED, *number));
+        refusals.chain(answers.iter().map(|answer| column(*answer, 0))).map(|at| (*call, at))
+    })
 }
 
 /// Bytes in hex; long ones are cut.

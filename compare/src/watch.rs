@@ -11,7 +11,7 @@ use crate::reply::{is_ours, show, taken};
 use crate::rng::Rng;
 use crate::scalable_consumer::{ScalableTopicsWatch, TopicsChange, TopicsWatchError};
 use crate::session::stage::bytes_differ;
-use crate::tally::{Call, Tally, WATCHES, hex};
+use crate::tally::{Call, LONG_TOPICS, Tally, WATCHES, hex};
 use crate::texts;
 
 const POOL: &[&str] = &["", "a", "aa", "ab", "b", "b\u{0}", "topic://a/b/c", "topic://a/b/d", "é", "日本", "\u{10ffff}"];
@@ -20,25 +20,32 @@ fn set_of(topics: &[String]) -> Vec<u8> {
     model::packed(&topics.iter().map(|topic| topic.as_bytes()).collect())
 }
 
-/// What the Rust gave: reply, new set, output, broker's text; an error where prost reads the message otherwise.
-type Theirs = Result<(Reply, Vec<u8>, Vec<u8>, Option<String>), String>;
+/// What the Rust gave and holds then: reply, set, output, broker's text.
+struct Theirs {
+    reply: Reply,
+    set: Vec<u8>,
+    out: Vec<u8>,
+    text: Option<String>,
+}
 
-/// The Rust's answer on the same set.
-fn rust(watch_id: u64, topics: &model::Topics, bytes: &[u8]) -> Theirs {
+/// The Rust's answer on the same set; an error where prost reads the message otherwise.
+fn rust(watch_id: u64, topics: &model::Topics, bytes: &[u8]) -> Result<Theirs, String> {
     use pb::command_watch_scalable_topics_update::Event;
     let update = oracle::watch(bytes)?;
     let mut watch = ScalableTopicsWatch::new(watch_id, "a/b".into());
     let topics = topics.iter().map(|topic| String::from_utf8(topic.to_vec()).expect("a text")).collect();
     let event = Some(Event::Snapshot(pb::ScalableTopicsSnapshot { topics }));
     watch.handle_update(&pb::CommandWatchScalableTopicsUpdate { watch_id, event, ..Default::default() }).expect("a snapshot");
-    Ok(match watch.handle_update(&update) {
+    let answer = watch.handle_update(&update);
+    let set = set_of(&watch.topics());
+    Ok(match answer {
         Err(error) => {
             let text = if let TopicsWatchError::Broker { message, .. } = &error { Some(message.clone()) } else { None };
-            (oracle::watch_refusal(&error), Vec::new(), Vec::new(), text)
+            Theirs { reply: oracle::watch_refusal(&error), set, out: Vec::new(), text }
         }
         Ok(change) => {
-            let (set, out) = (set_of(&watch.topics()), change_of(&change));
-            (taken(raw::WRITTEN, &[set.len() as u64, out.len() as u64]), set, out, None)
+            let out = change_of(&change);
+            Theirs { reply: taken(raw::WRITTEN, &[set.len() as u64, out.len() as u64]), set, out, text: None }
         }
     })
 }
@@ -56,7 +63,7 @@ fn change_of(change: &TopicsChange) -> Vec<u8> {
 /// A lent buffer and an output, with mirrors.
 pub struct Bench {
     buffer: Vec<u8>,
-    mirror: Vec<u8>,
+    pub mirror: Vec<u8>,
     output: Output,
 }
 
@@ -81,47 +88,47 @@ impl Bench {
         self.mirror[..set.len()].copy_from_slice(set);
     }
 
+    /// Makes the call on our side, and on the Rust's where none of ours is due, and holds ours to the model and to the Rust.
     pub fn check(&mut self, tally: &mut Tally, call: &Watched) {
         let lent = &self.mirror[..call.length];
         let expected = model::watch(call.watch_id, lent, call.used, call.message, call.room);
         let mut bytes = call.message.to_vec();
         let given = ours::watch(call.watch_id, &mut self.buffer[..call.length], call.used, &mut bytes, self.output.lent(call.room));
         let fed = !is_ours(&expected.reply) && !is_ours(&given);
-        let theirs = if fed { Some(rust(call.watch_id, &model::topics(lent, call.used).expect("a set"), call.message)) } else { None };
+        let theirs = fed.then(|| rust(call.watch_id, &model::topics(lent, call.used).expect("a set"), call.message));
         tally.count(Call::Watch, &given, fed);
         tally.again[WATCHES] += u64::from(fed && messages::watch_again(call.message));
-        let input = || {
-            format!(
-                "id {}, buffer of {}, set {}, output of {}, message {}",
-                call.watch_id,
-                call.length,
-                hex(self.mirror.get(..call.used).unwrap_or(&[])),
-                call.room,
-                hex(call.message)
-            )
-        };
-        let written = [(0, expected.set.clone())];
-        if let Some(at) = bytes_differ(&self.buffer, &self.mirror, &written) {
-            tally.differ(Call::Watch, &format!("buffer byte {at}"), input);
-        }
-        if let Some(what) = theirs.as_ref().and_then(|theirs| differs(theirs, &expected)) {
-            tally.differ(Call::Watch, &what, input);
-        }
-        self.output.check(tally, Call::Watch, &given, &(expected.reply, expected.out), &[(&bytes, call.message)], input);
-        check_text(tally, call.message, theirs.and_then(Result::ok).and_then(|theirs| theirs.3));
+        let by_rust = theirs.as_ref().and_then(|theirs| self.differs_from_the_rust(&given, theirs));
+        let by_model = self.differs(&given, expected.clone(), (&bytes, call.message));
+        let shown = if by_model.is_some() || by_rust.is_some() { self.show(call) } else { String::new() };
+        self.output.settle(tally, Call::Watch, [by_model, by_rust], || shown);
+        check_text(tally, call.message, theirs.and_then(Result::ok).and_then(|theirs| theirs.text));
         self.put(&expected.set);
         self.buffer.copy_from_slice(&self.mirror);
     }
-}
 
-/// How the Rust's answer differs from the prediction, to which ours is held.
-fn differs(theirs: &Theirs, expected: &model::Prediction) -> Option<String> {
-    match theirs {
-        Err(what) => Some(what.clone()),
-        Ok((reply, set, out, _)) if (reply, set, out) != (&expected.reply, &expected.set, &expected.out) => {
-            Some(format!("the Rust {}, the model {}", show(reply), show(&expected.reply)))
+    /// How the answer, the buffer and the output differ from the prediction; `message` is as it was left, and as it was.
+    fn differs(&mut self, given: &Reply, expected: model::Prediction, message: (&[u8], &[u8])) -> Option<String> {
+        let written = [(0, expected.set)];
+        let buffer = bytes_differ(&self.buffer, &self.mirror, &written).map(|at| format!("buffer byte {at}"));
+        let rest = self.output.differs(given, &(expected.reply, expected.out), &[message]);
+        buffer.or(rest)
+    }
+
+    /// How the answer, the set at the buffer's front and the output differ from what the Rust gave and holds.
+    fn differs_from_the_rust(&self, given: &Reply, theirs: &Result<Theirs, String>) -> Option<String> {
+        match theirs {
+            Err(what) => Some(what.clone()),
+            Ok(theirs) if !self.buffer.starts_with(&theirs.set) => Some("the set is not the Rust's".into()),
+            Ok(theirs) => self.output.differs_from_the_rust(given, &(theirs.reply, theirs.out.clone())),
         }
-        Ok(_) => None,
+    }
+
+    /// All that decides the call's answer.
+    fn show(&self, call: &Watched) -> String {
+        let set = self.mirror.get(..call.used).unwrap_or(&[]);
+        let Watched { watch_id, length, room, message, .. } = call;
+        format!("id {watch_id}, buffer of {length}, set {}, output of {room}, message {}", hex(set), hex(message))
     }
 }
 
@@ -133,7 +140,7 @@ fn check_text(tally: &mut Tally, bytes: &[u8], broker: Option<String>) {
 }
 
 /// A message of these topics: a snapshot of `added`, or a diff.
-fn event(watch_id: u64, snapshot: bool, added: &[Vec<u8>], removed: &[Vec<u8>], style: Style, rng: &mut Rng) -> Vec<u8> {
+pub fn event(watch_id: u64, snapshot: bool, added: &[Vec<u8>], removed: &[Vec<u8>], style: Style, rng: &mut Rng) -> Vec<u8> {
     let mut inner: Vec<Field> = added.iter().map(|topic| Field::Bytes(1, topic.clone())).collect();
     if !snapshot {
         inner.extend(removed.iter().map(|topic| Field::Bytes(2, topic.clone())));
@@ -143,26 +150,36 @@ fn event(watch_id: u64, snapshot: bool, added: &[Vec<u8>], removed: &[Vec<u8>], 
 }
 
 /// How long the new set and the output are, 0 where the call is refused anyway.
-fn needed(watch_id: u64, buffer: &[u8], used: usize, bytes: &[u8]) -> (usize, usize) {
+pub fn needed(watch_id: u64, buffer: &[u8], used: usize, bytes: &[u8]) -> (usize, usize) {
     let given = model::watch(watch_id, buffer, used, bytes, usize::MAX);
     (given.set.len(), given.out.len())
 }
+
+/// Of so many calls one has topics of about the most bytes.
+const LONG_TOPIC: usize = 80;
 
 pub struct Watch {
     rng: Rng,
     bench: Bench,
     used: usize,
+    /// For topics of about the most bytes.
+    long: Bench,
+    long_used: usize,
 }
 
 impl Watch {
     pub fn new(seed: u64) -> Self {
         let mut rng = Rng::new(seed, "watch");
         let bench = Bench::new(1 << 12, &mut rng);
-        Self { rng, bench, used: 0 }
+        let long = Bench::new(1 << 18, &mut rng);
+        Self { rng, bench, used: 0, long, long_used: 0 }
     }
 
     pub fn step(&mut self, tally: &mut Tally) {
         for _ in 0..40 {
+            if self.rng.one_in(LONG_TOPIC) {
+                self.long_topics(tally);
+            }
             if self.rng.one_in(12) {
                 self.other_set();
             }
@@ -179,6 +196,27 @@ impl Watch {
             if answer.answer == raw::WRITTEN {
                 self.used = answer.first as usize;
             }
+        }
+    }
+
+    /// Topics of 65,534 to 65,536 bytes added, removed or told, with a buffer that just suffices or more.
+    fn long_topics(&mut self, tally: &mut Tally) {
+        let rng = &mut self.rng;
+        let mut some = || -> Vec<Vec<u8>> {
+            let length = |rng: &mut Rng| if rng.one_in(6) { 65_536 } else { 65_535 - rng.below(2) };
+            (0..rng.below(3)).map(|_| vec![rng.pick(b"abc"); length(rng)]).collect()
+        };
+        let (added, removed) = (some(), some());
+        let bytes = event(3, rng.one_in(3), &added, &removed, Style::Plain, rng);
+        let (set, out) = needed(3, &self.long.mirror, self.long_used, &bytes);
+        let whole = self.long.mirror.len();
+        let length = if rng.one_in(2) { set.max(self.long_used) } else { whole };
+        let room = if rng.one_in(8) { out.saturating_sub(1) } else { out };
+        let answer = model::watch(3, &self.long.mirror[..length], self.long_used, &bytes, room).reply;
+        self.long.check(tally, &Watched { watch_id: 3, length, used: self.long_used, message: &bytes, room });
+        if answer.answer == raw::WRITTEN {
+            self.long_used = answer.first as usize;
+            tally.limits[LONG_TOPICS] += u64::from(added.iter().any(|topic| topic.len() == 65_535));
         }
     }
 
@@ -229,7 +267,7 @@ impl Watch {
     }
 }
 
-/// Long topics, many topics, buffers and outputs one byte short, sets that are just not sets.
+/// Long topics, buffers and outputs one byte short, sets that are just not sets.
 pub fn directed(tally: &mut Tally, seed: u64) {
     let mut rng = Rng::new(seed, "long topics");
     let mut bench = Bench::new(1 << 18, &mut rng);
@@ -248,11 +286,10 @@ pub fn directed(tally: &mut Tally, seed: u64) {
     }
     sets(tally, &mut bench);
     first_faults(tally, &mut bench);
-    many_topics(tally, &mut bench, &mut rng);
 }
 
 /// The call with buffer and output that are enough, exact, and one byte short.
-fn around(tally: &mut Tally, bench: &mut Bench, set: &[u8], bytes: &[u8], whole: usize) {
+pub fn around(tally: &mut Tally, bench: &mut Bench, set: &[u8], bytes: &[u8], whole: usize) {
     bench.put(set);
     let (buffer, room) = needed(3, &bench.mirror, set.len(), bytes);
     let rooms = [(whole, whole), (buffer, room), (buffer.saturating_sub(1), room), (buffer, room.saturating_sub(1)), (buffer.saturating_sub(1), 0)];
@@ -337,32 +374,4 @@ fn first_faults(tally: &mut Tally, bench: &mut Bench) {
         }
         bench.check(tally, &Watched { watch_id: 3, length: 64, used: 0, message, room: 64 });
     }
-}
-
-/// Many topics, rising, falling, shuffled, with one out of place and with repeats, as snapshot and as diff over a set of every second one.
-fn many_topics(tally: &mut Tally, bench: &mut Bench, rng: &mut Rng) {
-    for count in [2, 511, 512, 513, 1023, 1024, 1025, 2000] {
-        let rising: Vec<Vec<u8>> = (0..count).map(topic).collect();
-        let second: Vec<&[u8]> = rising.iter().skip(1).step_by(2).map(Vec::as_slice).collect();
-        let set = model::packed(&second.into_iter().collect());
-        for order in 0..5 {
-            let mut topics = rising.clone();
-            match order {
-                0 => {}
-                1 => topics.reverse(),
-                2 => rng.shuffle(&mut topics),
-                3 => topics.swap(0, count - 1),
-                _ => topics.extend(rising.iter().step_by(3).cloned()),
-            }
-            let removed: Vec<Vec<u8>> = topics.iter().step_by(3).cloned().collect();
-            for snapshot in [true, false] {
-                let bytes = event(3, snapshot, &topics, &removed, Style::Plain, rng);
-                around(tally, bench, &set, &bytes, bench.mirror.len());
-            }
-        }
-    }
-}
-
-fn topic(number: usize) -> Vec<u8> {
-    format!("topic://tenant/namespace/name-{number:05}").into_bytes()
 }

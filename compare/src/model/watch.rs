@@ -9,6 +9,7 @@ use std::ops::Range;
 pub type Topics<'a> = BTreeSet<&'a [u8]>;
 
 /// What a call should give: the new set and the output, each written from the first byte.
+#[derive(Clone)]
 pub struct Prediction {
     pub reply: Reply,
     pub set: Vec<u8>,

@@ -2,7 +2,7 @@
 use super::stage::{Ask, ROOM, Stage};
 use super::world::{TOPICS, World};
 use crate::generate::{Assignment, Style, damaged};
-use crate::lists::{random_sheet, spoiled_sheet};
+use crate::lists::{AT_LIMIT, random_sheet, sheet_of_size, size_at_limit, spoiled_sheet};
 use crate::model::identity::Texts;
 use crate::model::session::{QUEUE, SLOT, STORE_LEAST};
 use crate::model::sheet::Sheet;
@@ -107,7 +107,8 @@ fn sheet(bad: bool, again: bool, before: &[u8], rng: &mut Rng) -> Vec<u8> {
     }
     let epoch = rng.pick(&[0, 3, 3, 3, 4, 4, 5, u64::MAX]);
     let most = if rng.one_in(8) { 2048 } else { 120 };
-    let packed = random_sheet(epoch, most, rng).packed();
+    let list = if rng.one_in(AT_LIMIT) { sheet_of_size(epoch, size_at_limit(rng), rng) } else { random_sheet(epoch, most, rng) };
+    let packed = list.packed();
     if bad { spoiled_sheet(packed, rng) } else { packed }
 }
 

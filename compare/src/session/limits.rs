@@ -10,13 +10,13 @@ use crate::rng::Rng;
 use crate::tally::Tally;
 
 pub fn run(tally: &mut Tally, seed: u64) {
+    slots(tally, seed);
     stores(tally, seed);
     rooms(tally, seed);
     identities(tally, seed);
     sizes(tally, seed);
     bucket_rows(tally, seed);
     many_segments(tally, seed);
-    slots(tally, seed);
     deep(tally, seed);
 }
 

@@ -9,7 +9,7 @@ use crate::raw::{self, Record, SessionReply};
 use crate::reply::{is_ours, show};
 use crate::rng::Rng;
 use crate::shrink::shrunk;
-use crate::spoil::{Judge, listens_to};
+use crate::spoil::reported;
 use crate::tally::{Call, RESPONSES, SESSIONS, Tally, UPDATES, first_difference, hex};
 use crate::texts;
 
@@ -108,7 +108,7 @@ impl Stage {
         let wrong = self.differs(&prediction, &given);
         let good = wrong.is_none();
         let wrong_twin = twin.as_ref().and_then(|twin| twin.differs(&given.state, &self.store));
-        if let Some(what) = reported(wrong, wrong_twin) {
+        if let Some(what) = reported([wrong, wrong_twin]) {
             let input =
                 || format!("store of {} bytes, kind {}, texts {:?}", self.store.len(), texts.kind, texts.texts.each_ref().map(|text| hex(text)));
             tally.differ(Call::Open, &what, input);
@@ -152,7 +152,7 @@ impl Stage {
         let wrong = self.differs(&prediction, &given).or_else(|| (message != ask.message()).then(|| "the message was changed".into()));
         let (wrong_twin, text) = self.compare(ask, &given, fed);
         let good = wrong.is_none();
-        if let Some(what) = reported(wrong, wrong_twin) {
+        if let Some(what) = reported([wrong, wrong_twin]) {
             tally.differ(ask.call(), &what, || self.show(&self.smallest(ask)));
         }
         if matches!(ask, Ask::Response { .. }) {
@@ -255,11 +255,6 @@ impl Stage {
             None => format!("malformed {}..", hex(&slot[..64])),
         }
     }
-}
-
-/// What is reported of what the model and the Rust say.
-fn reported(model: Option<String>, rust: Option<String>) -> Option<String> {
-    model.filter(|_| listens_to(Judge::Model)).or(rust.filter(|_| listens_to(Judge::Rust)))
 }
 
 /// What 01 says of the call.

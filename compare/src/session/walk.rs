@@ -4,12 +4,20 @@ use super::stage::{Ask, ROOM, Stage};
 use super::twin::Twin;
 use super::world::{TOPICS, World};
 use crate::generate::{Assignment, Style, damaged, refusing_response};
+use crate::lists::{AT_LIMIT, size_at_limit};
 use crate::model::identity::Texts;
 use crate::model::session::{SLOT, STORE_FULL, STORE_LEAST};
-use crate::raw::READERS;
+use crate::names::long_path;
+use crate::raw::{self, READERS, Reply};
 use crate::relay;
 use crate::rng::Rng;
-use crate::tally::Tally;
+use crate::tally::{FULL_LISTS, LONG_LISTS, LONG_PARENTS, Tally};
+
+/// Of so many sessions one has a long parent.
+const LONG_TOPIC: usize = 12;
+
+/// The most bytes that the three texts of a session can have.
+const TEXTS_MOST: usize = 2041;
 
 /// Which stores a walk goes over.
 #[derive(Clone, Copy, PartialEq, Eq)]
@@ -39,6 +47,8 @@ pub struct Walk {
     patience: usize,
     /// Each message is also asked with its segments in another order.
     two_orders: bool,
+    /// The size of the list last made, where it was made to have one.
+    sized: Option<usize>,
     /// The one reader that drains; where there is none, all of them do, and the model alone is asked.
     reader: Option<usize>,
 }
@@ -62,6 +72,7 @@ impl Walk {
             pushed: 0,
             patience: 1,
             two_orders: false,
+            sized: None,
             reader: None,
         }
     }
@@ -77,17 +88,50 @@ impl Walk {
                 self.open(tally);
             }
             self.left -= 1;
+            self.sized = None;
             let ask = if self.fill > 0 { self.push() } else { self.next() };
             self.fill = self.fill.saturating_sub(1);
             if self.two_orders {
                 orders::ask(tally, &ask, &mut self.stage, &mut self.twin, &mut self.rng);
             } else {
-                self.stage.ask(tally, &ask, self.twin.as_mut());
+                let given = self.stage.ask(tally, &ask, self.twin.as_mut());
+                self.count_size(tally, &given.reply);
             }
             if matches!(ask, Ask::Begin { .. } | Ask::Invalidate) {
                 self.fill = self.rng.pick(&[0, 0, 2, 5]);
             }
         }
+    }
+
+    /// Counts a list at the limit that was taken, and one beyond it that was refused.
+    fn count_size(&self, tally: &mut Tally, reply: &Reply) {
+        match self.sized {
+            Some(SLOT) => tally.limits[FULL_LISTS] += u64::from(reply.answer != raw::REFUSED),
+            Some(_) => tally.limits[LONG_LISTS] += u64::from(reply.number == 15),
+            None => {}
+        }
+    }
+
+    /// A list of the world; one in `AT_LIMIT` has just 2,048 bytes, or 2 or 4 more. Long queues are filled with others.
+    fn list(&mut self, epoch: u64) -> Assignment {
+        if self.fill == 0 && self.rng.one_in(AT_LIMIT) {
+            let size = size_at_limit(&mut self.rng);
+            self.sized = Some(size);
+            return self.world.list_of_size(epoch, size, &mut self.rng);
+        }
+        self.world.list(epoch, &mut self.rng)
+    }
+
+    /// The three texts of a session: one topic in six may be no parent, one in `LONG_TOPIC` is longer than 42 bytes, up to what the three texts can
+    /// have together.
+    fn texts(&mut self) -> [String; 3] {
+        let rng = &mut self.rng;
+        let topic = if rng.one_in(6) { rng.pick(TOPICS) } else { rng.pick(&TOPICS[..5]) };
+        let [subscription, name] = [rng.pick(&["s", "", "sub ü"]), rng.pick(&["n", "", "name"])];
+        let most = TEXTS_MOST - subscription.len() - name.len();
+        let long = rng.pick(&[43, 43, 120, 250, most, most + 1]) + rng.below(2);
+        let topic = if rng.one_in(LONG_TOPIC) { format!("topic://{}", long_path(long.min(most + 1) - 8, rng)) } else { topic.into() };
+        [topic, subscription.into(), name.into()]
     }
 
     fn store(&mut self) -> Vec<u8> {
@@ -102,12 +146,11 @@ impl Walk {
 
     fn open(&mut self, tally: &mut Tally) {
         let store = self.store();
+        let texts = self.texts();
+        self.world = World::new(&texts[0]);
         let rng = &mut self.rng;
-        let topic = if rng.one_in(6) { rng.pick(TOPICS) } else { rng.pick(&TOPICS[..5]) };
-        self.world = World::new(topic);
         self.consumer_id = rng.pick(&[0, 7, u64::MAX]);
-        let texts = [topic, rng.pick(&["s", "", "sub ü"]), rng.pick(&["n", "", "name"])];
-        self.texts = Texts { texts: texts.map(|text| text.as_bytes().to_vec()), kind: rng.pick(&[0, 1, 2, -1]) };
+        self.texts = Texts { texts: texts.map(String::into_bytes), kind: rng.pick(&[0, 1, 2, -1]) };
         let incarnation = rng.pick(&[0, 1, 5, u64::MAX - 2]);
         self.stage = Stage::new(Default::default(), store, rng);
         self.patience = if self.size == Size::Full {
@@ -124,6 +167,11 @@ impl Walk {
             Size::Small => (rng.between(10, 200), rng.pick(&[0, 0, 2, 6])),
         };
         self.twin = self.stage.open(tally, self.consumer_id, incarnation, &self.texts);
+        let long = self.texts.texts[0].len() > 42;
+        tally.limits[LONG_PARENTS] += u64::from(long && self.twin.is_some());
+        if long && self.twin.is_none() {
+            (self.left, self.fill) = (5, 0);
+        }
         self.reader = if self.rng.one_in(4) { None } else { Some(self.rng.below(READERS)) };
         if self.reader.is_none() {
             self.twin = None;
@@ -177,7 +225,7 @@ impl Walk {
     /// A push that is most likely queued.
     fn push(&mut self) -> Ask {
         self.pushed = self.behind().saturating_add(u64::from(self.rng.one_in(3)));
-        let list = self.world.list(self.pushed, &mut self.rng);
+        let list = self.list(self.pushed);
         let message = list.update(self.consumer_id, Style::Plain, &mut self.rng);
         Ask::Update { message, incarnation: self.stage.record.incarnation, room: ROOM }
     }
@@ -186,7 +234,7 @@ impl Walk {
         let (epoch, style) = (self.near(self.behind()), self.style());
         self.pushed = epoch;
         let faulty = self.rng.one_in(if self.two_orders { 3 } else { 8 });
-        let list = if faulty { self.faulty(epoch) } else { self.world.list(epoch, &mut self.rng) };
+        let list = if faulty { self.faulty(epoch) } else { self.list(epoch) };
         let consumer_id = if self.rng.one_in(40) { self.rng.word() } else { self.consumer_id };
         let message = list.update(consumer_id, style, &mut self.rng);
         let message = self.sometimes_relayed(message, relay::update);
@@ -225,7 +273,7 @@ impl Walk {
             0 => refusing_response(request, style, &mut self.rng),
             1 => self.faulty(epoch).response(request, style, &mut self.rng),
             2 | 3 if self.two_orders => self.faulty(epoch).response(request, style, &mut self.rng),
-            _ => self.world.list(epoch, &mut self.rng).response(request, style, &mut self.rng),
+            _ => self.list(epoch).response(request, style, &mut self.rng),
         };
         let message = self.sometimes_relayed(message, relay::response);
         let message = self.sometimes_damaged(message);

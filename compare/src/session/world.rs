@@ -1,5 +1,6 @@
 //! A small world of assignments: few ids, ranges and epochs, so that lists are often equal, alike, stale or repeated.
 use crate::generate::{Assignment, Part};
+use crate::lists::sheet_of_size;
 use crate::rng::Rng;
 
 /// Topics of sessions: valid parents first, then some that are not.
@@ -102,6 +103,16 @@ impl World {
         };
         ids.truncate(count);
         ids.iter().map(|id| part(*id, rng)).collect()
+    }
+
+    /// A list of so many bytes, packed; one time in four the next is made from it.
+    pub fn list_of_size(&mut self, epoch: u64, size: usize, rng: &mut Rng) -> Assignment {
+        let mut list = Assignment::of_sheet(&sheet_of_size(epoch, size, rng), self.path());
+        rng.shuffle(&mut list.parts);
+        if rng.one_in(4) {
+            self.last = list.clone();
+        }
+        list
     }
 
     /// The list with one fault: of a range, a bucket, buckets, a bucket beyond its range, a name or an id.
