@@ -1,98 +1,100 @@
-//! Whether the comparison notices a wrong bit, for each call and each place of what it gives.
+//! Whether the comparison notices a wrong bit: for each call and each place of what it gives, in every part of a run, by each judge alone.
 use crate::model::session::{LIST, SLOT};
-use crate::parts::{ATTACH_LOGS, CHARGES, CHURN, EITHER_ORDER, HOURS, KEYS, LISTS, NAMES, ORDERS, Parts, SMALL_STORES, WATCH};
-use crate::spoil::{FIELDS, Judge, Place, arm, armed, disarm, leave_to};
-use crate::tally::{Call, Tally};
+use crate::parts::{ATTACH_LOGS, CHARGES, CHURN, DIRECTED, EITHER_ORDER, HOURS, KEYS, LISTS, NAMES, ORDERS, Parts, SMALL_STORES, WATCH};
+use crate::spoil::{FIELDS, Judge, Place, arm, armed, disarm, forget, leave_to, was_made};
+use crate::tally::{Call, Stopped, Tally, reach};
+use std::panic::{AssertUnwindSafe, catch_unwind, resume_unwind};
 
 const REPLY: &[Place] = &[Place::Answer, Place::Number, Place::Count, Place::Value(0), Place::Value(1), Place::Value(2), Place::Value(3)];
 
-/// A call, whether it gives a record, and how many slices it is lent.
-const CALLS: &[(Call, bool, usize)] = &[
-    (Call::Open, true, 1),
-    (Call::Matches, false, 1),
-    (Call::Begin, true, 0),
-    (Call::Invalidate, true, 0),
-    (Call::Update, true, 3),
-    (Call::Response, true, 2),
-    (Call::Drain, true, 2),
-    (Call::Apply, false, 3),
-    (Call::Join, false, 3),
-    (Call::ToPb, false, 3),
-    (Call::SegmentForKey, false, 2),
-    (Call::KeyForHash, false, 0),
-    (Call::KeyInSegment, false, 1),
-    (Call::Charge, false, 1),
-    (Call::ChurnPush, false, 1),
-    (Call::ChurnClear, false, 1),
-    (Call::ChurnCurrent, false, 1),
-    (Call::IsOpen, false, 1),
-    (Call::EarliestOpen, false, 1),
-    (Call::CheckLog, false, 2),
-    (Call::SegmentTopic, false, 2),
-    (Call::SegmentSource, false, 1),
-    (Call::ParentTopic, false, 2),
-    (Call::RangeLen, false, 0),
-    (Call::RangeContains, false, 0),
-    (Call::RangeContainsRange, false, 0),
-    (Call::RangeAdjacent, false, 0),
-    #[cfg(feature = "watch")]
-    (Call::Watch, false, 3),
-];
-
-fn places() -> Vec<(Call, Place)> {
-    let mut places = vec![(Call::ConsumerType, Place::Kind)];
-    places.extend(places_of(|_| true));
-    places
+/// What a call gives.
+enum Gives {
+    /// A reply, whether a record too, and how many slices it is lent.
+    Reply(bool, usize),
+    /// A part of the message.
+    Text,
+    /// A number.
+    Kind,
 }
 
-/// All that some of the calls give.
-fn places_of(wanted: fn(Call) -> bool) -> Vec<(Call, Place)> {
-    let mut places = Vec::new();
-    for (call, record, slices) in CALLS.iter().filter(|(call, ..)| wanted(*call)) {
-        let state = (0..if *record { FIELDS } else { 0 }).map(Place::State);
-        let lent = (0..*slices).flat_map(|slice| (0..3).map(move |part| Place::Lent(slice, part)));
-        places.extend(REPLY.iter().copied().chain(state).chain(lent).map(|place| (*call, place)));
+fn gives(call: Call) -> Gives {
+    match call {
+        Call::Begin | Call::Invalidate => Gives::Reply(true, 0),
+        Call::Open => Gives::Reply(true, 1),
+        Call::Response | Call::Drain => Gives::Reply(true, 2),
+        Call::Update => Gives::Reply(true, 3),
+        Call::KeyForHash | Call::RangeLen | Call::RangeContains | Call::RangeContainsRange | Call::RangeAdjacent => Gives::Reply(false, 0),
+        Call::Matches | Call::KeyInSegment | Call::Charge | Call::SegmentSource | Call::IsOpen | Call::EarliestOpen => Gives::Reply(false, 1),
+        Call::ChurnPush | Call::ChurnClear | Call::ChurnCurrent => Gives::Reply(false, 1),
+        Call::SegmentForKey | Call::CheckLog | Call::SegmentTopic | Call::ParentTopic => Gives::Reply(false, 2),
+        Call::Apply | Call::Join | Call::ApplyEitherOrder | Call::JoinEitherOrder | Call::ToPb | Call::Watch => Gives::Reply(false, 3),
+        Call::ResponseText | Call::WatchText => Gives::Text,
+        Call::ConsumerType => Gives::Kind,
     }
-    places
 }
 
-/// A text is judged where its message reads; of others only that it lies inside.
-fn text_places() -> Vec<(Call, Place)> {
-    let calls = [Call::ResponseText, Call::WatchText];
-    let here = if cfg!(feature = "watch") { &calls[..] } else { &calls[..1] };
-    here.iter().flat_map(|call| [(*call, Place::TextStart), (*call, Place::TextLength)]).collect()
-}
-
-/// What of a session's calls the Rust alone can judge: the answer, of the record what the Rust has too, the delta, baseline and list.
-fn places_of_the_rust() -> Vec<(Call, Place)> {
-    let mut places = vec![
-        (Call::Update, Place::Byte(2, 0)),
-        (Call::Drain, Place::Byte(1, 0)),
-        (Call::Update, Place::Byte(0, LIST + 7)),
-        (Call::Response, Place::Byte(0, LIST + 7)),
-        (Call::Response, Place::Byte(0, SLOT + 7)),
-    ];
-    for call in [Call::Begin, Call::Invalidate, Call::Update, Call::Response, Call::Drain] {
-        places.extend(REPLY.iter().copied().chain([1, 2, 3, 4, 5, 6].map(Place::State)).map(|place| (call, place)));
+/// All that a call gives: each field, and of each slice the first byte, the middle and the last.
+fn all_places(call: Call) -> Vec<Place> {
+    match gives(call) {
+        Gives::Text => vec![Place::TextStart, Place::TextLength],
+        Gives::Kind => vec![Place::Kind],
+        Gives::Reply(record, slices) => {
+            let state = (0..if record { FIELDS } else { 0 }).map(Place::State);
+            let lent = (0..slices).flat_map(|slice| (0..3).map(move |part| Place::Lent(slice, part)));
+            REPLY.iter().copied().chain(state).chain(lent).collect()
+        }
     }
-    places.extend(REPLY.iter().map(|place| (Call::Matches, *place)));
-    places
+}
+
+/// One place of each kind.
+fn few_places(call: Call) -> Vec<Place> {
+    let one_of_each = [Place::Answer, Place::Value(0), Place::State(1)];
+    all_places(call)
+        .into_iter()
+        .filter(|place| !matches!(gives(call), Gives::Reply(..)) || one_of_each.contains(place) || is_middle(*place))
+        .collect()
+}
+
+fn is_middle(place: Place) -> bool {
+    matches!(place, Place::Lent(_, 1))
+}
+
+/// What of a call the Rust alone can judge: the answer, of the record what the Rust has too, the delta, baseline and list, the output.
+fn places_of_the_rust(call: Call) -> Vec<Place> {
+    let states = [1, 2, 3, 4, 5, 6].map(Place::State);
+    let with = |more: &[Place]| REPLY.iter().chain(more).copied().collect();
+    match call {
+        Call::Open => [1, 3, 4, 5, 6].map(Place::State).to_vec(),
+        Call::Begin | Call::Invalidate => with(&states),
+        Call::Update => with(&[&states[..], &[Place::Byte(2, 0), Place::Byte(0, LIST + 7)]].concat()),
+        Call::Response => with(&[&states[..], &[Place::Byte(0, LIST + 7), Place::Byte(0, SLOT + 7)]].concat()),
+        Call::Drain => with(&[&states[..], &[Place::Byte(1, 0)]].concat()),
+        Call::SegmentTopic | Call::ParentTopic => with(&[Place::Byte(1, 0)]),
+        Call::Watch => with(&[Place::Byte(0, 0), Place::Byte(2, 0)]),
+        Call::Matches | Call::SegmentSource => with(&[]),
+        call if call.is_of_the_rust() => all_places(call),
+        _ => Vec::new(),
+    }
 }
 
 /// What of an update or a response the same call with the segments in another order can judge: all that it gives and leaves.
-fn places_of_the_order() -> Vec<(Call, Place)> {
-    let mut places = Vec::new();
-    for (call, slices) in [(Call::Update, &[0, 2][..]), (Call::Response, &[0])] {
-        let lent = slices.iter().flat_map(|slice| (0..3).map(move |part| Place::Lent(*slice, part)));
-        places.extend(REPLY.iter().copied().chain((0..FIELDS).map(Place::State)).chain(lent).map(|place| (call, place)));
-    }
-    places
+fn places_of_the_order(call: Call) -> Vec<Place> {
+    let slices: &[usize] = match call {
+        Call::Update => &[0, 2],
+        Call::Response => &[0],
+        _ => return Vec::new(),
+    };
+    all_places(call).into_iter().filter(|place| if let Place::Lent(slice, _) = place { slices.contains(slice) } else { true }).collect()
 }
 
-/// The part of a run whose steps have this call.
-fn part_of(call: Call) -> &'static str {
+/// The part of a run in whose steps everything that a call gives is tried.
+fn home(call: Call) -> &'static str {
     match call {
+        Call::Open | Call::Matches | Call::Begin | Call::Invalidate | Call::Update | Call::Response | Call::ResponseText | Call::Drain => {
+            SMALL_STORES
+        }
         Call::Apply | Call::Join | Call::ToPb => LISTS,
+        Call::ApplyEitherOrder | Call::JoinEitherOrder => EITHER_ORDER,
         Call::SegmentForKey | Call::KeyForHash | Call::KeyInSegment => KEYS,
         Call::Charge => CHARGES,
         Call::ChurnPush | Call::ChurnClear | Call::ChurnCurrent => CHURN,
@@ -101,68 +103,221 @@ fn part_of(call: Call) -> &'static str {
         Call::Watch | Call::WatchText => WATCH,
         Call::SegmentTopic | Call::SegmentSource | Call::ParentTopic | Call::ConsumerType => NAMES,
         Call::RangeLen | Call::RangeContains | Call::RangeContainsRange | Call::RangeAdjacent => NAMES,
-        _ => SMALL_STORES,
     }
 }
 
-/// Steps of a part until that many calls were spoiled or a difference was found; whether one was.
-fn found(parts: &mut Parts, tally: &mut Tally, part: &str, call: Call, place: Place, most: usize) -> bool {
-    let before = tally.differences;
-    for _ in 0..most {
-        arm(call, place);
-        for _ in 0..STEPS {
-            if armed() && tally.differences == before {
-                parts.step_of(part, tally);
-            }
-        }
-        disarm();
-        if tally.differences > before {
-            break;
-        }
+/// The call of ours that is spoiled: a join or an apply in either order is one of these.
+fn made_as(call: Call) -> Call {
+    match call {
+        Call::ApplyEitherOrder => Call::Apply,
+        Call::JoinEitherOrder => Call::Join,
+        call => call,
     }
-    tally.differences > before
 }
 
-/// Tries each place, in the part that `part_of` gives; how many there are, and how many were missed.
-fn tried(parts: &mut Parts, tally: &mut Tally, part_of: fn(Call) -> &'static str, places: &[(Call, Place)], most: usize) -> (usize, usize) {
-    let mut missed = 0;
-    for (call, place) in places {
-        let part = part_of(*call);
-        if !found(parts, tally, part, *call, *place, most) {
-            println!("self-test: not noticed in {part}: {place:?} of {call:?}");
-            missed += 1;
-        }
+/// The one that judges a call everywhere: the model, but for what only the Rust says.
+fn judge_of(call: Call) -> Judge {
+    match call {
+        Call::RangeLen | Call::RangeContains | Call::RangeContainsRange | Call::RangeAdjacent | Call::ConsumerType => Judge::Rust,
+        Call::ToPb | Call::ApplyEitherOrder | Call::JoinEitherOrder => Judge::All,
+        _ => Judge::Model,
     }
-    (places.len(), missed)
+}
+
+/// The calls of this build that some call of ours stands behind, each once.
+fn calls() -> impl Iterator<Item = Call> {
+    reach().map(|row| row.0).filter(|call| made_as(*call) == *call)
 }
 
 /// Calls that may be spoiled before it has to be noticed, where not each is judged; steps in which a call has to come.
 const TRIES: usize = 400;
 const STEPS: usize = 400;
 
+/// Steps of a part in which the calls that it makes are looked for, and calls of one that is written down.
+const LOOKED: usize = 12;
+const LOOKED_CALLS: u64 = 5000;
+
+/// How many wrong bits there were, and how many were noticed.
+#[derive(Default)]
+struct Score {
+    tried: usize,
+    noticed: usize,
+}
+
+struct Test {
+    tally: Tally,
+    parts: Parts,
+    noticed: usize,
+    wrong: bool,
+}
+
+impl Test {
+    fn new() -> Self {
+        let mut tally = Tally::new();
+        tally.quiet = true;
+        let parts = Parts::new(&mut tally, 1);
+        Self { tally, parts, noticed: 0, wrong: false }
+    }
+
+    fn fail(&mut self, what: &str) {
+        println!("self-test: {what}");
+        self.wrong = true;
+    }
+
+    fn score(&mut self, score: &mut Score, noticed: bool, what: impl FnOnce() -> String) {
+        score.tried += 1;
+        score.noticed += usize::from(noticed);
+        self.noticed += usize::from(noticed);
+        if !noticed {
+            self.fail(&format!("not noticed {}", what()));
+        }
+    }
+
+    /// Steps of a part until that many calls were spoiled or a difference was found; whether one was.
+    fn found(&mut self, part: &str, call: Call, place: Place, most: usize) -> bool {
+        let before = self.tally.differences;
+        for _ in 0..most {
+            arm(call, place);
+            for _ in 0..STEPS {
+                if armed() && self.tally.differences == before {
+                    self.parts.step_of(part, &mut self.tally);
+                }
+            }
+            disarm();
+            if self.tally.differences > before {
+                break;
+            }
+        }
+        self.tally.differences > before
+    }
+
+    /// Tries these places of a call in a part, with one judge alone.
+    fn try_places(&mut self, score: &mut Score, part: &str, call: Call, judge: Judge, places: &[Place]) {
+        leave_to(judge);
+        let whole = !matches!(gives(call), Gives::Text) && judge == judge_of(call);
+        for place in places {
+            let noticed = self.found(part, made_as(call), *place, if whole { 1 } else { TRIES });
+            self.score(score, noticed, || format!("by {judge:?} in {part}: {place:?} of {call:?}"));
+        }
+        leave_to(Judge::All);
+    }
+
+    /// Everything that each call gives, in its home.
+    fn calls(&mut self) -> Score {
+        let mut score = Score::default();
+        for call in reach().map(|row| row.0) {
+            self.try_places(&mut score, home(call), call, judge_of(call), &all_places(call));
+        }
+        score
+    }
+
+    /// Some of what the calls give that a part makes, in every part.
+    fn parts(&mut self) -> Score {
+        let mut score = Score::default();
+        for part in self.parts.names() {
+            forget();
+            for _ in 0..LOOKED {
+                self.parts.step_of(part, &mut self.tally);
+            }
+            let made: Vec<Call> = calls().filter(|call| was_made(*call)).collect();
+            if made.is_empty() {
+                self.fail(&format!("no call in {part}"));
+            }
+            for call in made.into_iter().filter(|_| part != EITHER_ORDER) {
+                self.try_places(&mut score, part, call, judge_of(call), &few_places(call));
+            }
+        }
+        score
+    }
+
+    /// The same of each part that is written down. The first difference ends it.
+    fn directed(&mut self) -> Score {
+        let mut score = Score::default();
+        for (part, run) in DIRECTED {
+            forget();
+            self.tally.most = self.tally.calls + LOOKED_CALLS;
+            self.ends_early(*run);
+            self.tally.most = u64::MAX;
+            let made: Vec<Call> = calls().filter(|call| was_made(*call)).collect();
+            if made.is_empty() {
+                self.fail(&format!("no call in {part}"));
+            }
+            for call in made {
+                for place in few_places(call) {
+                    if let Some(noticed) = self.stopped(call, place, *run) {
+                        self.score(&mut score, noticed, || format!("in {part}: {place:?} of {call:?}"));
+                    }
+                }
+            }
+        }
+        score
+    }
+
+    /// Whether a part that is written down ends at a difference; none where it has no text that could be spoiled.
+    fn stopped(&mut self, call: Call, place: Place, run: fn(&mut Tally, u64)) -> Option<bool> {
+        arm(call, place);
+        self.tally.stops = true;
+        let noticed = self.ends_early(run);
+        self.tally.stops = false;
+        let waits = armed() && matches!(gives(call), Gives::Text);
+        disarm();
+        (noticed || !waits).then_some(noticed)
+    }
+
+    /// Runs a part that is written down; whether it was stopped.
+    fn ends_early(&mut self, run: fn(&mut Tally, u64)) -> bool {
+        match catch_unwind(AssertUnwindSafe(|| run(&mut self.tally, 1))) {
+            Ok(()) => false,
+            Err(payload) if payload.is::<Stopped>() => true,
+            Err(payload) => resume_unwind(payload),
+        }
+    }
+
+    /// What one judge alone can tell, of each call that it judges.
+    fn alone(&mut self, judge: Judge, part_of: fn(Call) -> &'static str, places: fn(Call) -> Vec<Place>, judges: fn(Call) -> bool) -> Score {
+        let mut score = Score::default();
+        for call in calls().filter(|call| judges(*call)) {
+            if places(call).is_empty() {
+                self.fail(&format!("no place of {call:?} for {judge:?}"));
+            }
+            self.try_places(&mut score, part_of(call), call, judge, &places(call));
+        }
+        score
+    }
+}
+
 /// Prints what was not noticed; 0 where every wrong bit was, and no difference came without one. It goes the same way each time.
 pub fn run() -> i32 {
-    let mut tally = Tally::new();
-    tally.quiet = true;
-    let mut parts = Parts::new(&mut tally, 1);
-    let (all, missed) = tried(&mut parts, &mut tally, part_of, &places(), 1);
-    let both_orders = places_of(|call| matches!(call, Call::Apply | Call::Join));
-    let (orders, missed_orders) = tried(&mut parts, &mut tally, |_| EITHER_ORDER, &both_orders, 1);
-    let (texts, missed_texts) = tried(&mut parts, &mut tally, part_of, &text_places(), TRIES);
-    leave_to(Judge::Rust);
-    let (of_rust, missed_by_rust) = tried(&mut parts, &mut tally, part_of, &places_of_the_rust(), TRIES);
-    leave_to(Judge::Order);
-    let (of_order, missed_by_order) = tried(&mut parts, &mut tally, |_| ORDERS, &places_of_the_order(), TRIES);
-    leave_to(Judge::All);
-    let (all, missed) = (all + orders + texts, missed + missed_orders + missed_texts);
-    let alone = (of_rust - missed_by_rust, of_order - missed_by_order);
-    let extra = tally.differences - (all - missed + alone.0 + alone.1) as u64;
+    let mut test = Test::new();
+    let calls = test.calls();
+    let parts = test.parts();
+    let directed = test.directed();
+    let rust = test.alone(Judge::Rust, home, places_of_the_rust, Call::is_of_the_rust);
+    let order = test.alone(Judge::Order, |_| ORDERS, places_of_the_order, |call| matches!(call, Call::Update | Call::Response));
+    let (untold, lacking) = Tally::untold();
+    for what in &untold {
+        test.fail(&format!("a run without it would pass: {what}"));
+    }
+    for what in test.tally.unreached() {
+        test.fail(&format!("the random inputs of all this reached no {what}"));
+    }
+    let extra = test.tally.differences - test.noticed as u64;
     println!(
-        "self-test: of {all} wrong bits {} noticed; of {of_rust} by the Rust alone {}; of {of_order} by another order of the segments alone {}; \
-         {extra} differences besides",
-        all - missed,
-        alone.0,
-        alone.1
+        "self-test: of {} wrong bits {} noticed; of {} in {} parts {}; of {} in {} parts that are written down {}; of {} by the Rust alone {}; \
+         of {} by another order of the segments alone {}; of {lacking} things that a run could lack {} told; {extra} differences besides",
+        calls.tried,
+        calls.noticed,
+        parts.tried,
+        test.parts.names().len(),
+        parts.noticed,
+        directed.tried,
+        DIRECTED.len(),
+        directed.noticed,
+        rust.tried,
+        rust.noticed,
+        order.tried,
+        order.noticed,
+        lacking - untold.len(),
     );
-    i32::from(missed + missed_by_rust + missed_by_order > 0 || extra > 0)
+    i32::from(test.wrong || extra > 0)
 }
