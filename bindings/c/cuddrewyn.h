@@ -146,7 +146,8 @@ enum {
     CUDDREWYN_CROSS_INCARNATION_EPOCH_REGRESSION = 26,
     /* the epoch lies below that of the list before it. Attached: got, the one before */
     CUDDREWYN_STALE_EPOCH = 27,
-    /* the queue is full, or the push does not fit the store's free end. Attached: 1,024 or the number queued */
+    /* the queue is full, or the push does not fit the store's free end. Attached: how many are queued: 1,024 where no more can be, fewer
+     * where this push does not fit the free end */
     CUDDREWYN_PRE_BASELINE_BUFFER_FULL = 28,
     /* the update is for another watch. Attached: got, expected */
     CUDDREWYN_WATCH_MISMATCH = 29,
