@@ -1,7 +1,7 @@
 #!/usr/bin/env python3
 """Checks docs/CLAIMS.md against the repository and against docs/sentences.txt, the list of the papers' sentences.
 
-    python3 tools/claims.py                        names, ids, contracts
+    python3 tools/claims.py                        names, ids, marks, contracts; and that no file of specs/ uses one of proofs/
     python3 tools/claims.py --spec DIR             also: docs/sentences.txt is the list of the papers in DIR
     python3 tools/claims.py --spec DIR --write     rewrites docs/sentences.txt first
 
@@ -130,6 +130,40 @@ def check_names(text):
     return len(cited)
 
 
+def changed(edit, name):
+    """The file that an edit changes where it names this function or definition; of an edit of one change, without a name, that one."""
+    file, at, files = "", "", {}
+    for line in edit.read_text(encoding="utf-8").splitlines():
+        if m := refused.NAMED.match(line):
+            at = m[1]
+        elif line.startswith("file: "):
+            file = line.removeprefix("file: ").strip()
+        elif line.startswith("old: "):
+            files.setdefault(at, file)
+    return files.get(name) or next(iter(files.values()), "")
+
+
+def check_marks(text):
+    """An edit that changes a definition is marked as one where it is cited, and no other is."""
+    count = 0
+    for citation, mark in re.findall(r"`(crates/[^`\n]+\.edit(?::[^`\n]+)?)`( \(definition\))?", text):
+        path, _, name = citation.partition(":")
+        if (ROOT / path).exists():
+            is_definition = changed(ROOT / path, name).startswith("specs/")
+            count += is_definition
+            if is_definition != bool(mark):
+                fault(f"{citation}: " + ("changes a definition, so `(definition)` belongs behind it" if is_definition else "changes no definition, and is marked as if"))
+    return count
+
+
+def check_specs():
+    """What a reader has to believe stands in specs/ alone: no file there uses one of proofs/."""
+    for path in sorted(ROOT.glob("crates/*/specs/**/*.antt")):
+        for number, line in enumerate(path.read_text(encoding="utf-8").splitlines(), 1):
+            if re.match(r"\s*(pub |ghost )*(use|open|import)\b.*\bproofs\b", line):
+                fault(f"{path.relative_to(ROOT)}:{number}: uses a file of proofs/")
+
+
 def functions():
     """Each function of a crate: its crate, its path with its name, and the match."""
     for path in sorted(ROOT.glob("crates/*/src/**/*.rt")):
@@ -171,8 +205,10 @@ def main():
             fault(f"{name}: docs/sentences.txt differs from the papers")
     text = (ROOT / "docs/CLAIMS.md").read_text()
     rows, names = check_rows(text, [line.split()[0] for line in lines]), check_names(text)
+    marks = check_marks(text)
+    check_specs()
     check_contracts(text)
-    for line in faults or [f"{rows} rows, {names} names, {len(lines)} sentences"]:
+    for line in faults or [f"{rows} rows, {names} names, {len(lines)} sentences, {marks} wrong programs that are changed definitions"]:
         print("claims: " + line)
     return 1 if faults else 0
 
