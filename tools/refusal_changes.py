@@ -3,7 +3,7 @@ import re
 
 import refusal_checks as checks
 from declarations import CRATE, RAW, REPLY, SESSION_REPLY
-from refusal_parts import CALL_TEXT, ERROR, EXPORTS, HEADER, README, TALLY, WATCH
+from refusal_parts import CALL_TEXT, ERROR, EXPORTS, HEADER, OPERATOR, TALLY, WATCH
 from refusal_table import CALLS, REFUSALS
 
 OTHERS = {
@@ -88,9 +88,9 @@ WORDS = [
     (EXPORTS, r"^\| `cuddrewyn_.* \| (\d+)[^|]*\|$"),
     (EXPORTS, r"^\| (\d+) \| `[A-Z]+`"),
     (EXPORTS, r"^\| (\d+)(?:, \d+)* \| [a-z]"),
-    (README, r"^\| (\d+) \| `[A-Z]\w+` \|"),
-    (README, r"^\| \d+ \| `([A-Z]\w+)` \|"),
-    (README, r"^\| \d+ \| `[A-Z]\w+` \| .* (\S+) \|$"),
+    (OPERATOR, r"^\| (\d+) \| `[A-Z]\w+` \|"),
+    (OPERATOR, r"^\| \d+ \| `([A-Z]\w+)` \|"),
+    (OPERATOR, r"^\| \d+ \| `[A-Z]\w+` \| .* (\S+) \|$"),
     (TALLY, r"^    \((\w+), &\["),
     (TALLY, r"^    \(\w+, &\[(\d+)"),
     (TALLY, r"^    \(\w+, &\[[\d, ]*?(\d+)\],"),

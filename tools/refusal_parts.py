@@ -7,7 +7,7 @@ import textwrap
 from refusal_table import Fault, numbers_text, order_text
 
 ERROR, WATCH = "bindings/rust/src/error.rs", "bindings/rust/src/watch.rs"
-HEADER, EXPORTS, README = "bindings/c/cuddrewyn.h", "docs/EXPORTS.md", "README.md"
+HEADER, EXPORTS, OPERATOR = "bindings/c/cuddrewyn.h", "docs/EXPORTS.md", "docs/REFUSALS.md"
 TALLY, CALL_TEXT = "compare/src/tally.rs", "crates/call_text/src/refusals.rt"
 NAMES = re.compile(r'(lines::word\(\s*b")([^"]*)(",\s*number,)')
 REACH = re.compile(r"^    \((\w+), &\[([\d, ]*)\], ", re.M)
@@ -111,7 +111,7 @@ WRITES = [
     (HEADER, part("refusals", header_lines)),
     (EXPORTS, part("attached", attached_lines)),
     (EXPORTS, write_orders),
-    (README, part("refusals", operator_lines)),
+    (OPERATOR, part("refusals", operator_lines)),
     (ERROR, part("texts", text_lines)),
     (ERROR, part("variants of AssignmentError", variant_lines("AssignmentError"))),
     (ERROR, part("numbers of AssignmentError", number_lines("AssignmentError"))),
