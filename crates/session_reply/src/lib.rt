@@ -1,13 +1,14 @@
 // The record and the answer of a session's call as plain structs, for the boundary to C and Rust.
 ghost use mathlib.Core.Path.{_≡_};
-ghost use Rattle.session_reply.specs.Replies.{floorOf, hasFloor, recordOf, exportRecord, answerReply, sessionReply};
+ghost use Rattle.session_reply.specs.Replies.{isSet, flag, floorOf, hasFloor, recordOf, exportRecord};
+ghost use Rattle.session_reply.specs.Replies.{answerReply, leftRecord, sessionReply, openReply};
 use reply::Reply;
 use session::Answer;
 use session::Floor;
 use session::SessionRecord;
 use types::ControllerIncarnation;
 
-// A session's record.
+// A session's record. A flag is any byte: 0 says no, all others yes; a call writes 1 or 0.
 #[repr(C)]
 pub struct Record {
     pub consumer_id: u64,
@@ -16,9 +17,9 @@ pub struct Record {
     pub epoch_floor: u64,
     pub queue_count: usize,
     pub drain_positions: [usize; 8],
-    pub has_floor: bool,
-    pub registered: bool,
-    pub invalidated: bool,
+    pub has_floor: u8,
+    pub registered: u8,
+    pub invalidated: u8,
 }
 
 // What a call of a session gives: the record as it is then, and the answer.
@@ -26,6 +27,18 @@ pub struct Record {
 pub struct SessionReply {
     pub state: Record,
     pub reply: Reply,
+}
+
+fn is_set(n: u8) -> bool
+    ensures { λ x. ⌜ x ≡ isSet n ⌝ }
+{
+    n != 0
+}
+
+fn flag(set: bool) -> u8
+    ensures { λ x. ⌜ x ≡ flag set ⌝ }
+{
+    if set { 1 } else { 0 }
 }
 
 fn floor_of(any: bool, floor: u64) -> Floor
@@ -37,13 +50,13 @@ fn floor_of(any: bool, floor: u64) -> Floor
 pub fn record_of(r: Record) -> SessionRecord
     ensures { λ x. ⌜ x ≡ recordOf r ⌝ }
 {
-    let epoch_floor = floor_of(r.has_floor, r.epoch_floor);
+    let epoch_floor = floor_of(is_set(r.has_floor), r.epoch_floor);
     let drain_positions = r.drain_positions;
     SessionRecord {
         consumer_id: r.consumer_id,
         incarnation: ControllerIncarnation(r.incarnation),
-        registered: r.registered,
-        invalidated: r.invalidated,
+        registered: is_set(r.registered),
+        invalidated: is_set(r.invalidated),
         epoch_floor,
         queue_count: r.queue_count,
         drain_positions,
@@ -71,9 +84,9 @@ fn export_record(r: SessionRecord) -> Record
         epoch_floor: session_record::floor_value(floor),
         queue_count: r.queue_count,
         drain_positions,
-        has_floor: has_floor(floor),
-        registered: r.registered,
-        invalidated: r.invalidated,
+        has_floor: flag(has_floor(floor)),
+        registered: flag(r.registered),
+        invalidated: flag(r.invalidated),
     }
 }
 
@@ -89,8 +102,31 @@ fn answer_reply(a: Answer) -> Reply
     }
 }
 
-pub fn session_reply(a: Answer, next: SessionRecord) -> SessionReply
-    ensures { λ x. ⌜ x ≡ sessionReply a next ⌝ }
+// The record behind a call: that of before where the call refuses.
+fn left_record(r: Record, a: Answer, next: SessionRecord) -> Record
+    ensures { λ x. ⌜ x ≡ leftRecord r a next ⌝ }
+{
+    match a {
+        Answer::Refused(_) => r,
+        Answer::Accepted => export_record(next),
+        Answer::Unchanged => export_record(next),
+        Answer::Delta(_) => export_record(next),
+        Answer::Replay(_, _) => export_record(next),
+    }
+}
+
+// What a call gives that was given the record r.
+pub fn session_reply(r: Record, a: Answer, next: SessionRecord) -> SessionReply
+    ensures { λ x. ⌜ x ≡ sessionReply r a next ⌝ }
+{
+    let state = left_record(r, a, next);
+    let reply = answer_reply(a);
+    SessionReply { state, reply }
+}
+
+// What an open gives, which was given no record.
+pub fn open_reply(a: Answer, next: SessionRecord) -> SessionReply
+    ensures { λ x. ⌜ x ≡ openReply a next ⌝ }
 {
     let state = export_record(next);
     let reply = answer_reply(a);

@@ -1,14 +1,13 @@
 -- `record_of` meets its contract.
 -- Assumes nothing.
+use Rattle.session_reply.specs.Replies.{recordOf}
 use borrow.Author.Needs.{needs}
 use Rattle.session_reply.proofs.record_of.Statement.{statement}
 use Rattle.session_reply.proofs.record_of.Tie as tie
 
-floor-of-requires : tie.Need-floor-of-requires
-floor-of-requires c κs = search needs
-
 returns : tie.Need-returns
+unfolding recordOf
 returns c = cc
 
 pub record-of-spec : {M : Type 1} → statement M
-record-of-spec = tie.close (tie.spec floor-of-requires returns)
+record-of-spec = tie.close (tie.spec (λ c κs. search needs) (λ c κs. search needs) (λ c κs. search needs) (λ c κs. search needs) returns)

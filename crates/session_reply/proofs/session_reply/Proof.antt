@@ -4,8 +4,8 @@ use borrow.Author.Needs.{needs}
 use Rattle.session_reply.proofs.session_reply.Statement.{statement}
 use Rattle.session_reply.proofs.session_reply.Tie as tie
 
-export-record-requires : tie.Need-export-record-requires
-export-record-requires c κs = search needs
+left-record-requires : tie.Need-left-record-requires
+left-record-requires c κs = search needs
 
 answer-reply-requires : tie.Need-answer-reply-requires
 answer-reply-requires c κs = search needs
@@ -14,4 +14,4 @@ returns : tie.Need-returns
 returns c = cc
 
 pub session-reply-spec : {M : Type 1} → statement M
-session-reply-spec = tie.close (tie.spec export-record-requires answer-reply-requires returns)
+session-reply-spec = tie.close (tie.spec left-record-requires answer-reply-requires returns)
