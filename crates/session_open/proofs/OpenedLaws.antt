@@ -103,8 +103,11 @@ module _ (i : Identity) (st : List ℕ) (long : 6144 ≤ length st) (utf8 : allU
   fits-slot : length (encodeIdentity i) ≤ 2048
   fits-slot = omega (arith, length-encodeIdentity i)
 
+  as-long : length written ≡ length st
+  as-long = length-put st 0 (encodeIdentity i) (omega (arith, fits-slot))
+
   still-long : 6144 ≤ length written
-  still-long = omega (arith, length-put st 0 (encodeIdentity i) (omega (arith, fits-slot)))
+  still-long = omega (arith, as-long)
 
   -- the rest of the slot is as it was
   abbrev behind : List ℕ
@@ -155,6 +158,7 @@ module _ (i : Identity) (st : List ℕ) (long : 6144 ≤ length st) (utf8 : allU
           fresh = refl;
           holds = held;
           behind = stays;
+          size = as-long;
           topic = topic-seen;
           sound = not-damaged;
           answers = match-told;

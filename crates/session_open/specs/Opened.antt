@@ -7,7 +7,7 @@ use Prim.Native.Nat.{ℕ, _+_}
 use mathlib.Core.Path.{_≡_}
 use mathlib.Core.Bool.{Bool, true, false, _&&_}
 use mathlib.Core.List.{List}
-use lib.ListN.{drop}
+use lib.ListN.{length, drop}
 use lib.Dec.{eqb}
 use Rattle.types.specs.declared.ControllerIncarnation.{ControllerIncarnation}
 use Rattle.parts.specs.Same.{sameBytes}
@@ -49,6 +49,7 @@ pub record Accepted (consumer : ℕ) (incarnation : ControllerIncarnation) (i : 
   pub holds : Holds i (slot (o .store) identitySlot)
   -- "Writing a slot writes only .. for the identity its 7 bytes and texts"
   pub behind : drop (7 + textsLength i) (o .store) ≡ drop (7 + textsLength i) store
+  pub size : length (o .store) ≡ length store
   -- the session that update, response and drain read has its topic, and 22 is not due
   pub topic : view (freshRecord consumer incarnation) (o .store) .topic ≡ i .topic
   pub sound : damaged (view (freshRecord consumer incarnation) (o .store)) ≡ false
