@@ -18,8 +18,9 @@ DOCUMENT = ROOT / "docs/TRUST.md"
 START, END = "<!-- table: tools/trust.py -->", "<!-- end of table -->"
 STATEMENTS = {
     "1: each call equals its definition": ["crates/export/src/*.rt"],
-    "2: what the Rust shows, the port shows": ["crates/same_session/specs/Demand.antt", "crates/same_watch/specs/Demand.antt", "crates/same_names/specs/*.antt"],
-    "3: station, sender and uploader hold the same": ["crates/session/specs/DemandThree.antt"],
+    "2: what the Rust shows, the port shows": [
+        "crates/same_session/specs/Demand.antt", "crates/same_export/specs/DemandTwo.antt", "crates/same_watch/specs/Demand.antt", "crates/same_names/specs/*.antt"],
+    "3: station, sender and uploader hold the same": ["crates/session/specs/DemandThree.antt", "crates/same_export/specs/DemandThree.antt"],
 }
 USE = re.compile(r"^(?:ghost )?use Rattle·(\w+?)(?:·specs)?\.(specs|proofs)\.([\w.]+?)(?:\.\{| as |\.?;|$)", re.M)
 

@@ -1,0 +1,3 @@
+mod StepLaws
+mod TellLaws
+pub mod Exported
