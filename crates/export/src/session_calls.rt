@@ -3,12 +3,10 @@ ghost use mathlib.Core.Path.{_≡_};
 ghost use mathlib.Core.List.{List};
 ghost use Prim.Native.Nat.{ℕ};
 ghost use Rattle.types.specs.ConsumerTypes.{fromWire};
-ghost use Rattle.readers.specs.Messages.{responseOf};
+ghost use Rattle.readers.specs.Places.{responsePlace};
 ghost use Rattle.session.specs.Link.{beginOf, invalidateOf};
 ghost use Rattle.session.specs.Calls.{updateOutcome, responseOutcome, drainOutcome, openOutcome, matchOf};
-ghost use Rattle.values.specs.Places.{PartIs};
-ghost use Rattle.values.specs.Values.{lastPart, partsOf};
-ghost use Rattle.wire.specs.Fields.{fieldsOf};
+ghost use Rattle.values.specs.Places.{placeOf, PlaceIs};
 ghost use Rattle.session_reply.specs.Replies.{recordOf, changedReply};
 ghost use Rattle.export.specs.Exports.{matchReply, exportOf, openOf};
 use crate::Part;
@@ -163,7 +161,7 @@ pub extern "C" fn cuddrewyn_matches_registration(
 
 // Where the last part of field n stands.
 pub fn last_part(message: &[u8], n: u64) -> Part
-    ensures { λ x. ⌜ PartIs (now (message .entry)) (lastPart (partsOf n (fieldsOf (now (message .entry))))) (x .start) (x .length) ⌝ }
+    ensures { λ x. ⌜ PlaceIs (now (message .entry)) (placeOf n (now (message .entry))) (x .start) (x .length) ⌝ }
 {
     let p = values::last_part(message, n);
     Part {
@@ -175,7 +173,7 @@ pub fn last_part(message: &[u8], n: u64) -> Part
 // Where the broker's text stands in a response that was refused with 16.
 #[no_mangle]
 pub extern "C" fn cuddrewyn_response_text(message: &[u8]) -> Part
-    ensures { λ x. ⌜ PartIs (now (message .entry)) (responseOf (now (message .entry)) .message) (x .start) (x .length) ⌝ }
+    ensures { λ x. ⌜ PlaceIs (now (message .entry)) (responsePlace (now (message .entry))) (x .start) (x .length) ⌝ }
 {
     last_part(message, 3)
 }

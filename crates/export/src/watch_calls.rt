@@ -1,7 +1,7 @@
 // The topics watch.
 ghost use mathlib.Core.Path.{_≡_};
-ghost use Rattle.readers.specs.Messages.{watchUpdateOf};
-ghost use Rattle.values.specs.Places.{PartIs};
+ghost use Rattle.readers.specs.Places.{watchPlace};
+ghost use Rattle.values.specs.Places.{PlaceIs};
 ghost use Rattle.watch.specs.Watch.{handleUpdate};
 ghost use Rattle.export.specs.Exports.{watchReply, watchOf};
 use crate::Part;
@@ -36,7 +36,7 @@ pub extern "C" fn cuddrewyn_watch(
 // Where the broker's text stands in an update that was refused with 16.
 #[no_mangle]
 pub extern "C" fn cuddrewyn_watch_text(message: &[u8]) -> Part
-    ensures { λ x. ⌜ PartIs (now (message .entry)) (watchUpdateOf (now (message .entry)) .message) (x .start) (x .length) ⌝ }
+    ensures { λ x. ⌜ PlaceIs (now (message .entry)) (watchPlace (now (message .entry))) (x .start) (x .length) ⌝ }
 {
     last_part(message, 5)
 }

@@ -1,1 +1,2 @@
 mod EventLaws
+pub mod TextLaws

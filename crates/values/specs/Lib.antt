@@ -1,3 +1,4 @@
 pub mod Values
 pub mod Integers
 pub mod Places
+pub mod Rows

@@ -1,17 +1,13 @@
--- `last_part` meets its contract. The invariant: the last of the parts from `at` on, or the `length` bytes from `start` on where there is none, is the
--- last of all. The measure is what is left of the message. Assumes nothing.
-use Prim.Native.Nat.{_+_, _-_, _≤_}
+-- `last_part` meets its contract. The invariant: `start` and `length` are the place of the last part before `at`. The measure is what is left of the
+-- message. Assumes nothing.
+use Prim.Native.Nat.{_-_}
 use native.Mathlib.Omega.{arith}
-use mathlib.Core.Path.{_≡_, refl, subst}
-use lib.ListN.{take, drop}
+use mathlib.Core.Path.{_≡_, subst}
 use lib.ListN as list
 use borrow.Author.Needs.{needs}
-use Rattle.wire.specs.Fields.{fieldsOf}
 use Rattle.values.specs.declared.PartStep.{PartStep}
-use Rattle.values.specs.Values.{partsOf, lastPart}
 use Rattle.values.specs.Places.{NextPart}
-use Rattle.values.proofs.FrontLaws.{partsFrom}
-use Rattle.values.proofs.WalkLaws.{Kept, kept-done, kept-next, later, part-start}
+use Rattle.values.proofs.TextLaws.{Sought, sought-start, sought-next, sought-done}
 use Rattle.values.proofs.last_part.Statement.{statement}
 use Rattle.values.proofs.last_part.Tie as tie
 use Rattle.values.proofs.last_part.Reads as reads
@@ -19,9 +15,7 @@ use Rattle.values.proofs.last_part.Lts as lts
 use Rattle.values.proofs.next_part.Reads as next-part-reads
 
 abbrev Inv-loop : tie.InvT-loop
-Inv-loop s n at₀ start₀ length₀ at start length =
-    (start + length ≤ list.length s)
-    × Kept later (lastPart (partsOf n (fieldsOf s))) (take length (drop start s)) (partsFrom n s at)
+Inv-loop s n at₀ start₀ length₀ at start length = Sought n s at start length
 
 abbrev μ-loop : tie.MeasureT-loop
 μ-loop s n at₀ start₀ length₀ at start length = list.length s - at
@@ -35,7 +29,7 @@ step : (c : Read) (q : PartStep) → c .next-part .result ≡ q
 step c q e = subst (NextPart _ _ _) e (c .next-part .ensures)
 
 loop-holds : tie.Need-loop-holds Inv-loop μ-loop
-loop-holds c = (omega arith, part-start _)
+loop-holds c = sought-start _ _
 
 next-part-requires : tie.Need-next-part-requires Inv-loop μ-loop
 next-part-requires c κs = search needs
@@ -44,10 +38,7 @@ enum-told : tie.Need-enum-told Inv-loop μ-loop
 enum-told c = search needs
 
 returns : tie.Need-returns Inv-loop μ-loop
-returns c =
-    let q = step (c .before .before) _ (c .enum-told .given .1) in
-    let i = c .before .before .before .loop .inv in
-    record { inside = i .0; is-text = kept-done q (i .1) }
+returns c = sought-done (c .before .before .before .loop .inv) (step (c .before .before) _ (c .enum-told .given .1))
 
 enum-known-from : tie.Need-enum-known-from Inv-loop μ-loop
 enum-known-from c = search needs
@@ -58,7 +49,7 @@ loop-less c = let q = step (c .before .before .before) _ (c .before .from .given
 loop-again : tie.Need-loop-again Inv-loop μ-loop
 loop-again c =
     let q = step (c .before .before .before) _ (c .before .from .given .1) in
-    (omega (arith, q .1, q .2), kept-next (q .3) refl (c .before .before .before .before .loop .inv .1))
+    sought-next (c .before .before .before .before .loop .inv) _ _ _ q
 
 pub last-part-spec : {M : Type 1} → statement M
 last-part-spec =

@@ -1,12 +1,14 @@
--- `next_part` meets its contract. The invariant: the parts of the field from `at` on are those from `from` on.
+-- `next_part` meets its contract. The invariant: the parts of the field from `at` on, and their places, are those from `from` on.
 -- The measure is what is left of the message; each front stands inside it. Assumes nothing.
-use Prim.Native.Nat.{_-_, _≤_}
+use Prim.Native.Nat.{_+_, _-_, _≤_}
 use native.Mathlib.Omega.{arith}
 use mathlib.Core.Path.{_≡_, refl, sym, _∙_}
 use lib.ListN.{length}
 use borrow.Author.Needs.{needs}
 use Rattle.values.specs.declared.Front.{Front}
+use Rattle.values.specs.Places.{frontSize, placesBy, placesFrom}
 use Rattle.values.proofs.FrontLaws.{partsFrom, FrontAt, front-at, parts-end, part-same, part-other}
+use Rattle.values.proofs.TextLaws.{places-at, place-same, place-other}
 use Rattle.values.proofs.next_part.Statement.{statement}
 use Rattle.values.proofs.next_part.Tie as tie
 use Rattle.values.proofs.next_part.Reads as reads
@@ -14,7 +16,7 @@ use Rattle.values.proofs.next_part.Lts as lts
 use Rattle.values.proofs.read_front.Reads as read-front-reads
 
 abbrev Inv-loop : tie.InvT-loop
-Inv-loop s from n at₀ at = (from ≤ at) × (partsFrom n s from ≡ partsFrom n s at)
+Inv-loop s from n at₀ at = (from ≤ at) × (partsFrom n s from ≡ partsFrom n s at) × (placesFrom n s from ≡ placesFrom n s at)
 
 abbrev μ-loop : tie.MeasureT-loop
 μ-loop s from n at₀ at = length s - at
@@ -27,8 +29,15 @@ front : (c : Read) (q : Front) → c .read-front .result ≡ q
     → FrontAt (c .before .before .before .before .before .args .s .now) (c .before .before .before .loop .at) q
 front c q e = front-at _ _ (c .before .before .loop-test .taken) q (sym (c .read-front .ensures) ∙ e)
 
+places : (c : Read) (q : Front) → c .read-front .result ≡ q
+    → let s = c .before .before .before .before .before .args .s .now in
+    let n = c .before .before .before .before .before .args .n in
+    let at = c .before .before .before .loop .at in
+    placesFrom n s at ≡ placesBy n at q (placesFrom n s (at + frontSize q))
+places c q e = places-at _ _ (c .before .before .loop-test .taken) _ q (sym (c .read-front .ensures) ∙ e)
+
 loop-holds : tie.Need-loop-holds Inv-loop μ-loop
-loop-holds c = (omega arith, refl)
+loop-holds c = (omega arith, refl, refl)
 
 sub-read-front : tie.Need-sub-read-front Inv-loop μ-loop
 sub-read-front c = search needs
@@ -62,7 +71,8 @@ loop-less c = let q = front (c .before .before .before) _ (c .before .size .give
 loop-again : tie.Need-loop-again Inv-loop μ-loop
 loop-again c =
     let q = front (c .before .before .before) _ (c .before .size .given .1) in
-    (omega arith, c .before .before .before .before .before .before .loop .inv .1 ∙ q .parts _)
+    let i = c .before .before .before .before .before .before .loop .inv in
+    (omega arith, i .1 ∙ q .parts _, i .2 ∙ places (c .before .before .before) _ (c .before .size .given .1))
 
 enum-known-f : tie.Need-enum-known-f Inv-loop μ-loop
 enum-known-f c = search needs
@@ -76,8 +86,9 @@ add-end c = let q = front (c .before .before .before) _ (c .before .f .given .1)
 returns-2 : tie.Need-returns-2 Inv-loop μ-loop
 returns-2 c =
     let q = front (c .before .before .before .before) _ (c .before .before .f .given .1) in
-    let i = c .before .before .before .before .before .before .before .loop .inv .1 in
-    (omega arith, refl, q .inside, i ∙ part-same q _ (c .if1 .taken))
+    let i = c .before .before .before .before .before .before .before .loop .inv in
+    let p = places (c .before .before .before .before) _ (c .before .before .f .given .1) in
+    (omega arith, refl, q .inside, i .1 ∙ part-same q _ (c .if1 .taken), i .2 ∙ place-same _ _ _ _ _ _ p (c .if1 .taken))
 
 loop-less-2 : tie.Need-loop-less-2 Inv-loop μ-loop
 loop-less-2 c = let q = front (c .before .before .before .before) _ (c .before .before .f .given .1) in omega arith
@@ -85,7 +96,9 @@ loop-less-2 c = let q = front (c .before .before .before .before) _ (c .before .
 loop-again-2 : tie.Need-loop-again-2 Inv-loop μ-loop
 loop-again-2 c =
     let q = front (c .before .before .before .before) _ (c .before .before .f .given .1) in
-    (omega arith, c .before .before .before .before .before .before .before .loop .inv .1 ∙ part-other q _ (c .if1 .left))
+    let i = c .before .before .before .before .before .before .before .loop .inv in
+    let p = places (c .before .before .before .before) _ (c .before .before .f .given .1) in
+    (omega arith, i .1 ∙ part-other q _ (c .if1 .left), i .2 ∙ place-other _ _ _ _ _ _ p (c .if1 .left))
 
 enum-known-size-2 : tie.Need-enum-known-size-2 Inv-loop μ-loop
 enum-known-size-2 c = search needs
@@ -99,7 +112,8 @@ loop-less-3 c = let q = front (c .before .before .before) _ (c .before .size2 .g
 loop-again-3 : tie.Need-loop-again-3 Inv-loop μ-loop
 loop-again-3 c =
     let q = front (c .before .before .before) _ (c .before .size2 .given .1) in
-    (omega arith, c .before .before .before .before .before .before .loop .inv .1 ∙ q .parts _)
+    let i = c .before .before .before .before .before .before .loop .inv in
+    (omega arith, i .1 ∙ q .parts _, i .2 ∙ places (c .before .before .before) _ (c .before .size2 .given .1))
 
 returns-3 : tie.Need-returns-3 Inv-loop μ-loop
 returns-3 c = c .before .loop .inv .1 ∙ parts-end _ _ (c .before .loop .at) (omega arith)
