@@ -5,3 +5,4 @@ mod OursLaws
 mod StepAgrees
 pub mod Demanded
 pub mod NoneDue
+pub mod RunDue

@@ -1,7 +1,7 @@
 -- An accepted update leaves a set: the bytes of the answered length at the front of the buffer are a packed set again.
 --
 -- In order: a rising list of short UTF-8 topics is a set (`set-of`); what a message without a fault says of its parts (`parts-utf8`) and of
--- its event (`event-valid`, `member-event`); the law (`leaves-a-set`).
+-- its event (`event-valid`, `member-event`); the law (`leaves-of-short`, `leaves-a-set`).
 -- Assumes nothing.
 use Prim.Native.Nat.{ℕ, _^_}
 use native.Mathlib.Omega.{arith}
@@ -223,7 +223,7 @@ module _ (buffer out : List ℕ) where
       let ts = partsOf 1 p in
       settled (snapshotBy p) (rising-sorted ts) (utf8-insertAll ts [] (snapshot-utf8 p e) refl) (λ s. short-insertAll ts [] s refl)
 
-  module _ (used : ℕ) (b : Bytes buffer) (g : isSet (take used buffer) ≡ true) where
+  module _ (used : ℕ) (t : allShort (topicsOf (take used buffer)) ≡ true) (g : isSet (take used buffer) ≡ true) where
     abbrev old : List (List ℕ)
     old = topicsOf (take used buffer)
 
@@ -236,8 +236,7 @@ module _ (buffer out : List ℕ) where
         let q = set-whole (take used buffer) g in
         settled (diffBy old p) (rising-insertAll adds k (rising-kept old removes adds (q .1)))
         (utf8-insertAll adds k (diff-utf8 p e) (utf8-kept old removes (set-utf8 (take used buffer) g)))
-        (λ s. short-insertAll adds k (short-parts adds removes s .0)
-        (short-kept old removes adds (read-short (take used buffer) (Bytes-take used buffer b) (q .0))))
+        (λ s. short-insertAll adds k (short-parts adds removes s .0) (short-kept old removes adds t))
 
     event-leaves : (u : WireWatchUpdate) (e : WireEvent) → EventValid e → Leaves (byEvent buffer out old u e)
     unfolding byEvent
@@ -257,13 +256,21 @@ module _ (buffer out : List ℕ) where
     checked-leaves id m (Refused x) e = refused x
     checked-leaves id m Valid e = valid-leaves id m e
 
-  -- an accepted update leaves a set
+  -- an accepted update leaves a set, where the topics before it have 16-bit lengths
+  pub leaves-of-short : (id used : ℕ) (message : List ℕ) → (isSet (take used buffer) ≡ true → allShort (topicsOf (take used buffer)) ≡ true)
+      → (a b : ℕ) → handleUpdate buffer out id used message .answer ≡ answer.Changed a b
+      → isSet (take a (handleUpdate buffer out id used message .buffer)) ≡ true
+  unfolding handleUpdate
+  leaves-of-short id used message t =
+      choose Leaves (leb used (length buffer) && isSet (take used buffer))
+      (λ e. let g = both-true (leb used (length buffer)) (isSet (take used buffer)) e .1 in
+      checked-leaves used (t g) g id message (firstFault update message) refl)
+      (λ e. refused MalformedSet)
+
+  -- which they have in a buffer of bytes
   pub leaves-a-set : (id used : ℕ) (message : List ℕ) → Bytes buffer → (a b : ℕ)
       → handleUpdate buffer out id used message .answer ≡ answer.Changed a b
       → isSet (take a (handleUpdate buffer out id used message .buffer)) ≡ true
-  unfolding handleUpdate
   leaves-a-set id used message b =
-      choose Leaves (leb used (length buffer) && isSet (take used buffer))
-      (λ e. let g = both-true (leb used (length buffer)) (isSet (take used buffer)) e .1 in
-      checked-leaves used b g id message (firstFault update message) refl)
-      (λ e. refused MalformedSet)
+      leaves-of-short id used message
+      (λ g. read-short (take used buffer) (Bytes-take used buffer b) (set-whole (take used buffer) g .0))
