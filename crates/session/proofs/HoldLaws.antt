@@ -113,6 +113,7 @@ seeIf own e o =
       sender = senderStep e (o .sender);
       uploader = cond own (onDelta (e .delta) (λ d l. Option·map (apply d) l) (o .uploader)) (o .uploader);
       baseline = cond own (onDelta (e .delta) (λ d b. b) (o .baseline)) (o .baseline);
+      response = cond own (onDelta (e .delta) (λ d m. m) (o .response)) (o .response);
       deltas = cond own (onDelta (e .delta) (λ d l. l ++ (d ∷ [])) (o .deltas)) (o .deltas);
       highest = cond own (onDelta (e .delta) (λ d f. raise f (d .layoutEpoch)) (o .highest)) (o .highest);
     }

@@ -27,12 +27,12 @@ use Rattle.session.specs.Update.{enqueue, hold}
 use Rattle.session.specs.Response.{staleFault, lastList, replayable, register}
 use Rattle.session.specs.Link.{unregistered}
 use Rattle.session.specs.Trace.{Call, update, response, drain, begin, invalidate}
-use Rattle.session.specs.Observers.{Sender, sendUpdate, Seen}
+use Rattle.session.specs.Observers.{pushedIn, ownIn, Sender, sendUpdate, Seen}
 use Rattle.session.proofs.Model.{beginCall, resultOf, after}
 use Rattle.session.proofs.PositionLaws.{start-zero}
 use Rattle.session.proofs.QueueLaws.{raise-over, raise-next, lastIn, lastIn-append, lastIn-or, last-proper, stale-last}
 use Rattle.session.proofs.QueueLaws.{before}
-use Rattle.session.proofs.CallLaws.{pushedIn, ownIn, read-proper, unchanged, update-cases, response-cases}
+use Rattle.session.proofs.CallLaws.{read-proper, unchanged, update-cases, response-cases}
 use Rattle.session.proofs.HoldLaws.{Idle, Held, Uploaded, Settled, Good, Kept}
 use Rattle.session.proofs.HoldLaws.{good-same, good-still, uploaded-delta}
 use Rattle.session.proofs.DrainLaws.{keep-drain}

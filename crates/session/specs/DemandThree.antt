@@ -7,7 +7,7 @@ use Prim.Native.Nat.{ℕ, _<_}
 use mathlib.Core.Path.{_≡_}
 use mathlib.Core.Bool.{true, false, cond}
 use mathlib.Core.List.{List, [], _∷_}
-use mathlib.Core.Option.{Option, some, none}
+use mathlib.Core.Option.{Option, some, none, Option·map}
 use Rattle.parts.specs.Bytes.{Bytes}
 use Rattle.packed.specs.Assignment.{ConsumerAssignment}
 use Rattle.delta.specs.Join.{Bracketing, row, joined, apply}
@@ -17,7 +17,7 @@ use Rattle.session.specs.declared.Floor.the-variants.{Unset}
 use Rattle.session.specs.Store.{listSlot, listIn}
 use Rattle.session.specs.Session.{readers, atStart}
 use Rattle.session.specs.Trace.{Call, update, response, drain, begin, invalidate, trace, End, final}
-use Rattle.session.specs.Observers.{Seen, unseen, watch, allDrained}
+use Rattle.session.specs.Observers.{ownIn, Seen, unseen, watch, allDrained}
 
 -- "Fresh record: unregistered, no floor, not invalidated, queue 0, drain position 0": of every reader (02 d)
 pub record Fresh (r : SessionRecord) : Type 0 where
@@ -47,6 +47,8 @@ pub record Claim (list : Option ConsumerAssignment) (floor : Floor) (o : Seen) :
   -- "Three lists are equal, or there is none of the three"
   pub sent : list ≡ o .sender .list
   pub uploaded : list ≡ o .uploader
+  -- "An accepted response gives its baseline, the sheet then in that slot, which is the sheet of the response's own assignment"
+  pub own : o .baseline ≡ Option·map ownIn (o .response)
   -- "While a list is held, the deltas handed out since its baseline are joined two by two in their order. Every bracketing gives the same delta, and it turns that
   -- baseline into that list"
   pub same : (l : ConsumerAssignment) → list ≡ some l → (t u : Bracketing) → row t ≡ o .deltas → row u ≡ o .deltas → joined t ≡ joined u

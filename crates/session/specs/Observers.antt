@@ -16,6 +16,13 @@ use Rattle.session.specs.declared.Floor.the-variants.{Unset}
 use Rattle.session.specs.Session.{raise}
 use Rattle.session.specs.Trace.{Call, update, response, drain, begin, invalidate, Event}
 
+-- the assignment of an update, and "the response's own", as the message reads
+abbrev pub pushedIn : (message : List ℕ) → ConsumerAssignment
+pushedIn message = consumerAssignment (updateOf message .assignment)
+
+abbrev pub ownIn : (message : List ℕ) → ConsumerAssignment
+ownIn message = consumerAssignment (responseOf message .assignment)
+
 -- ---- the sender: "It is fed each call and whether it was accepted, never the record."
 
 pub record Sender : Type 0 where
@@ -37,8 +44,8 @@ sendResponse own s = record { list = orElse (s .pending) (some own); pending = n
 
 -- "Accepted begin or invalidate: no list, nothing pending. All else: no change."
 abbrev pub sent : Call → Sender → Sender
-sent (update message incarnation out) s = sendUpdate (consumerAssignment (updateOf message .assignment)) s
-sent (response message incarnation) s = sendResponse (consumerAssignment (responseOf message .assignment)) s
+sent (update message incarnation out) s = sendUpdate (pushedIn message) s
+sent (response message incarnation) s = sendResponse (ownIn message) s
 sent (drain reader out) s = s
 sent (begin incarnation) s = silent
 sent invalidate s = silent
@@ -70,6 +77,18 @@ uploaderStep reader e list = followed reader (e .call) e (some (e .baseline)) no
 abbrev pub baselineStep : (reader : ℕ) → Event → Option ConsumerAssignment → Option ConsumerAssignment
 baselineStep reader e b = followed reader (e .call) e (some (e .baseline)) none (λ d b′. b′) b
 
+-- a response's message
+abbrev pub responseIn : Call → Option (List ℕ)
+responseIn (update message incarnation out) = none
+responseIn (response message incarnation) = some message
+responseIn (drain reader out) = none
+responseIn (begin incarnation) = none
+responseIn invalidate = none
+
+-- the message of the response that gave the baseline
+abbrev pub responseStep : (reader : ℕ) → Event → Option (List ℕ) → Option (List ℕ)
+responseStep reader e m = followed reader (e .call) e (responseIn (e .call)) none (λ d m′. m′) m
+
 -- the deltas handed out since the baseline, in their order
 abbrev pub deltasStep : (reader : ℕ) → Event → List AssignmentDelta → List AssignmentDelta
 deltasStep reader e ds = followed reader (e .call) e [] [] (λ d l. l ++ (d ∷ [])) ds
@@ -84,12 +103,13 @@ pub record Seen : Type 0 where
   pub sender : Sender
   pub uploader : Option ConsumerAssignment
   pub baseline : Option ConsumerAssignment
+  pub response : Option (List ℕ)
   pub deltas : List AssignmentDelta
   pub highest : Floor
 
 -- "The uploader starts with no list."
 abbrev pub unseen : Seen
-unseen = record { sender = silent; uploader = none; baseline = none; deltas = []; highest = Unset }
+unseen = record { sender = silent; uploader = none; baseline = none; response = none; deltas = []; highest = Unset }
 
 abbrev pub see : (reader : ℕ) → Event → Seen → Seen
 see reader e o =
@@ -97,6 +117,7 @@ see reader e o =
       sender = senderStep e (o .sender);
       uploader = uploaderStep reader e (o .uploader);
       baseline = baselineStep reader e (o .baseline);
+      response = responseStep reader e (o .response);
       deltas = deltasStep reader e (o .deltas);
       highest = highestStep reader e (o .highest);
     }
