@@ -1,2 +1,4 @@
+mod RunLaws
 mod BucketLaws
+mod FullLaws
 pub mod Table

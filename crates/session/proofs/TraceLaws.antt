@@ -2,7 +2,7 @@
 --
 -- In order: what each call's result leaves (`follow-update`, `follow-response`, `follow-drain`, `follow-begin`, `follow-call`); an answer and
 -- an output say what the reply says (`accepted-is`, `none-is`, `handed-is`); a call on bytes is its result in values (`step-is`,
--- `event-is`); a list of calls has the same events and the same end (`Same`, `same`).
+-- `event-is`); a list of calls of bytes (`bytes-of`) has the same events and the same end (`Same`, `same`).
 -- Assumes nothing.
 use Prim.Native.Nat.{ℕ, zero, suc, _+_, _≤_, _<_}
 use native.Mathlib.Omega.{arith}
@@ -14,10 +14,12 @@ use mathlib.Core.Option.{Option, some, none}
 use lib.ListN.{length, take}
 use lib.Seq.{take-at}
 use lib.Dec.{eqb, ltb, leb}
-use borrow.Author.Tests.{ltb-false, eqb-false}
+use lib.Pow.{areBytes}
+use borrow.Author.Tests.{ltb-true, ltb-false, eqb-false}
 use Rattle.types.specs.declared.ControllerIncarnation.{ControllerIncarnation}
 use Rattle.refusal.specs.declared.Refusal.{Refusal}
 use Rattle.parts.proofs.PartLaws.{Bytes}
+use Rattle.ranges.specs.Meaning.{both-true}
 use Rattle.schema.specs.declared.MessageKind.the-variants.{CommandScalableTopicAssignmentUpdate, CommandScalableTopicSubscribeResponse}
 use Rattle.schema.specs.declared.Checked.{Checked}
 use Rattle.schema.specs.declared.Checked.the-variants as checked
@@ -272,6 +274,12 @@ event-is r st c f = λ i.
     }
 
 -- ---- a list of calls
+
+-- bytes by a test
+pub bytes-of : (l : List ℕ) → areBytes l ≡ true → Bytes l
+bytes-of [] e i = omega arith
+bytes-of (x ∷ l) e zero = ltb-true x 256 (both-true (ltb x 256) (areBytes l) e .0)
+bytes-of (x ∷ l) e (suc i) = bytes-of l (both-true (ltb x 256) (areBytes l) e .1) i
 
 pub record Same (r : SessionRecord) (st : List ℕ) (calls : List Call) : Type 0 where
   pub events : trace r st calls ≡ valueTrace (view r st) calls
