@@ -5,7 +5,6 @@ mod HoldLaws
 mod DrainLaws
 mod KeptLaws
 pub mod ValueClaim
-pub mod Needed
 pub mod PositionLaws
 pub mod SlotLaws
 pub mod ViewLaws

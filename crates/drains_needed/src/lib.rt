@@ -1,0 +1,1 @@
+// The condition of demand 3 on drains is needed: see proofs/Needed.antt. There is nothing to call.
