@@ -34,8 +34,9 @@ use Rattle.session.specs.declared.SessionRecord.{SessionRecord}
 use Rattle.session.specs.Store.{slot, listIn, queueIn, queueReads}
 use Rattle.session.specs.Identity.{topicOf, subscriptionOf, consumerNameOf, isIdentity}
 use Rattle.session.specs.Session.{Session, inUse, view, anyBeyond, damaged}
-use Rattle.session.specs.Update.{updateUnregistered, updateRegistered, updateContent, updateValid, updateCall}
-use Rattle.session.specs.Response.{staleFault, lastList, responseAssignment, responseContent, responseValid, responseCall}
+use Rattle.session.specs.Update.{updateUnregistered, updateRegistered, updateCall}
+use Rattle.session.specs.Tails.{updateContent, updateValid, responseAssignment, responseContent, responseValid}
+use Rattle.session.specs.Response.{staleFault, lastList, responseCall}
 use Rattle.session.specs.Drain.{nextChange, drained, drainCall}
 use Rattle.session.specs.Calls.{freshRecord}
 use Rattle.session.specs.Trace.{Call, update, response, drain, begin, Event, trace, End, final}

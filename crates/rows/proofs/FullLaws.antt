@@ -38,7 +38,8 @@ use Rattle.session.specs.declared.Answer.the-variants.{Refused, Accepted}
 use Rattle.session.specs.Store.{minOutput, slot, listIn, queueIn, queueReads}
 use Rattle.session.specs.Identity.{encodeIdentity, topicOf, subscriptionOf, consumerNameOf, isIdentity}
 use Rattle.session.specs.Session.{Session, Result, inUse, view, anyBeyond, damaged, refuse}
-use Rattle.session.specs.Update.{enqueue, updateUnregistered, updateContent, updateValid, updateCall}
+use Rattle.session.specs.Update.{enqueue, updateUnregistered, updateCall}
+use Rattle.session.specs.Tails.{updateContent, updateValid}
 use Rattle.session.specs.Calls.{outcome, effectOf, OpenOutcome, openOutcome, updateOutcome}
 use Rattle.session.specs.Trace.{stepOf, Event, trace, final}
 use Rattle.session.specs.DemandThree.{Fresh, AllOfBytes}

@@ -41,8 +41,9 @@ use Rattle.session.specs.declared.Floor.the-variants.{Unset}
 use Rattle.session.specs.Store.{minStore, slot, listIn, queueIn, queueReads, writeOne}
 use Rattle.session.specs.Identity.{encodeIdentity, topicOf, subscriptionOf, consumerNameOf, isIdentity}
 use Rattle.session.specs.Session.{inUse, view, anyBeyond, damaged}
-use Rattle.session.specs.Update.{updateUnregistered, updateRegistered, updateContent, updateValid, updateCall}
-use Rattle.session.specs.Response.{staleFault, lastList, responseAssignment, responseContent, responseValid, responseCall}
+use Rattle.session.specs.Update.{updateUnregistered, updateRegistered, updateCall}
+use Rattle.session.specs.Tails.{updateContent, updateValid, responseAssignment, responseContent, responseValid}
+use Rattle.session.specs.Response.{staleFault, lastList, responseCall}
 use Rattle.session.specs.Drain as session
 use Rattle.session.specs.Drain.{nextChange, drainCall}
 use Rattle.session.specs.Calls.{Outcome, openOutcome, updateOutcome, responseOutcome, drainOutcome}

@@ -33,8 +33,9 @@ use Rattle.session.specs.Store.{minStore, minOutput, maxQueue, identitySlot, sl
 use Rattle.session.specs.Identity.{isIdentity}
 use Rattle.session.specs.Session as session
 use Rattle.session.specs.Session.{Session, readers, view, damaged, unless, floorFault}
-use Rattle.session.specs.Update.{updateUnregistered, updateRegistered, updateContent, updateValid, updateChecked, updateCall}
-use Rattle.session.specs.Response.{staleFault, replayable, responseAssignment, responseContent, denied, responseValid, responseChecked}
+use Rattle.session.specs.Update.{updateUnregistered, updateRegistered, updateCall}
+use Rattle.session.specs.Tails.{updateContent, updateValid, updateChecked, responseValid, responseContent, responseAssignment, responseChecked}
+use Rattle.session.specs.Response.{staleFault, replayable, denied}
 use Rattle.session.specs.Response.{responseCall}
 use Rattle.session.specs.Drain.{Found, end, entry, drained, nextFor, drainCall}
 use Rattle.session.specs.Calls.{Outcome}
@@ -157,7 +158,7 @@ module _ (room : ℕ) (most : room ≤ slotSize) where
           (λ u. (clean-denied (responseOf message) (responseOf message .error), tt)))
 
     clean-call : (w : Call) → roomy room (s .topic) w ≡ true → Clean (resultOf s w)
-    unfolding updateCall responseCall drainCall
+    unfolding updateCall responseCall drainCall updateValid updateContent responseValid responseContent responseAssignment
     clean-call (update message link out) h =
         let k : Checked = firstFault CommandScalableTopicAssignmentUpdate message in
         let p = both-true (leb minOutput (length out)) (isTaken k && fits room (s .topic) (updateOf message .assignment)) h in

@@ -31,8 +31,9 @@ use Rattle.session.specs.declared.Floor.{Floor}
 use Rattle.session.specs.Store.{minStore}
 use Rattle.session.specs.Session as session
 use Rattle.session.specs.Session.{Session, damaged, refuse, unless, floorFault, raise}
-use Rattle.session.specs.Response.{staleFault, lastList, replayable, register, responseAssignment, responseContent, denied, responseValid}
-use Rattle.session.specs.Response.{responseChecked, responseCall}
+use Rattle.session.specs.Response.{staleFault, lastList, replayable, register, denied}
+use Rattle.session.specs.Tails.{responseAssignment, responseContent, responseValid, responseChecked}
+use Rattle.session.specs.Response.{responseCall}
 use Rattle.session.specs.Trace.{Call, response}
 use Rattle.session.proofs.PositionLaws.{start-zero}
 use Rattle.session.proofs.QueueLaws.{raise-over, stale-last, last-proper}
@@ -243,7 +244,7 @@ module _ (n : Registration) (message : List ℕ) (link : ControllerIncarnation) 
 
     -- 1, 22
     pub fair-response : Fair n call s (responseCall s message link) (rustStep c call)
-    unfolding responseCall
+    unfolding responseCall responseValid responseContent responseAssignment
     fair-response =
         choose (λ x. Fair n call s x (rustStep c call)) (ltb (s .size) minStore) (λ u f. absurd (true≢false f)) (λ u.
         choose (λ x. Fair n call s x (rustStep c call)) (damaged s) (λ u f. absurd (true≢false f)) (λ u.

@@ -33,7 +33,8 @@ use Rattle.packed_queue.specs.Entries.{sizeEntry}
 use Rattle.session.specs.Store.{minStore, minOutput, maxQueue, queueEnd}
 use Rattle.session.specs.Session as session
 use Rattle.session.specs.Session.{Session, positionOf, damaged}
-use Rattle.session.specs.Update.{enqueue, hold, updateUnregistered, updateRegistered, updateContent, updateValid, updateChecked, updateCall}
+use Rattle.session.specs.Update.{enqueue, hold, updateUnregistered, updateRegistered, updateCall}
+use Rattle.session.specs.Tails.{updateContent, updateValid, updateChecked}
 use Rattle.session.specs.Trace.{Call, update}
 use Rattle.session.proofs.Model.{after}
 use Rattle.session.proofs.CallLaws.{read-proper}
@@ -266,7 +267,7 @@ module _ (n : Registration) (message : List ℕ) (link : ControllerIncarnation) 
 
     -- 1, 2, 22
     pub fair-update : Fair n call s (updateCall s message link (length out)) (rustStep c call)
-    unfolding updateCall
+    unfolding updateCall updateValid updateContent
     fair-update =
         choose (λ x. Fair n call s x (rustStep c call)) (ltb (s .size) minStore) (λ u f. absurd (true≢false f)) (λ u.
         choose (λ x. Fair n call s x (rustStep c call)) (ltb (length out) minOutput) (λ u f. absurd (true≢false f)) (λ u.

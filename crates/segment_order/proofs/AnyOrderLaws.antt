@@ -24,8 +24,9 @@ use Rattle.readers.specs.Messages.{segmentOf, assignmentOf, updateOf, responseO
 use Rattle.content.specs.Content.{Content, contentOf}
 use Rattle.session.specs.Store.{minStore, minOutput}
 use Rattle.session.specs.Session.{Session, view, Result, damaged, refuse}
-use Rattle.session.specs.Update.{updateContent, updateValid, updateChecked, updateCall}
-use Rattle.session.specs.Response.{responseContent, responseValid, responseChecked, responseCall}
+use Rattle.session.specs.Update.{updateCall}
+use Rattle.session.specs.Tails.{updateContent, updateValid, updateChecked, responseAssignment, responseContent, responseValid, responseChecked}
+use Rattle.session.specs.Response.{responseCall}
 use Rattle.session.specs.Calls.{effectOf, updateOutcome, responseOutcome}
 use Rattle.segment_order.specs.SegmentOrder.{Reordered, Rearranged, SameUpdate, SameResponse, Alike, AnyOrder}
 use Rattle.segment_order.proofs.ShuffleLaws.{shuffled-map}
@@ -108,7 +109,7 @@ module _ (s : Session) (incarnation : ControllerIncarnation) where
 
   update-call : (m n : List ℕ) → SameUpdate m n → (output : ℕ)
       → AlikeResult s (updateCall s m incarnation output) (updateCall s n incarnation output)
-  unfolding updateCall
+  unfolding updateCall updateValid contentOf updateContent
   update-call m n r output =
       let fault : List ℕ → Checked = firstFault CommandScalableTopicAssignmentUpdate in
       alike-cond s (ltb (s .size) minStore) (refuse StoreTooShort s) _ _
@@ -148,7 +149,7 @@ module _ (s : Session) (incarnation : ControllerIncarnation) where
 
   response-call : (m n : List ℕ) → SameResponse m n
       → AlikeResult s (responseCall s m incarnation) (responseCall s n incarnation)
-  unfolding responseCall
+  unfolding responseCall responseValid contentOf responseContent responseAssignment
   response-call m n r =
       let fault : List ℕ → Checked = firstFault CommandScalableTopicSubscribeResponse in
       alike-cond s (ltb (s .size) minStore) (refuse StoreTooShort s) _ _

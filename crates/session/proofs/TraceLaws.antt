@@ -42,9 +42,10 @@ use Rattle.session.specs.declared.SessionRecord.{SessionRecord}
 use Rattle.session.specs.Store.{maxQueue, listIn, queueIn, queueEnd, writeAll}
 use Rattle.session.specs.Session.{Session, readers, positionOf, view, damaged, Result, refuse, unless, floorFault}
 use Rattle.session.specs.Session.{Reply, refused, accepted, nothing, changed, replayed}
-use Rattle.session.specs.Update.{updateUnregistered, updateRegistered, updateContent, updateValid, updateChecked, updateCall}
+use Rattle.session.specs.Update.{updateUnregistered, updateRegistered, updateCall}
+use Rattle.session.specs.Tails.{updateContent, updateValid, updateChecked, responseAssignment, responseContent, responseValid, responseChecked}
 use Rattle.session.specs.Response.{staleFault, lastList, replayable}
-use Rattle.session.specs.Response.{responseAssignment, responseContent, responseValid, responseChecked, responseCall}
+use Rattle.session.specs.Response.{responseCall}
 use Rattle.session.specs.Drain.{Found, end, entry, nextChange, drained, drainCall}
 use Rattle.session.specs.Link.{beginOf, invalidateOf}
 use Rattle.session.specs.Calls.{Outcome, answerOf, outputOf, effectOf, updateOutcome, responseOutcome, drainOutcome}
@@ -148,7 +149,7 @@ module _ (r : SessionRecord) (st : List ℕ) (k : Kept r st) where
         (packable (now .topic) (updateOf message .assignment) (update-wide message bytes))))
 
     pub follow-update : (output : ℕ) → Follows r st (updateCall now message incarnation output)
-    unfolding updateCall view
+    unfolding updateCall view updateValid contentOf updateContent
     follow-update output =
         choose (Follows r st) (ltb (length st) 6144) (λ t. follow-refuse _) (λ small.
         choose (Follows r st) (ltb output 3210) (λ t. follow-refuse _) (λ t.
@@ -166,7 +167,7 @@ module _ (r : SessionRecord) (st : List ℕ) (k : Kept r st) where
         (λ t. follow-refuse _))
 
     pub follow-response : Follows r st (responseCall now message incarnation)
-    unfolding responseCall view
+    unfolding responseCall view responseValid contentOf responseContent responseAssignment
     follow-response =
         choose (Follows r st) (ltb (length st) 6144) (λ t. follow-refuse _) (λ small.
         choose (Follows r st) (damaged now) (λ t. follow-refuse _) (λ t.

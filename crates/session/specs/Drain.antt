@@ -17,7 +17,8 @@ use Rattle.delta.specs.Change.{deltaBetween}
 use Rattle.session.specs.declared.SessionRecord.{SessionRecord}
 use Rattle.session.specs.Store.{minStore, minOutput, queueEnd}
 use Rattle.session.specs.Session as session
-use Rattle.session.specs.Session.{Session, Result, readers, positionOf, damaged, refuse}
+use Rattle.session.specs.Session.{Session, withFields, Result, readers, positionOf, damaged}
+use Rattle.session.specs.Steps.{_>>_, refuseIf, noneUnless}
 
 pub data Found : Type 0 where
   end : Found
@@ -32,15 +33,7 @@ nextChange i before (a ∷ queue) zero = cond (sameAssignment before a) (nextCha
 -- a reader's position moved, and no other: "each moved only by its own reader" (02 d)
 abbrev pub withPosition : SessionRecord → (reader k : ℕ) → SessionRecord
 withPosition r reader k =
-    record {
-      «consumer_id» = r .«consumer_id»;
-      incarnation = r .incarnation;
-      registered = r .registered;
-      invalidated = r .invalidated;
-      «epoch_floor» = r .«epoch_floor»;
-      «queue_count» = r .«queue_count»;
-      «drain_positions» = set (r .«drain_positions») reader k;
-    }
+    withFields r (r .incarnation) (r .registered) (r .invalidated) (r .«epoch_floor») (r .«queue_count») (set (r .«drain_positions») reader k)
 
 -- "the byte place of its sheet in the store": behind those before it and its own length
 abbrev pub placeOf : List ConsumerAssignment → ℕ → ℕ
@@ -55,11 +48,11 @@ drained s reader (entry i d) =
 abbrev pub nextFor : Session → (reader : ℕ) → Found
 nextFor s reader = nextChange 0 (s .baseline) (s .queue) (positionOf (s .state) reader)
 
-unfoldable pub drainCall : Session → (reader output : ℕ) → Result
-drainCall s reader output =
-    cond (ltb (s .size) minStore) (refuse StoreTooShort s)
-    (cond (ltb output minOutput) (refuse OutputTooShort s)
-    (cond (leb readers reader) (refuse UnknownReader s)
-    (cond (damaged s) (refuse MalformedStore s)
-    (cond (s .state .registered) (drained s reader (nextFor s reader))
-    (record { reply = session.nothing; next = s .state; writes = [] })))))
+unfoldable pub drainCall : (s : Session) (reader output : ℕ) → Result
+drainCall s reader output = do
+  refuseIf s (ltb (s .size) minStore) StoreTooShort  -- 1
+  refuseIf s (ltb output minOutput) OutputTooShort  -- 2
+  refuseIf s (leb readers reader) UnknownReader  -- 33
+  refuseIf s (damaged s) MalformedStore  -- 22
+  noneUnless s (s .state .registered)
+  drained s reader (nextFor s reader)

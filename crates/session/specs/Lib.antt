@@ -1,9 +1,11 @@
 pub mod Store
 pub mod Identity
 pub mod Session
+pub mod Steps
 pub mod Update
 pub mod Response
 pub mod Drain
+pub mod Tails
 pub mod Link
 pub mod Rows
 pub mod Calls

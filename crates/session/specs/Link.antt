@@ -10,19 +10,11 @@ use Rattle.refusal.specs.declared.Refusal.the-variants.{NonAdvancingIncarnation
 use Rattle.session.specs.declared.SessionRecord.{SessionRecord}
 use Rattle.session.specs.declared.Answer.the-variants.{Refused, Accepted}
 use Rattle.session.specs.declared.Changed.{Changed}
-use Rattle.session.specs.Session.{atStart}
+use Rattle.session.specs.Session.{withFields, atStart}
 
 abbrev pub unregistered : SessionRecord → ControllerIncarnation → Bool → SessionRecord
 unregistered r incarnation invalidated =
-    record {
-      «consumer_id» = r .«consumer_id»;
-      incarnation = incarnation;
-      registered = false;
-      invalidated = invalidated;
-      «epoch_floor» = r .«epoch_floor»;
-      «queue_count» = 0;
-      «drain_positions» = atStart;
-    }
+    withFields r incarnation false invalidated (r .«epoch_floor») 0 atStart
 
 unfoldable pub beginOf : SessionRecord → ControllerIncarnation → Changed
 beginOf r incarnation =

@@ -14,18 +14,17 @@ use Rattle.types.specs.declared.ControllerIncarnation.{ControllerIncarnation}
 use Rattle.refusal.specs.declared.Refusal.{Refusal}
 use Rattle.refusal.specs.declared.Refusal.the-variants.{StoreTooShort, MalformedStore, IncarnationMismatch, Broker, Empty, StaleEpoch}
 use Rattle.schema.specs.declared.MessageKind.the-variants.{CommandScalableTopicSubscribeResponse}
-use Rattle.schema.specs.declared.Checked.{Checked}
-use Rattle.schema.specs.declared.Checked.the-variants.{Valid, Refused}
 use Rattle.schema.specs.FirstFault.{firstFault}
 use Rattle.readers.specs.declared.ErrorCode.{ErrorCode}
 use Rattle.readers.specs.declared.ErrorCode.the-variants.{Given, Absent}
 use Rattle.readers.specs.Messages.{WireResponse, responseOf}
 use Rattle.packed.specs.Assignment.{ConsumerAssignment}
-use Rattle.content.specs.Content.{Content, refused, taken, contentOf}
+use Rattle.content.specs.Content.{contentOf}
 use Rattle.session.specs.declared.SessionRecord.{SessionRecord}
 use Rattle.session.specs.Store.{minStore, baselineSlot, listSlot, toSlot}
 use Rattle.session.specs.Session as session
-use Rattle.session.specs.Session.{Session, Result, atStart, damaged, refuse, unless, floorFault, raise}
+use Rattle.session.specs.Session.{Session, withFields, Result, atStart, damaged, floorFault, raise}
+use Rattle.session.specs.Steps.{_>>_, _>>=_, refuseIf, refuseUnless, refuseDue, refuseFault, takeContent}
 
 -- 27: the first push of the queue whose epoch lies below that of the list before it, which for the first is the baseline
 unfoldable pub staleFault : ConsumerAssignment → List ConsumerAssignment → Option Refusal
@@ -45,15 +44,7 @@ replayable s = cond (s .state .registered) [] (s .queue)
 -- the record behind an accepted response that left so many in the queue
 abbrev pub registeredWith : Session → ConsumerAssignment → ℕ → SessionRecord
 registeredWith s last count =
-    record {
-      «consumer_id» = s .state .«consumer_id»;
-      incarnation = s .state .incarnation;
-      registered = true;
-      invalidated = s .state .invalidated;
-      «epoch_floor» = raise (s .state .«epoch_floor») (last .layoutEpoch);
-      «queue_count» = count;
-      «drain_positions» = atStart;
-    }
+    withFields (s .state) (s .state .incarnation) true (s .state .invalidated) (raise (s .state .«epoch_floor») (last .layoutEpoch)) count atStart
 
 abbrev pub register : Session → ConsumerAssignment → ConsumerAssignment → Result
 register s baseline last =
@@ -63,37 +54,20 @@ register s baseline last =
       writes = toSlot baselineSlot baseline ∷ toSlot listSlot last ∷ [];
     }
 
--- 26, then 27
-unfoldable pub responseAssignment : Session → ConsumerAssignment → Result
-responseAssignment s baseline =
-    unless (floorFault (baseline .layoutEpoch) (s .state .«epoch_floor»)) s
-    (unless (staleFault baseline (replayable s)) s
-    (register s baseline (lastList baseline (replayable s))))
-
--- 9 to 11, 34, 12 to 15
-unfoldable pub responseContent : Session → Content → Result
-responseContent s (refused x) = refuse x s
-responseContent s (taken baseline) = responseAssignment s baseline
-
 -- 16, or 17
 abbrev pub denied : WireResponse → ErrorCode → Refusal
 denied w (Given code) = Broker code
 denied w Absent = Empty (w .requestId)
 
--- 23
-unfoldable pub responseValid : Session → ControllerIncarnation → WireResponse → Result
-responseValid s incarnation w =
-    cond (not (eqb (incarnation .0) (s .state .incarnation .0))) (refuse (IncarnationMismatch incarnation (s .state .incarnation)) s)
-    (cond (w .hasAssignment) (responseContent s (contentOf (s .topic) (w .assignment))) (refuse (denied w (w .error)) s))
-
--- 3, 4, 7, 6
-abbrev pub responseChecked : Session → ControllerIncarnation → List ℕ → Checked → Result
-responseChecked s incarnation message (Refused x) = refuse x s
-responseChecked s incarnation message Valid = responseValid s incarnation (responseOf message)
-
--- 1, 22
-unfoldable pub responseCall : Session → List ℕ → ControllerIncarnation → Result
-responseCall s message incarnation =
-    cond (ltb (s .size) minStore) (refuse StoreTooShort s)
-    (cond (damaged s) (refuse MalformedStore s)
-    (responseChecked s incarnation message (firstFault CommandScalableTopicSubscribeResponse message)))
+unfoldable pub responseCall : (s : Session) (message : List ℕ) (incarnation : ControllerIncarnation) → Result
+responseCall s message incarnation = do
+  refuseIf s (ltb (s .size) minStore) StoreTooShort  -- 1
+  refuseIf s (damaged s) MalformedStore  -- 22
+  refuseFault s (firstFault CommandScalableTopicSubscribeResponse message)  -- 3, 4, 7, 6
+  let w = responseOf message
+  refuseIf s (not (eqb (incarnation .0) (s .state .incarnation .0))) (IncarnationMismatch incarnation (s .state .incarnation))  -- 23
+  refuseUnless s (w .hasAssignment) (denied w (w .error))  -- 16 or 17
+  baseline ← takeContent s (contentOf (s .topic) (w .assignment))  -- 9 to 11, 34, 12 to 15
+  refuseDue s (floorFault (baseline .layoutEpoch) (s .state .«epoch_floor»))  -- 26
+  refuseDue s (staleFault baseline (replayable s))  -- 27
+  register s baseline (lastList baseline (replayable s))

@@ -6,6 +6,7 @@ use mathlib.Core.List.{List, [], _∷_}
 use mathlib.Core.Option.{Option, some, none}
 use lib.ListN.{length, getD, replicate}
 use lib.Dec.{ltb}
+use Rattle.types.specs.declared.ControllerIncarnation.{ControllerIncarnation}
 use Rattle.refusal.specs.declared.Refusal.{Refusal}
 use Rattle.refusal.specs.declared.Refusal.the-variants.{CrossIncarnationEpochRegression}
 use Rattle.packed.specs.Assignment.{ConsumerAssignment, startsAssignment}
@@ -48,6 +49,20 @@ view r store =
       baseline = listIn store baselineSlot;
       list = listIn store listSlot;
       queue = queueIn store (r .«queue_count»);
+    }
+
+-- ---- the record: of its fields the consumer alone never changes
+
+abbrev pub withFields : SessionRecord → ControllerIncarnation → (registered invalidated : Bool) → Floor → (count : ℕ) → (positions : List ℕ) → SessionRecord
+withFields r incarnation registered invalidated floor count positions =
+    record {
+      «consumer_id» = r .«consumer_id»;
+      incarnation = incarnation;
+      registered = registered;
+      invalidated = invalidated;
+      «epoch_floor» = floor;
+      «queue_count» = count;
+      «drain_positions» = positions;
     }
 
 -- ---- the readers (02 d)

@@ -12,44 +12,27 @@ use Rattle.refusal.specs.declared.Refusal.{Refusal}
 use Rattle.refusal.specs.declared.Refusal.the-variants.{StoreTooShort, OutputTooShort, MalformedStore, IncarnationMismatch}
 use Rattle.refusal.specs.declared.Refusal.the-variants.{ConsumerMismatch, StaleEpoch, PreBaselineBufferFull}
 use Rattle.schema.specs.declared.MessageKind.the-variants.{CommandScalableTopicAssignmentUpdate}
-use Rattle.schema.specs.declared.Checked.{Checked}
-use Rattle.schema.specs.declared.Checked.the-variants.{Valid, Refused}
 use Rattle.schema.specs.FirstFault.{firstFault}
-use Rattle.readers.specs.Messages.{WireUpdate, updateOf}
+use Rattle.readers.specs.Messages.{updateOf}
 use Rattle.packed.specs.Assignment.{ConsumerAssignment}
 use Rattle.packed.specs.Equal.{sameAssignment}
 use Rattle.delta.specs.Change.{deltaBetween}
-use Rattle.content.specs.Content.{Content, refused, taken, contentOf}
+use Rattle.content.specs.Content.{contentOf}
 use Rattle.session.specs.declared.SessionRecord.{SessionRecord}
 use Rattle.session.specs.declared.Floor.{Floor}
 use Rattle.packed_queue.specs.Entries.{sizeEntry}
 use Rattle.session.specs.Store.{minStore, minOutput, maxQueue, listSlot, queueEnd, toSlot, push}
 use Rattle.session.specs.Session as session
-use Rattle.session.specs.Session.{Session, Result, damaged, refuse, unless, floorFault, raise}
+use Rattle.session.specs.Session.{Session, withFields, Result, damaged, floorFault, raise}
+use Rattle.session.specs.Steps.{_>>_, _>>=_, refuseIf, refuseDue, refuseFault, takeContent, noneIf}
 
 abbrev pub withQueueCount : SessionRecord → ℕ → SessionRecord
 withQueueCount r n =
-    record {
-      «consumer_id» = r .«consumer_id»;
-      incarnation = r .incarnation;
-      registered = r .registered;
-      invalidated = r .invalidated;
-      «epoch_floor» = r .«epoch_floor»;
-      «queue_count» = n;
-      «drain_positions» = r .«drain_positions»;
-    }
+    withFields r (r .incarnation) (r .registered) (r .invalidated) (r .«epoch_floor») n (r .«drain_positions»)
 
 abbrev pub withFloor : SessionRecord → Floor → SessionRecord
 withFloor r floor =
-    record {
-      «consumer_id» = r .«consumer_id»;
-      incarnation = r .incarnation;
-      registered = r .registered;
-      invalidated = r .invalidated;
-      «epoch_floor» = floor;
-      «queue_count» = r .«queue_count»;
-      «drain_positions» = r .«drain_positions»;
-    }
+    withFields r (r .incarnation) (r .registered) (r .invalidated) floor (r .«queue_count») (r .«drain_positions»)
 
 -- it joins the queue and answers none
 abbrev pub enqueue : Session → ConsumerAssignment → Result
@@ -69,42 +52,30 @@ hold s a =
       writes = toSlot listSlot a ∷ [];
     }
 
--- 26, then 28: "if 1,024 are queued or length and sheet do not fit the free end; the attached max is 1,024 or the number queued"
-unfoldable pub updateUnregistered : Session → ConsumerAssignment → Result
-updateUnregistered s a =
-    unless (floorFault (a .layoutEpoch) (s .state .«epoch_floor»)) s
-    (cond (eqb (s .state .«queue_count») maxQueue) (refuse (PreBaselineBufferFull maxQueue) s)
-    (cond (ltb (s .size) (queueEnd (s .queue) + sizeEntry a)) (refuse (PreBaselineBufferFull (s .state .«queue_count»)) s)
-    (enqueue s a)))
-
--- none, or 27
+-- registered: none, 27, or the list is held
 unfoldable pub updateRegistered : Session → ConsumerAssignment → Result
-updateRegistered s a =
-    cond (sameAssignment (s .list) a) (record { reply = session.nothing; next = s .state; writes = [] })
-    (cond (ltb (a .layoutEpoch) (s .list .layoutEpoch)) (refuse (StaleEpoch (a .layoutEpoch) (s .list .layoutEpoch)) s)
-    (hold s a))
+updateRegistered s a = do
+  noneIf s (sameAssignment (s .list) a)
+  refuseIf s (ltb (a .layoutEpoch) (s .list .layoutEpoch)) (StaleEpoch (a .layoutEpoch) (s .list .layoutEpoch))  -- 27
+  hold s a
 
--- 9 to 11, 34, 12 to 15
-unfoldable pub updateContent : Session → Content → Result
-updateContent s (refused x) = refuse x s
-updateContent s (taken a) = cond (s .state .registered) (updateRegistered s a) (updateUnregistered s a)
+-- unregistered: 26, 28, or it joins the queue. 28: "if 1,024 are queued or length and sheet do not fit the free end; the attached max is 1,024 or
+-- the number queued"
+unfoldable pub updateUnregistered : Session → ConsumerAssignment → Result
+updateUnregistered s a = do
+  refuseDue s (floorFault (a .layoutEpoch) (s .state .«epoch_floor»))  -- 26
+  refuseIf s (eqb (s .state .«queue_count») maxQueue) (PreBaselineBufferFull maxQueue)  -- 28
+  refuseIf s (ltb (s .size) (queueEnd (s .queue) + sizeEntry a)) (PreBaselineBufferFull (s .state .«queue_count»))  -- 28
+  enqueue s a
 
--- 23, then 24
-unfoldable pub updateValid : Session → ControllerIncarnation → WireUpdate → Result
-updateValid s incarnation u =
-    cond (not (eqb (incarnation .0) (s .state .incarnation .0))) (refuse (IncarnationMismatch incarnation (s .state .incarnation)) s)
-    (cond (not (eqb (u .consumerId) (s .state .«consumer_id»))) (refuse (ConsumerMismatch (u .consumerId) (s .state .«consumer_id»)) s)
-    (updateContent s (contentOf (s .topic) (u .assignment))))
-
--- 3, 4, 7, 6
-abbrev pub updateChecked : Session → ControllerIncarnation → List ℕ → Checked → Result
-updateChecked s incarnation message (Refused x) = refuse x s
-updateChecked s incarnation message Valid = updateValid s incarnation (updateOf message)
-
--- 1, 2, 22
-unfoldable pub updateCall : Session → List ℕ → ControllerIncarnation → ℕ → Result
-updateCall s message incarnation output =
-    cond (ltb (s .size) minStore) (refuse StoreTooShort s)
-    (cond (ltb output minOutput) (refuse OutputTooShort s)
-    (cond (damaged s) (refuse MalformedStore s)
-    (updateChecked s incarnation message (firstFault CommandScalableTopicAssignmentUpdate message))))
+unfoldable pub updateCall : (s : Session) (message : List ℕ) (incarnation : ControllerIncarnation) (output : ℕ) → Result
+updateCall s message incarnation output = do
+  refuseIf s (ltb (s .size) minStore) StoreTooShort  -- 1
+  refuseIf s (ltb output minOutput) OutputTooShort  -- 2
+  refuseIf s (damaged s) MalformedStore  -- 22
+  refuseFault s (firstFault CommandScalableTopicAssignmentUpdate message)  -- 3, 4, 7, 6
+  let u = updateOf message
+  refuseIf s (not (eqb (incarnation .0) (s .state .incarnation .0))) (IncarnationMismatch incarnation (s .state .incarnation))  -- 23
+  refuseIf s (not (eqb (u .consumerId) (s .state .«consumer_id»))) (ConsumerMismatch (u .consumerId) (s .state .«consumer_id»))  -- 24
+  a ← takeContent s (contentOf (s .topic) (u .assignment))  -- 9 to 11, 34, 12 to 15
+  cond (s .state .registered) (updateRegistered s a) (updateUnregistered s a)

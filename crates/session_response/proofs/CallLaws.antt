@@ -36,7 +36,8 @@ use Rattle.session.specs.Store.{slot, queueIn, writeOne}
 use Rattle.session.specs.Identity.{topicOf}
 use Rattle.session.specs.Session.{view, damaged, Result, refuse, unless, floorFault}
 use Rattle.session.specs.Response.{staleFault, lastList, replayable, denied}
-use Rattle.session.specs.Response.{responseAssignment, responseContent, responseValid, responseChecked, responseCall}
+use Rattle.session.specs.Response.{responseCall}
+use Rattle.session.specs.Tails.{responseAssignment, responseContent, responseValid, responseChecked}
 use Rattle.session.specs.Calls.{outcome, effectOf, responseOutcome}
 use Rattle.intake.specs.declared.Intake.{Intake}
 use Rattle.intake.specs.declared.Intake.the-variants as intake
@@ -200,7 +201,7 @@ module _ (r : SessionRecord) (st : List ℕ) where
         undamaged = not-true (damaged (view r st)) (sym s ∙ not-false x f)
 
         pub call-sound : responseCall (view r st) m i ≡ responseChecked (view r st) i m (firstFault CommandScalableTopicSubscribeResponse m)
-        unfolding responseCall view
+        unfolding responseCall view responseValid responseContent contentOf responseAssignment
         call-sound = rw (le-ltb (length st) 6144 h, undamaged) refl
 
   -- as the call on bytes

@@ -13,7 +13,7 @@ ghost use Rattle.packed.specs.Assignment as packed-form;
 ghost use Rattle.session.specs.Store.{slot, queueIn, queueReads};
 ghost use Rattle.session.specs.Identity.{topicOf, isIdentity};
 ghost use Rattle.session.specs.Session.{view, damaged};
-ghost use Rattle.session.specs.Response.{responseAssignment, responseValid, responseChecked};
+ghost use Rattle.session.specs.Tails.{responseAssignment, responseValid, responseChecked};
 ghost use Rattle.session.specs.Calls.{outcome, effectOf, responseOutcome};
 ghost use Rattle.session_store.specs.Scratch.{Scratch};
 ghost use Rattle.session_intake.specs.Taken.{contentFrom, Ready, Answers};

@@ -38,8 +38,9 @@ use Rattle.session.specs.declared.Answer.the-variants.{Refused, Unchanged, Delt
 use Rattle.session.specs.Store.{slot, listIn, queueIn, queueEnd, writeOne}
 use Rattle.session.specs.Identity.{topicOf, isIdentity}
 use Rattle.session.specs.Session.{view, damaged, raise}
-use Rattle.session.specs.Update.{withQueueCount, withFloor, updateUnregistered, updateRegistered, updateContent, updateValid}
-use Rattle.session.specs.Update.{updateChecked, updateCall}
+use Rattle.session.specs.Update.{withQueueCount, withFloor, updateUnregistered, updateRegistered}
+use Rattle.session.specs.Tails.{updateContent, updateValid, updateChecked}
+use Rattle.session.specs.Update.{updateCall}
 use Rattle.session.specs.Calls.{Outcome, outcome, effectOf, updateOutcome}
 use Rattle.session_record.specs.Floors.{belowFloor, floorValue}
 use Rattle.session_record.proofs.FloorLaws.{floor-below, floor-met}
@@ -239,5 +240,5 @@ module _ (r : SessionRecord) (st m : List ℕ) (incarnation : ControllerIncarnat
       store-bad d = rw (le-ltb (length st) 6144 h, le-ltb (length out) 3210 k, d)
 
       pub call-sound : damaged (view r st) ≡ false → {z : Outcome} → Scanned r st m incarnation out z → z ≡ updateOutcome r st m incarnation out
-      unfolding updateOutcome updateCall view
+      unfolding updateOutcome updateCall view updateValid updateContent
       call-sound d w = w ∙ rw (le-ltb (length st) 6144 h, le-ltb (length out) 3210 k, d)

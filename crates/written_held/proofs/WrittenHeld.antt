@@ -39,8 +39,9 @@ use Rattle.session.specs.Store.{minStore, minOutput, maxQueue, baselineSlot, li
 use Rattle.session.specs.Store.{queueIn, queueReads, queueEnd, toSlot, writeOne}
 use Rattle.session.specs.Identity.{isIdentity}
 use Rattle.session.specs.Session.{Session, listsStart, inUse, view, damaged, floorFault}
-use Rattle.session.specs.Update.{updateRegistered, updateUnregistered, updateContent, updateValid, updateCall}
-use Rattle.session.specs.Response.{staleFault, lastList, replayable, register, responseAssignment, responseContent, responseValid, responseCall}
+use Rattle.session.specs.Update.{updateRegistered, updateUnregistered, updateCall}
+use Rattle.session.specs.Tails.{updateContent, updateValid, responseAssignment, responseContent, responseValid}
+use Rattle.session.specs.Response.{staleFault, lastList, replayable, register, responseCall}
 use Rattle.session.specs.Calls.{effectOf, updateOutcome, responseOutcome}
 use Rattle.session.proofs.SlotLaws.{length-slotted, list-same, slot-other, Queued, queue-pushed}
 use Rattle.session.proofs.ViewLaws.{undamaged, last-packable}
@@ -146,7 +147,7 @@ module _ (parent message : List ℕ) (a : ConsumerAssignment) (reads : Reads par
 
   update-is : (out : ℕ) → minOutput ≤ out → r .«consumer_id» < 2 ^ 64
       → updateCall now (updateMessage (r .«consumer_id») message) incarnation out ≡ updateContent now (taken a)
-  unfolding updateCall updateValid view
+  unfolding updateCall updateValid updateContent view
   update-is out o consumer =
       rw (
         long,
@@ -162,7 +163,7 @@ module _ (parent message : List ℕ) (a : ConsumerAssignment) (reads : Reads par
 
   module _ (request : ℕ) (short : request < 2 ^ 64) where
     response-is : responseCall now (responseMessage request message) incarnation ≡ responseAssignment now a
-    unfolding responseCall responseValid responseContent view
+    unfolding responseCall responseValid responseContent responseAssignment view
     response-is =
         rw (
           long,

@@ -1,0 +1,48 @@
+-- A call is the list of its refusals, in their order: each line is a test with the refusal that is due where it holds, or hands on what it read.
+-- Assumes nothing.
+use mathlib.Core.Bool.{Bool, cond}
+use mathlib.Core.List.{[]}
+use mathlib.Core.Option.{Option}
+use Rattle.refusal.specs.declared.Refusal.{Refusal}
+use Rattle.schema.specs.declared.Checked.{Checked}
+use Rattle.schema.specs.declared.Checked.the-variants as checked
+use Rattle.packed.specs.Assignment.{ConsumerAssignment}
+use Rattle.content.specs.Content as content
+use Rattle.session.specs.Session.{Session, nothing, Result, refuse, unless}
+
+infixl 10 _>>_ _>>=_
+abbrev pub _>>_ : {R : Type 0} → (R → R) → R → R
+_>>_ test rest = test rest
+
+abbrev pub _>>=_ : {A R : Type 0} → ((A → R) → R) → (A → R) → R
+_>>=_ reading rest = reading rest
+
+abbrev pub refuseIf : Session → Bool → Refusal → Result → Result
+refuseIf s test x rest = cond test (refuse x s) rest
+
+abbrev pub refuseUnless : Session → Bool → Refusal → Result → Result
+refuseUnless s test x rest = cond test rest (refuse x s)
+
+-- the refusal that is due, if there is one
+abbrev pub refuseDue : Session → Option Refusal → Result → Result
+refuseDue s due rest = unless due s rest
+
+-- the first fault of a message
+abbrev pub refuseFault : Session → Checked → Result → Result
+refuseFault s (checked.Refused x) rest = refuse x s
+refuseFault s checked.Valid rest = rest
+
+-- the list that a message's assignment comes to
+abbrev pub takeContent : Session → content.Content → (ConsumerAssignment → Result) → Result
+takeContent s (content.refused x) rest = refuse x s
+takeContent s (content.taken a) rest = rest a
+
+-- none is answered, and nothing changes
+abbrev pub none : Session → Result
+none s = record { reply = nothing; next = s .state; writes = [] }
+
+abbrev pub noneIf : Session → Bool → Result → Result
+noneIf s test rest = cond test (none s) rest
+
+abbrev pub noneUnless : Session → Bool → Result → Result
+noneUnless s test rest = cond test rest (none s)
