@@ -1,15 +1,17 @@
 #!/usr/bin/env python3
-"""Makes the vectors of packed assignments, deltas, the calls with an output and the intake: writes their part of crates/vectors/stdin.
+"""Generator: the vectors of packed assignments, deltas, the calls with an output and the intake, a part of crates/vectors/stdin.
 
 The random ones come from one seed.
 
 The values are put into bytes by tools/assignment_vectors.py, which judges what the program makes of them.
 """
 import random
+import sys
 
+import usage
 from assignment_vectors import Assignment, Delta, Segment, difference, join, name_of, number_field, pack_assignment, pack_delta, part_field
 from assignment_vectors import segment_message, to_pb
-from vectors import replace
+from vectors import replaced
 
 PARENT = b"topic://a/b/c"
 PATH = b"a/b/c"
@@ -403,12 +405,13 @@ def some_pairs(count):
         old = new
 
 
-def main():
+def made():
     pairs = list(some_pairs(8))
     groups = (
         assignments(), deltas(), differences(pairs), applies(pairs), joins(pairs), writes(pairs), good_messages(), long_messages(), refused_messages(),
     )
-    replace("# ==== packed assignments, deltas, the calls with an output, the intake: by tools/assignment_lines.py", (told for group in groups for told in group))
+    return replaced("# ==== packed assignments, deltas, the calls with an output, the intake: by tools/assignment_lines.py", (told for group in groups for told in group))
 
 
-main()
+if __name__ == "__main__":
+    sys.exit(usage.generate(__doc__, made))

@@ -1,4 +1,5 @@
-"""Packed assignments, deltas, the calls with an output and the intake, reckoned for tools/vectors.py. tools/assignment_lines.py makes the vectors.
+#!/usr/bin/env python3
+"""Judge: packed assignments, deltas, the calls with an output and the intake, reckoned for tools/vectors.py. tools/assignment_lines.py makes the vectors.
 
 The forms, what changed, apply, join, the writer and the order of refusals are read from the specification's words: bytes are taken apart into values and put
 together again, ranges are sets of values, and rows of segments are dictionaries.
@@ -6,6 +7,7 @@ together again, ranges are sets of values, and rows of segments are dictionaries
 import struct
 from collections import namedtuple
 
+import usage
 from name_vectors import ROOM, Refused, key_range, parent_path, utf8
 from wire_vectors import contents, int32
 
@@ -292,3 +294,7 @@ COMMANDS = {
     "to_pb": ("bbn", with_output(lambda a, parent: to_pb(whole_assignment(a), parent))),
     "intake": ("nbb", lambda field, parent, message: "taken 0x" + taken(field, parent, message).hex()),
 }
+
+
+if __name__ == "__main__":
+    usage.help_only(__doc__)

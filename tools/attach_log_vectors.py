@@ -1,13 +1,15 @@
 #!/usr/bin/env python3
-"""Whether an uploader's log is what deltas ask for (02 m), reckoned for tools/vectors.py; run by itself, it writes vectors/attach_log.log.
+"""Judge and generator: whether an uploader's log is what deltas ask for (02 m), reckoned for tools/vectors.py; run by itself, it makes vectors/attach_log.log.
 
 A log is read as a text of bits, and the entries that a delta asks for are counted in any order.
 """
 import itertools
 import random
+import sys
 from collections import Counter
 
 import logs
+import usage
 from assignment_vectors import Bytes, Delta, Malformed, Segment, pack_delta, take_delta
 from name_vectors import Refused
 
@@ -211,11 +213,11 @@ def at_random(rng):
     yield row(many, lost + gained[1:] + gained[-1:])
 
 
-def main():
+def made():
     head = "# Uploaders' logs and the deltas that they follow or not, as a log of station, written and reckoned by tools/attach_log_vectors.py."
     lines = [head, *none(), *ids(), *orders(), *several(), *refused(), *at_random(random.Random("attach log vectors"))]
-    logs.write("attach_log", lines)
+    return logs.made("attach_log", lines)
 
 
 if __name__ == "__main__":
-    main()
+    sys.exit(usage.generate(__doc__, made))

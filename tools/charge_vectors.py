@@ -1,12 +1,14 @@
 #!/usr/bin/env python3
-"""What a holding of a segment costs (02 l), reckoned for tools/vectors.py; run by itself, it writes vectors/charge.log.
+"""Judge and generator: what a holding of a segment costs (02 l), reckoned for tools/vectors.py; run by itself, it makes vectors/charge.log.
 
 A cost is a fraction of a euro's millionths: so much of the key space, for so many hours, at the rate.
 """
 import random
+import sys
 from fractions import Fraction
 
 import logs
+import usage
 from assignment_vectors import Bytes, Malformed, Segment, pack_segment, take_segment
 from name_vectors import Refused
 
@@ -166,10 +168,10 @@ def random_holding(rng, number):
     return Segment(number, start, end, tuple(ranges)), seconds, rate
 
 
-def main():
+def made():
     head = "# What holdings of segments cost, as a log of station, written and reckoned by tools/charge_vectors.py."
-    logs.write("charge", [head, *prices(), *malformed(), *too_large(), *accounts(random.Random("charge vectors"))])
+    return logs.made("charge", [head, *prices(), *malformed(), *too_large(), *accounts(random.Random("charge vectors"))])
 
 
 if __name__ == "__main__":
-    main()
+    sys.exit(usage.generate(__doc__, made))

@@ -1,13 +1,15 @@
 #!/usr/bin/env python3
-"""The lost counts of a session's latest 256 deltas (02 n), reckoned for tools/vectors.py; run by itself, it writes
-vectors/churn.log.
+"""Judge and generator: the lost counts of a session's latest 256 deltas (02 n), reckoned for tools/vectors.py; run by
+itself, it makes vectors/churn.log.
 
 The session is read from the specification's words, as far as the log goes. The counts are a plain list, added up anew
 each time.
 """
 import random
+import sys
 
 import logs
+import usage
 from assignment_vectors import Assignment, Segment, contents, difference, number_field, pack_assignment, part_field, taken, to_pb
 from assignment_vectors import whole_assignment
 from name_vectors import Refused
@@ -199,11 +201,11 @@ def turned_over(rng):
     yield from asked(["invalidate"])
 
 
-def main():
+def made():
     head = "# The lost counts of a session's latest 256 deltas, as a log of station, written and reckoned by "
     head += "tools/churn_vectors.py."
-    logs.write("churn", [head, *first_link(), *clearings(), *turned_over(random.Random("churn vectors"))])
+    return logs.made("churn", [head, *first_link(), *clearings(), *turned_over(random.Random("churn vectors"))])
 
 
 if __name__ == "__main__":
-    main()
+    sys.exit(usage.generate(__doc__, made))

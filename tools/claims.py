@@ -1,5 +1,5 @@
 #!/usr/bin/env python3
-"""Checks docs/CLAIMS.md against the repository and against docs/sentences.txt, the list of the papers' sentences.
+"""Check: holds docs/CLAIMS.md to the repository and to docs/sentences.txt, the list of the papers' sentences.
 
     python3 tools/claims.py                        names, ids, marks, contracts; and that no file of specs/ uses one of proofs/
     python3 tools/claims.py --spec DIR             also: docs/sentences.txt is the list of the papers in DIR
@@ -14,11 +14,12 @@ a section, as RequestK. In a block a sentence ends at a full stop with white spa
 (`A. ..`). Its id is the section and its number there, from 1 on; a sentence with a number or letter of its own (`7 ..`, `A. ..`) keeps that. The list
 has the id and the first 12 hex digits of the SHA-256 of the sentence, its white space made single blanks.
 """
-import argparse, hashlib, os, re, sys
+import hashlib, os, re, sys
 from collections import Counter
 from pathlib import Path
 
 import refused
+import usage
 
 # One function of a source, up to its body.
 FUNCTION = re.compile(r'^[ \t]*(?P<pub>pub )?(?P<extern>extern "C" )?fn (?P<name>\w+)(?P<head>(?:(?!^[ \t]*\{$|\{$).)*?)(?:^[ \t]*\{$|\{$)', re.M | re.S)
@@ -190,7 +191,7 @@ def check_contracts(text):
 
 
 def main():
-    parser = argparse.ArgumentParser(description="Checks docs/CLAIMS.md.")
+    parser = usage.Parser(__doc__)
     parser.add_argument("--spec", default=os.environ.get("CUDDREWYN_SPEC"), help="folder of mission.md, 01-scope.md and 02-change-requests.md")
     parser.add_argument("--write", action="store_true", help="rewrite docs/sentences.txt from that folder")
     args = parser.parse_args()

@@ -1,5 +1,8 @@
-"""The exported calls, structs and answers as Rattle, C and Rust declare them, in one form: types by Rust's names, a slice as pointer and length."""
+#!/usr/bin/env python3
+"""Part of tools/refusals.py: the exported calls, structs and answers as Rattle, C and Rust declare them, in one form: types by Rust's names, a slice as pointer and length."""
 import re
+
+import usage
 
 REPLY, SESSION_REPLY, EXPORT = "crates/reply/src/lib.rt", "crates/session_reply/src/lib.rt", "crates/export/src/lib.rt"
 CRATE = "crates/export/src/"
@@ -104,3 +107,7 @@ def answers(sources):
         HEADER: re.findall(r"CUDDREWYN_(\w+) = (\d+)", first_enum[1] if first_enum else ""),
         EXPORTS: [(name, number) for number, name in rows],
     }
+
+
+if __name__ == "__main__":
+    usage.help_only(__doc__)

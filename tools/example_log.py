@@ -1,8 +1,11 @@
 #!/usr/bin/env python3
-"""Writes the example of the program `station`, crates/station/stdin: a pass of a station as a log of calls.
+"""Generator: the example of the program `station`, crates/station/stdin: a pass of a station as a log of calls.
 
 The messages are put into bytes by tools/assignment_vectors.py, the hostile ones here, field by field.
 """
+import sys
+
+import usage
 from assignment_vectors import Assignment, Delta, Segment, name_of, number_field, pack_delta, pack_segment, part_field, segment_message, to_pb
 from attach_log_vectors import attach, detach, packed_entry, packed_log
 from hours_vectors import at, of_week, packed
@@ -214,11 +217,12 @@ def line(step):
     return step if isinstance(step, str) else " ".join(map(shown, step))
 
 
-def main():
+def made():
     head = "# A pass of the station svalbard-2 as a log of calls, written by tools/example_log.py. The answers stand in stdout."
     parts = [[head], first_link(), pushes(), second_link(), damage(), questions(), charges(), hours(), uploads()]
     text = "\n\n".join("\n".join(map(line, part)) for part in parts)
-    (CRATES / "station" / "stdin").write_text(text + "\n", encoding="ascii")
+    return {CRATES / "station" / "stdin": text + "\n"}
 
 
-main()
+if __name__ == "__main__":
+    sys.exit(usage.generate(__doc__, made))

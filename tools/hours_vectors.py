@@ -1,15 +1,17 @@
 #!/usr/bin/env python3
-"""Pass hours and terms (02 f), reckoned for tools/vectors.py; run by itself, it writes vectors/hours.log.
+"""Judge and generator: pass hours and terms (02 f), reckoned for tools/vectors.py; run by itself, it makes vectors/hours.log.
 
 The moment of the week comes from Python's calendar, by weekday and time of day; a second beyond its years is taken back
 by whole spans of 400 years, which are whole weeks. An open second behind a closed one is the start of a term or of a
 window, so the earliest is looked for among these.
 """
 import random
+import sys
 import struct
 from datetime import datetime, timedelta
 
 import logs
+import usage
 from name_vectors import Refused
 
 EPOCH = datetime(2000, 1, 1)
@@ -212,11 +214,11 @@ def at_random(rng):
         yield from asked(terms, windows, *(rng.choice([base, rng.randrange(base, last), *near]) for _ in range(3)))
 
 
-def main():
+def made():
     head = "# Pass hours and terms, as a log of station, written and reckoned by tools/hours_vectors.py."
     parts = [calendar(), edges(), several(), late(), refused(), at_random(random.Random("hours vectors"))]
-    logs.write("hours", [head, *(line for part in parts for line in part)])
+    return logs.made("hours", [head, *(line for part in parts for line in part)])
 
 
 if __name__ == "__main__":
-    main()
+    sys.exit(usage.generate(__doc__, made))

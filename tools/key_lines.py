@@ -1,7 +1,9 @@
 #!/usr/bin/env python3
-"""Writes the vectors of the program `key_vectors`: hashes of keys, the segments that take them, and test keys."""
+"""Generator: the vectors of the program `key_vectors`, its stdin: hashes of keys, the segments that take them, and test keys."""
 import random
+import sys
 
+import usage
 from assignment_vectors import Assignment, Segment, pack_assignment
 from key_vectors import murmur3
 from vectors import CRATES
@@ -144,14 +146,15 @@ def random_segments(rng):
     return segments
 
 
-def main():
+def made():
     for key, value in (WIKIPEDIA | SHARED).items():
         assert murmur3(key) == value, key
     for key, value in PULSAR.items():
         assert murmur3(key) % 2**31 == value, key
     rng = random.Random("key vectors")
     lines = [*published(), *reckoned(rng), *refusals(), *limits(), *lists(rng), *test_keys(rng)]
-    (CRATES / "key_vectors" / "stdin").write_text("\n".join(lines) + "\n", encoding="ascii")
+    return {CRATES / "key_vectors" / "stdin": "\n".join(lines) + "\n"}
 
 
-main()
+if __name__ == "__main__":
+    sys.exit(usage.generate(__doc__, made))

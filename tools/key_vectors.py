@@ -1,10 +1,12 @@
-"""The hash of a key, the segment that takes it, and test keys, reckoned for tools/vectors.py. tools/key_lines.py makes
+#!/usr/bin/env python3
+"""Judge: the hash of a key, the segment that takes it, and test keys, reckoned for tools/vectors.py. tools/key_lines.py makes
 the vectors.
 
 The hash is the published algorithm over Python's numbers; a segment takes what is in the set of its range's values and,
 where it has buckets, in theirs. The key of a hash is found from the last step to the first, a shift bit by bit and a
 product by Python's own inverse, and hashed again.
 """
+import usage
 from assignment_vectors import Malformed, whole_assignment
 from name_vectors import Refused
 
@@ -86,3 +88,7 @@ COMMANDS = {
     "hash": ("b", lambda key: f"{murmur3(key):08x}"), "segment": ("bb", segment),
     "key": ("n", key_of), "key_in": ("bn", key_in),
 }
+
+
+if __name__ == "__main__":
+    usage.help_only(__doc__)

@@ -1,4 +1,5 @@
-"""Logs of the program `station` as vectors: vectors/NAME.log, and in vectors/NAME.out what station should write.
+#!/usr/bin/env python3
+"""Part of tools/vectors.py: logs of the program `station` as vectors: vectors/NAME.log, and in vectors/NAME.out what station should write.
 
 tools/NAME_vectors.py writes the log and reckons the answers, by other means than the code's; tools/vectors.py holds the
 two files to it; the gate has station run every log.
@@ -7,6 +8,7 @@ import pathlib
 import sys
 
 import refusal_table
+import usage
 from name_vectors import Refused
 
 VECTORS = pathlib.Path(__file__).resolve().parent.parent / "vectors"
@@ -26,8 +28,9 @@ def line(name, *words):
     return " ".join([name, *("0x" + word.hex() if isinstance(word, bytes) else str(word) for word in words)])
 
 
-def write(name, lines):
-    (VECTORS / f"{name}.log").write_text("".join(line + "\n" for line in lines), encoding="ascii")
+def made(name, lines):
+    """The log of this name, by its path."""
+    return {VECTORS / f"{name}.log": "".join(line + "\n" for line in lines)}
 
 
 def answer(text, commands):
@@ -51,11 +54,11 @@ def output(log, commands):
     return [*(f"{number} {told}" for number, told, _ in lines), counts]
 
 
-def check(name, commands):
-    """vectors/NAME.out has what is reckoned; `--write` writes it anew."""
+def check(name, commands, write):
+    """vectors/NAME.out has what is reckoned, or gets it."""
     log, out = VECTORS / f"{name}.log", VECTORS / f"{name}.out"
     told = output(log.read_text(encoding="ascii").splitlines(), commands)
-    if "--write" in sys.argv:
+    if write:
         out.write_text("".join(text + "\n" for text in told), encoding="ascii")
     held = out.read_text(encoding="ascii").splitlines()
     for have, should in zip(held, told):
@@ -66,10 +69,14 @@ def check(name, commands):
     print(f"vectors/{name}.log: {len(told) - 1} lines as reckoned")
 
 
-def check_all(judges):
+def check_all(judges, write):
     """Every judge has its log and its output, and there are no others."""
     for name, commands in judges.items():
-        check(name, commands)
+        check(name, commands, write)
     for suffix in ("log", "out"):
         if (found := sorted(path.stem for path in VECTORS.glob(f"*.{suffix}"))) != sorted(judges):
             sys.exit(f"vectors/*.{suffix}: {', '.join(found)}; should be {', '.join(sorted(judges))}")
+
+
+if __name__ == "__main__":
+    usage.help_only(__doc__)

@@ -1,9 +1,12 @@
-"""Texts, names and ranges, reckoned for tools/vectors.py.
+#!/usr/bin/env python3
+"""Judge: texts, names and ranges, reckoned for tools/vectors.py.
 
 UTF-8 is judged by Python's own decoder; names and ranges by a reading of the specification that shares nothing with the Rattle source (names are split as the
 Rust splits them).
 """
 import re
+
+import usage
 
 # the most bytes that the program takes as an argument, and lends as an output
 ROOM = 66560
@@ -120,3 +123,7 @@ COMMANDS = {
     "touches": ("nnnn", touches),
     "overlap": ("n*", overlap),
 }
+
+
+if __name__ == "__main__":
+    usage.help_only(__doc__)

@@ -1,11 +1,10 @@
 #!/usr/bin/env python3
-"""Draws the pictures of the documents: docs/session.svg, and docs/benchmarks.svg from the tables of docs/BENCHMARKS.md.
-
-    python3 tools/pictures.py            rewrites both
-    python3 tools/pictures.py --check    exit 1 where one is not what would be drawn
+"""Generator: the pictures of the documents, docs/session.svg, and docs/benchmarks.svg from the tables of docs/BENCHMARKS.md.
 """
 import re, sys
 from pathlib import Path
+
+import usage
 
 ROOT = Path(__file__).resolve().parent.parent
 FONT = 'font-family="sans-serif" font-size="13"'
@@ -98,13 +97,9 @@ def benchmarks():
     return page(800, y + 14, body)
 
 
+def made():
+    return {ROOT / "docs" / "session.svg": session(), ROOT / "docs" / "benchmarks.svg": benchmarks()}
+
+
 if __name__ == "__main__":
-    pictures, wrong = {"session.svg": session(), "benchmarks.svg": benchmarks()}, []
-    for name, drawn in pictures.items():
-        path = ROOT / "docs" / name
-        if "--check" not in sys.argv[1:]:
-            path.write_text(drawn)
-        elif not path.is_file() or path.read_text() != drawn:
-            wrong.append(name)
-    print("pictures: " + (f"not as drawn: {', '.join(wrong)}" if wrong else "as drawn"))
-    sys.exit(bool(wrong))
+    sys.exit(usage.generate(__doc__, made))

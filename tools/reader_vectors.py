@@ -1,11 +1,13 @@
 #!/usr/bin/env python3
-"""The eight readers of a session's replays (02 d), reckoned for tools/vectors.py; run by itself, it writes vectors/readers.log.
+"""Judge and generator: the eight readers of a session's replays (02 d), reckoned for tools/vectors.py; run by itself, it makes vectors/readers.log.
 
 The session is that of tools/churn_vectors.py: a list of eight numbers, of which a drain moves the asking reader's alone.
 """
 import random
+import sys
 
 import logs
+import usage
 from churn_vectors import READERS, commands, drain, opened, response, update
 
 COMMANDS = commands()
@@ -51,10 +53,10 @@ def interleaved(rng):
         yield from map(drain, asking)
 
 
-def main():
+def made():
     head = "# The eight readers of a session's replays, as a log of station, written and reckoned by tools/reader_vectors.py."
-    logs.write("readers", [head, *one_by_one(), *set_to_zero(), *interleaved(random.Random("reader vectors"))])
+    return logs.made("readers", [head, *one_by_one(), *set_to_zero(), *interleaved(random.Random("reader vectors"))])
 
 
 if __name__ == "__main__":
-    main()
+    sys.exit(usage.generate(__doc__, made))

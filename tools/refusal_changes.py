@@ -1,7 +1,9 @@
-"""The self-test of tools/refusals.py: the sources changed in memory, one word at a time, or two neighbours that change places."""
+#!/usr/bin/env python3
+"""Part of tools/refusals.py, its self-test: the sources changed in memory, one word at a time, or two neighbours that change places."""
 import re
 
 import refusal_checks as checks
+import usage
 from declarations import CRATE, RAW, REPLY, SESSION_REPLY
 from refusal_parts import CALL_TEXT, ERROR, EXPORTS, HEADER, OPERATOR, TALLY, WATCH
 from refusal_table import CALLS, REFUSALS
@@ -135,3 +137,7 @@ def self_test(sources, faults_of):
         missed = [(path, found[0]) for path, found in places if not any(faults_of({**sources, path: changed(sources[path], found)}, path))]
         unfound += [f"{path}: a change of '{words}' is not found" for path, words in missed] or ([] if places else [f"{where}: nothing is {pattern}"])
     return unfound, count
+
+
+if __name__ == "__main__":
+    usage.help_only(__doc__)

@@ -1,8 +1,10 @@
-"""What tools/refusals.py holds to the table, but does not write: the enum and its definitions in Rattle, the enums of the Rust crate, prototypes and
+#!/usr/bin/env python3
+"""Part of tools/refusals.py: what it holds to the table, but does not write: the enum and its definitions in Rattle, the enums of the Rust crate, prototypes and
 structs, and orders in comments. Each check gives its faults, as lines that begin with the path of the source at fault."""
 import re
 
 import declarations
+import usage
 from declarations import EXPORTS, HEADER, RAW, REPLY
 from refusal_parts import CALL_TEXT, ERROR, EXPORTED, REACH, TALLY, WATCH, constant
 from refusal_table import CALLS, REFUSALS, numbers_in, order_text
@@ -261,3 +263,7 @@ CHECKS = {
     check_ours: (*OURS, declarations.CRATE),
     check_declarations: (HEADER, RAW, EXPORTS, REPLY, declarations.SESSION_REPLY, declarations.CRATE),
 }
+
+
+if __name__ == "__main__":
+    usage.help_only(__doc__)

@@ -1,9 +1,11 @@
-"""What tools/refusals.py writes from the table. A part has a line with `tools/refusals.py writes: NAME` above it and one with
+#!/usr/bin/env python3
+"""Part of tools/refusals.py: what it writes from the table. A part has a line with `tools/refusals.py writes: NAME` above it and one with
 `tools/refusals.py: end` below; in docs/EXPORTS.md the last cells of the calls' rows, in compare/src/tally.rs the numbers of REACH and in
 crates/call_text the row of names are written where they stand."""
 import re
 import textwrap
 
+import usage
 from refusal_table import Fault, numbers_text, order_text
 
 ERROR, WATCH = "bindings/rust/src/error.rs", "bindings/rust/src/watch.rs"
@@ -122,3 +124,7 @@ WRITES = [
     (TALLY, write_reach),
     (CALL_TEXT, write_names),
 ]
+
+
+if __name__ == "__main__":
+    usage.help_only(__doc__)

@@ -1,8 +1,11 @@
-"""The table of refusals and calls: docs/refusals.txt and docs/calls.txt, read; and orders of refusals, as numbers and as texts."""
+#!/usr/bin/env python3
+"""Part of tools/refusals.py: the table of refusals and calls: docs/refusals.txt and docs/calls.txt, read; and orders of refusals, as numbers and as texts."""
 import re
 from dataclasses import dataclass
 from functools import cache
 from pathlib import Path
+
+import usage
 
 ROOT = Path(__file__).resolve().parent.parent
 REFUSALS, CALLS = "docs/refusals.txt", "docs/calls.txt"
@@ -158,3 +161,7 @@ def numbers_in(prose):
     for first, last, single in re.findall(r"(\d+) to (\d+)|(\d+)", re.sub(r"\([^()]*\)", "", prose)):
         numbers += range(int(first), int(last) + 1) if first else [int(single)]
     return numbers
+
+
+if __name__ == "__main__":
+    usage.help_only(__doc__)

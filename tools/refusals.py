@@ -1,5 +1,5 @@
 #!/usr/bin/env python3
-"""Holds every place that repeats a refusal or a call to docs/refusals.txt and docs/calls.txt, and writes those that a script can write.
+"""Check and generator: holds every place that repeats a refusal or a call to docs/refusals.txt and docs/calls.txt, and writes those that a script can write.
 
     python3 tools/refusals.py [--check]      each fault is a line `refusals: PATH: ..`, and the exit status is 1
     python3 tools/refusals.py --write        rewrites what is written, then checks; nothing else touches the tree
@@ -11,12 +11,12 @@ Held (tools/refusal_checks.py): `Refusal` with its comments, `numberOf` and `val
 of the header and of the crates; what demand 2 takes as ours, and what the Rust's errors have; and that C and Rust declare calls, structs and answers
 as Rattle does (tools/declarations.py).
 """
-import argparse
 import sys
 
 import declarations
 import refusal_checks as checks
 import refusal_parts as parts
+import usage
 from refusal_changes import self_test
 from refusal_table import CALLS, REFUSALS, ROOT, Fault, Table
 
@@ -70,7 +70,7 @@ def write(sources):
 
 
 def main():
-    parser = argparse.ArgumentParser(description="Holds what repeats a refusal or a call to docs/refusals.txt and docs/calls.txt.")
+    parser = usage.Parser(__doc__)
     parser.add_argument("--check", action="store_true", help="check alone, as without any option")
     parser.add_argument("--write", action="store_true", help="rewrite what is written, then check")
     parser.add_argument("--self-test", action="store_true", help="check, then demand that changes of the sources are found")

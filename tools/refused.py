@@ -1,5 +1,5 @@
 #!/usr/bin/env python3
-"""Holds the log of each must-fail edit to what the edit says: every wrong line is refused in its own function, at a fact.
+"""Check: holds the log of each must-fail edit to what the edit says: every wrong line is refused in its own function, at a fact.
 
 An edit may change several functions, one wrong line (or pair of lines) in each: a round. A comment before each change names the function, or the
 definition where the file is one of specs/, and says what is wrong:
@@ -20,6 +20,8 @@ edit of a definition stands alone in its file, and has to be refused at a fact a
 import re
 import sys
 from pathlib import Path
+
+import usage
 
 NAMED = re.compile(r"^# ((?:[^\s:]+::)*[^\s:]+): (.+)$")
 ECHO = ("was not admitted", "were not admitted", "so this cannot be checked")
@@ -84,4 +86,6 @@ def main(root):
 
 
 if __name__ == "__main__":
-    sys.exit(main(Path(sys.argv[1] if len(sys.argv) > 1 else ".").resolve()))
+    parser = usage.Parser(__doc__)
+    parser.add_argument("root", nargs="?", type=Path, default=Path("."), help="the repository; by default the folder that it is run in")
+    sys.exit(main(parser.parse_args().root.resolve()))

@@ -1,15 +1,17 @@
 #!/usr/bin/env python3
-"""Joins single must-fail edits to rounds: in a round at most one wrong program of each function, of any number of functions.
+"""Generator: joins single must-fail edits to rounds: in a round at most one wrong program of each function, of any number of functions.
 
-    python3 tools/rounds.py [CRATE...]      rewrites crates/CRATE/must-fail, and what docs/CLAIMS.md cites of it
+    python3 tools/rounds.py [CRATE...]              says how many rounds there would be
+    python3 tools/rounds.py --write [CRATE...]      rewrites crates/CRATE/must-fail, and what docs/CLAIMS.md cites of it
 
 An edit costs a whole check of its crate, whatever it changes, and the checker judges each function by itself, its callees by their contracts: so a round
 of wrong lines costs one check, and each gets the refusal that it has alone (tools/refused.py holds the log to that). An edit of specs/, and one of a constant,
 reaches many functions: it stays alone in its file.
 """
 import re
-import sys
 from pathlib import Path
+
+import usage
 
 ROOT = Path(__file__).resolve().parent.parent
 FN = re.compile(r'^(\s*)(?:pub(?:\([a-z]+\))?\s+)?(?:extern\s+"C"\s+)?fn\s+(\w+)', re.M)
@@ -89,9 +91,9 @@ def text_of(programs):
     return "\n".join(lines) + "\n"
 
 
-def join(crate):
-    """Rewrites a crate's edits; gives what is cited as what."""
-    rounds, apart, moved = [], [], {}
+def joined(crate):
+    """A crate's wrong programs in rounds, each with its edit, and the edits that stay apart."""
+    rounds, apart = [], []
     for edit in sorted((crate / "must-fail").glob("*.edit")):
         programs = wrong_programs(edit, crate)
         if not all(p[1] for p in programs):
@@ -102,6 +104,12 @@ def join(crate):
             if into is None:
                 rounds.append(into := [])
             into.append((p, edit))
+    return rounds, apart
+
+
+def rewrite(crate, rounds, apart):
+    """Rewrites a crate's edits; gives what is cited as what."""
+    moved = {}
     for edit, programs in apart:
         edit.write_text(text_of(programs), encoding="utf-8")
     for edit in {e for r in rounds for _, e in r}:
@@ -113,19 +121,22 @@ def join(crate):
             old = str(edit.relative_to(ROOT))
             for cited in (f"`{old}:{p[0]}`", f"`{old}`"):
                 moved.setdefault(cited, f"`{target.relative_to(ROOT)}:{p[0]}`")
-    return moved, [len(r) for r in rounds], len(apart)
+    return moved
 
 
-def main(names):
-    claims = ROOT / "docs/CLAIMS.md"
-    moved = {}
+def main():
+    parser = usage.Parser(__doc__)
+    parser.add_argument("crates", nargs="*", metavar="CRATE", help="these alone")
+    parser.add_argument("--write", action="store_true", help="rewrite the edits, and docs/CLAIMS.md")
+    args, moved, claims = parser.parse_args(), {}, ROOT / "docs/CLAIMS.md"
     for crate in sorted((ROOT / "crates").iterdir()):
-        if (crate / "must-fail").is_dir() and (not names or crate.name in names):
-            its, sizes, apart = join(crate)
-            moved |= its
-            print(f"{crate.name}: {sum(sizes)} in {len(sizes)} rounds, {apart} apart")
-    claims.write_text(re.sub(r"`[^`\n]+`", lambda m: moved.get(m[0], m[0]), claims.read_text(encoding="utf-8")), encoding="utf-8")
+        if (crate / "must-fail").is_dir() and (not args.crates or crate.name in args.crates):
+            rounds, apart = joined(crate)
+            moved |= rewrite(crate, rounds, apart) if args.write else {}
+            print(f"{crate.name}: {sum(map(len, rounds))} in {len(rounds)} rounds, {len(apart)} apart")
+    if args.write:
+        claims.write_text(re.sub(r"`[^`\n]+`", lambda m: moved.get(m[0], m[0]), claims.read_text(encoding="utf-8")), encoding="utf-8")
 
 
 if __name__ == "__main__":
-    main(sys.argv[1:])
+    main()

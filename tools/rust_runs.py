@@ -1,11 +1,12 @@
 #!/usr/bin/env python3
-"""Writes crates/rust_runs/specs/Sessions.antt: the sessions of compare/recorded, which the Rust has answered, as equations of its transcription.
+"""Generator: crates/rust_runs/specs/Sessions.antt, the sessions of compare/recorded, which the Rust has answered, as equations of its transcription.
 
-    python3 tools/rust_runs.py            rewrites the file
-    python3 tools/rust_runs.py --check    exit 1 where the file is not what would be written
+The file is laid out by `rt fmt`: white space is not compared.
 """
 import re, sys
 from pathlib import Path
+
+import usage
 
 ROOT = Path(__file__).resolve().parent.parent
 FILE = ROOT / "crates/rust_runs/specs/Sessions.antt"
@@ -128,10 +129,10 @@ def written():
     return out
 
 
+def same(have, should):
+    """The same but for white space."""
+    return "".join(have.split()) == "".join(should.split())
+
+
 if __name__ == "__main__":
-    new = written()
-    if "--check" in sys.argv[1:]:
-        same = "".join(new.split()) == "".join(FILE.read_text().split())
-        print("rust_runs: " + ("as recorded" if same else "Sessions.antt is not what the records say"))
-        sys.exit(not same)
-    FILE.write_text(new)
+    sys.exit(usage.generate(__doc__, lambda: {FILE: written()}, same))

@@ -1,15 +1,16 @@
 #!/usr/bin/env python3
-"""Holds the table of crates/schema/specs/Schema.antt to the Rust's pulsar.proto.rs: field, number, label and type of all eight messages.
+"""Check: holds the table of crates/schema/specs/Schema.antt to the Rust's pulsar.proto.rs: field, number, label and type of all eight messages.
 
     python3 tools/schema.py [--rust DIR]      DIR: the folder of the Rust's sources; by default CUDDREWYN_RUST, or ../shared/docs/src beside the repository
 
 Exit status: 0 the two agree; 1 they differ, and each difference is a line `schema: ..`; 3 the Rust is not there.
 """
-import argparse
 import os
 import re
 import sys
 from pathlib import Path
+
+import usage
 
 ROOT = Path(__file__).resolve().parent.parent
 TABLE = ROOT / "crates/schema/specs/Schema.antt"
@@ -55,7 +56,7 @@ def oneof_rows(kind, path, text):
 
 
 def main():
-    parser = argparse.ArgumentParser(description="Holds the schema's table to the Rust's messages.")
+    parser = usage.Parser(__doc__)
     parser.add_argument("--rust", type=Path, default=Path(os.environ.get("CUDDREWYN_RUST", ROOT / "../shared/docs/src")), help="folder of the Rust's sources")
     source = parser.parse_args().rust / SOURCE
     if not source.is_file():

@@ -1,5 +1,5 @@
 #!/usr/bin/env python3
-"""The gate's seconds: of each crate's check and of its must-fail edits, on the clock and of the processor.
+"""Judge: the gate's seconds, of each crate's check and of its must-fail edits, on the clock and of the processor.
 
     python3 tools/seconds.py --run TIMES COMMAND...    runs `rt ci`, say, and writes the processor's seconds of each check and edit to TIMES
     python3 tools/seconds.py LOG TIMES [--write]       prints both, and what passes the budget; with --write the table of docs/BENCHMARKS.md too.
@@ -8,8 +8,10 @@
 A noisy machine changes the seconds on the clock and hardly those of the processor, so the budget is in the latter. The whole is what the system reckons for
 the command and all that it started; a single check is read from the process table every fifth of a second, so that it may lack its last fifth.
 """
-import json, os, re, resource, subprocess, sys, time
+import argparse, json, os, re, resource, subprocess, sys, time
 from pathlib import Path
+
+import usage
 
 CHECKED = re.compile(r"rt: (\w+) proved \((\d+) s\)")
 EDITED = re.compile(r"rt: must-fail (\w+)/(\S+?): .*?(\d+) s\)")
@@ -112,7 +114,19 @@ def report(log, times, write):
         path.write_text(re.sub(r"(<!-- gate -->\n).*?(<!-- end -->)", lambda m: m[1] + document(table, spent) + "\n" + m[2], text, flags=re.S), encoding="utf-8")
 
 
+def main():
+    parser = usage.Parser(__doc__)
+    parser.add_argument("--run", nargs=argparse.REMAINDER, metavar="WORD", help="TIMES and a command with its words: run it, and leave its seconds in TIMES")
+    parser.add_argument("log", nargs="?", help="what the gate printed")
+    parser.add_argument("times", nargs="?", help="what --run has left")
+    parser.add_argument("--write", action="store_true", help="write the table of docs/BENCHMARKS.md")
+    args = parser.parse_args()
+    if args.run is None and args.times is None or args.run is not None and len(args.run) < 2:
+        parser.error("LOG and TIMES, or --run with TIMES and a command")
+    if args.run:
+        return run(args.run[0], args.run[1:])
+    return report(args.log, args.times, args.write)
+
+
 if __name__ == "__main__":
-    if sys.argv[1:2] == ["--run"]:
-        sys.exit(run(sys.argv[2], sys.argv[3:]))
-    report(sys.argv[1], sys.argv[2], "--write" in sys.argv[3:])
+    sys.exit(main())

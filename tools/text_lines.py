@@ -1,7 +1,10 @@
 #!/usr/bin/env python3
-"""Makes the vectors of the text check: writes their part of crates/vectors/stdin, the rows of Unicode's Table 3-7 in their order (tools/text_vectors.py)."""
+"""Generator: the vectors of the text check, a part of crates/vectors/stdin: the rows of Unicode's Table 3-7 in their order (tools/text_vectors.py)."""
+import sys
+
+import usage
 from text_vectors import cases, line
-from vectors import replace
+from vectors import replaced
 
 
 def lines():
@@ -11,5 +14,9 @@ def lines():
         yield from (line(text) for text, _ in some)
 
 
+def made():
+    return replaced("# ==== texts by Unicode's Table 3-7, row by row: by tools/text_lines.py", lines())
+
+
 if __name__ == "__main__":
-    replace("# ==== texts by Unicode's Table 3-7, row by row: by tools/text_lines.py", lines())
+    sys.exit(usage.generate(__doc__, made))

@@ -1,8 +1,10 @@
-"""The rows of Unicode's Table 3-7, "Well-Formed UTF-8 Byte Sequences", and the texts that show each row's ends, for tools/vectors.py.
+#!/usr/bin/env python3
+"""Judge: the rows of Unicode's Table 3-7, "Well-Formed UTF-8 Byte Sequences", and the texts that show each row's ends, for tools/vectors.py.
 
 A row is its code points and the spans of its bytes, as the table prints them. The two say the same in two ways, and `cases` holds them to one another:
 a row's lowest and highest sequence, made of its spans, are the lowest and the highest code point as Python encodes them.
 """
+import usage
 
 ROWS = [
     ("0000..007F", "00..7F"),
@@ -53,3 +55,7 @@ def line(text):
 def missing(answers):
     """The cases that are not among the lines of stdin, or are answered otherwise than their row says."""
     return [line(text) for _, _, some in cases() for text, passes in some if answers.get(line(text)) != ("yes" if passes else "no")]
+
+
+if __name__ == "__main__":
+    usage.help_only(__doc__)

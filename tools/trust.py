@@ -1,5 +1,5 @@
 #!/usr/bin/env python3
-"""What a reader has to believe for each demand: the files of definitions that its statement rests on, followed from `use` to `use`.
+"""Check and generator: what a reader has to believe for each demand: the files of definitions that its statement rests on, followed from `use` to `use`.
 
     python3 tools/trust.py             the table, and the files that only one demand needs
     python3 tools/trust.py --list N    the files of demand N, with their lines
@@ -8,10 +8,11 @@
 
 A line counts where it has more than a comment. Types that a crate declares (`specs.declared`) are in its sources and are counted as that crate's src/.
 """
-import argparse
 import re
 import sys
 from pathlib import Path
+
+import usage
 
 ROOT = Path(__file__).resolve().parent.parent
 DOCUMENT = ROOT / "docs/TRUST.md"
@@ -68,7 +69,7 @@ def table():
 
 
 def main():
-    parser = argparse.ArgumentParser(description="Counts what a reader has to believe for each demand.")
+    parser = usage.Parser(__doc__)
     parser.add_argument("--list", type=int, choices=(1, 2, 3), help="the files of this demand")
     parser.add_argument("--check", action="store_true", help="hold docs/TRUST.md to it")
     parser.add_argument("--write", action="store_true", help="write docs/TRUST.md's table")

@@ -1,5 +1,5 @@
 #!/usr/bin/env python3
-"""Reckons anew what the programs `vectors` and `key_vectors` should write, by other means than the code's, and compares it with their files stdout;
+"""Judge: reckons anew what the programs `vectors` and `key_vectors` should write, by other means than the code's, and compares it with their files stdout;
 the same of the logs of `station` in vectors/ (tools/logs.py).
 
 The vectors are the lines of their files stdin. Each subject has its judge: tools/name_vectors.py (texts, names, ranges), tools/wire_vectors.py,
@@ -22,6 +22,7 @@ import logs
 import name_vectors
 import reader_vectors
 import text_vectors
+import usage
 import watch_vectors
 import wire_vectors
 from logs import argument
@@ -55,21 +56,20 @@ def answer(line):
         return str(refusal)
 
 
-def replace(heading, lines):
-    """Writes a part of stdin anew: what stands between its heading and the next one."""
+def replaced(heading, lines):
+    """stdin with another part: what stands between its heading and the next one."""
     parts = re.split(r"(?m)^(?=# ==== )", STDIN.read_text(encoding="utf-8"))
     (place,) = (number for number, part in enumerate(parts) if part.startswith(heading + "\n"))
     parts[place] = "".join(line + "\n" for line in (heading, *lines))
-    STDIN.write_text("".join(parts), encoding="utf-8")
-    print(f"{heading}: {parts[place].count(chr(10))} lines, {len(parts[place])} bytes")
+    return {STDIN: "".join(parts)}
 
 
-def check(program):
+def check(program, write):
     stdin, stdout = CRATES / program / "stdin", CRATES / program / "stdout"
     text = stdin.read_text(encoding="utf-8")
     assert len(text.encode()) <= PROGRAMS[program]
     lines = [(number, line, answer(line)) for number, line in enumerate(text.splitlines(), 1) if not line.startswith("#")]
-    if "--write" in sys.argv:
+    if write:
         stdout.write_text("".join(told + "\n" for _, _, told in lines), encoding="utf-8")
     held = stdout.read_text(encoding="utf-8").splitlines()
     for (number, line, told), have in zip(lines, held):
@@ -82,10 +82,13 @@ def check(program):
 
 
 def main():
-    told = {program: check(program) for program in PROGRAMS}
+    parser = usage.Parser(__doc__)
+    parser.add_argument("--write", action="store_true", help="write anew what is compared")
+    write = parser.parse_args().write
+    told = {program: check(program, write) for program in PROGRAMS}
     if missing := text_vectors.missing(told["vectors"]):
         sys.exit(f"vectors: of the rows of Table 3-7 stdin does not have, or Python's decoder answers otherwise: {', '.join(missing)}")
-    logs.check_all(LOGS)
+    logs.check_all(LOGS, write)
 
 
 if __name__ == "__main__":

@@ -1,15 +1,16 @@
 #!/usr/bin/env python3
-"""Holds the last line of the archive's check to what docs/TRUST.md says of it.
+"""Check: holds the last line of the archive's check to what docs/TRUST.md says of it.
 
     python3 tools/verdicts.py LOG      LOG: what `rt staticlib export` wrote
 
 The line has `logic=proved`, and neither `axioms=` nor `foreign=`: the archive calls nothing whose contract nobody proved. No word says that the
 logic is another one (`pinned=no`) or that something was taken from an earlier run (`cache=`, `incremental=`).
 """
-import argparse
 import re
 import sys
 from pathlib import Path
+
+import usage
 
 REFUSED = ("axioms=", "foreign=", "pinned=no", "cache=", "incremental=", "logic=not-proved")
 
@@ -22,7 +23,7 @@ def faults(text):
 
 
 def main():
-    parser = argparse.ArgumentParser(description="Holds the archive's verdict to docs/TRUST.md.")
+    parser = usage.Parser(__doc__)
     parser.add_argument("log", type=Path, help="what `rt staticlib export` wrote")
     text = parser.parse_args().log.read_text(encoding="utf-8", errors="replace")
     found = faults(text)

@@ -1,13 +1,15 @@
 #!/usr/bin/env python3
-"""Makes the vectors of the topics watch: writes their part of crates/vectors/stdin. The random ones come from one seed.
+"""Generator: the vectors of the topics watch, a part of crates/vectors/stdin. The random ones come from one seed.
 
 Sets are put into bytes by tools/watch_vectors.py, which judges what the program makes of them.
 """
 import itertools
 import random
+import sys
 
+import usage
 from assignment_vectors import number_field, part_field, varint
-from vectors import replace
+from vectors import replaced
 from watch_vectors import LONGEST_TOPIC, packed
 
 HIGHEST = (1 << 64) - 1
@@ -353,9 +355,10 @@ def some_sets():
         yield watch(held, message, buffer=len(packed(held)) + rng.randrange(24), room=rng.randrange(8, 48))
 
 
-def main():
+def made():
     groups = (snapshots(), diffs(), again(), sizes(), malformed_sets(), faulty_messages(), other_answers(), long_topics(), windows(), some_sets())
-    replace("# ==== the topics watch: by tools/watch_lines.py", (line for group in groups for line in group))
+    return replaced("# ==== the topics watch: by tools/watch_lines.py", (line for group in groups for line in group))
 
 
-main()
+if __name__ == "__main__":
+    sys.exit(usage.generate(__doc__, made))

@@ -1,8 +1,10 @@
-"""The topics watch, reckoned for tools/vectors.py. tools/watch_lines.py makes the vectors.
+#!/usr/bin/env python3
+"""Judge: the topics watch, reckoned for tools/vectors.py. tools/watch_lines.py makes the vectors.
 
 It is read from the specification's words: sets of topics are Python's own, put in order when they are packed, and the message is tested and taken apart by the
 reader of tools/wire_vectors.py.
 """
+import usage
 from name_vectors import ROOM, Refused, utf8
 from wire_vectors import WATCH, int32
 from wire_vectors import read as read_message
@@ -98,3 +100,7 @@ def long(watch_id, front, size, used, message, room, length):
 
 # the commands: how each argument is read (n a number, b bytes), and the answer
 COMMANDS = {"watch": ("nbnnbn", watch), "long": ("nbnnbnn", long)}
+
+
+if __name__ == "__main__":
+    usage.help_only(__doc__)

@@ -1,4 +1,6 @@
-"""Protocol Buffers, read byte by byte from the specification's words, for tools/vectors.py."""
+#!/usr/bin/env python3
+"""Judge: Protocol Buffers, read byte by byte from the specification's words, for tools/vectors.py."""
+import usage
 from name_vectors import Refused, utf8
 
 UPDATE, RESPONSE, ASSIGNMENT, SEGMENT, INT_RANGE, WATCH, SNAPSHOT, DIFF = range(8)
@@ -149,3 +151,7 @@ COMMANDS = {
     "uint32": ("n", lambda value: str(value % (1 << 32))),
     "int32": ("nn", lambda a, b: ("equal", "greater", "less")[(int32(a) > int32(b)) - (int32(a) < int32(b))]),
 }
+
+
+if __name__ == "__main__":
+    usage.help_only(__doc__)
