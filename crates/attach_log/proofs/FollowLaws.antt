@@ -26,24 +26,28 @@ use Rattle.log_entries.specs.Log.{isNil, behind, areAtMost, deltasAtMost, areDe
 use Rattle.log_entries.specs.Log.{entriesIn, entriesOf, clearIn, isLog}
 use Rattle.log_entries.specs.Passes.{attachOf, detaches, attaches, Checked}
 use Rattle.log_entries.specs.Follows.{allIn, follows}
-use Rattle.attach_log.specs.Steps.{deltaIn}
+use Rattle.attach_log.specs.Steps.{partIn, deltaIn}
+use Rattle.attach_log.proofs.PartLaws.{attach-ids}
 use Rattle.attach_log.proofs.WalkLaws.{lost-count, gained-count, fits, not-nil, nil-end}
-use Rattle.attach_log.proofs.EntryLaws.{length-entries, take-entries, drop-entries}
+use Rattle.log_rows.proofs.EntryLaws.{length-entries, take-entries, drop-entries}
 use Rattle.log_entries.proofs.PassLaws.{AllGood, follows-passes, passes-follows, not-both}
 
 -- ---- a delta's entries
 
-module _ (s : List ℕ) (m n : ℕ) (log : List ℕ) (q : ℕ) (t : Bool)
-    (e : t ≡ allIn (map Detach (idsOf m (drop 12 s))) (entriesIn m (drop q log))) where
+module _ (s : List ℕ) (m n : ℕ) (log : List ℕ) (q : ℕ) (t : Bool) (e : t ≡ partIn false s 12 m log q m) where
+  lost-there : t ≡ allIn (map Detach (idsOf m (drop 12 s))) (entriesIn m (drop q log))
+  lost-there = e
+
   pub in-not : t ≡ false → false ≡ deltaIn s m n (drop q log)
   unfolding deltaIn
-  in-not h = simp (← e, h)
+  in-not h = simp (← lost-there, h)
 
-  pub in-both : t ≡ true → (r : Bool)
-      → r ≡ allIn (map attachOf (segmentsOf n (drop (12 + 8 * m) s))) (entriesIn n (drop (q + 9 * m) log))
-      → r ≡ deltaIn s m n (drop q log)
+  pub in-both : t ≡ true → (r : Bool) → r ≡ partIn true s (12 + 8 * m) n log (q + 9 * m) n → r ≡ deltaIn s m n (drop q log)
   unfolding deltaIn
-  in-both h r f = f ∙ simp (← e, h, drop-drop (9 * m) q log)
+  in-both h r f =
+      f
+      ∙ ap (λ (l : List Entry). allIn l (entriesIn n (drop (q + 9 * m) log))) (attach-ids (segmentsOf n (drop (12 + 8 * m) s)))
+      ∙ simp (← lost-there, h, drop-drop (9 * m) q log)
 
 -- ---- one delta of a walk
 

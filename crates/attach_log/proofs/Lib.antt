@@ -1,3 +1,4 @@
 mod WalkLaws
 mod EntryLaws
+mod PartLaws
 mod FollowLaws

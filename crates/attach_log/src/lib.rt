@@ -2,27 +2,27 @@
 //
 // A delta's ids are all different, so a part of the log that has as many entries as the delta has ids, each id among
 // them, is a permutation of them. Nothing is written and no memory is lent. An entry is looked for at its id's own
-// place first, then among the others of its part.
+// place; where the order is another, the ids are taken in rows of 4,096, and each row passes its part of the log once.
 ghost use mathlib.Core.Path.{_≡_};
-ghost use mathlib.Core.Bool.{true};
-ghost use mathlib.Core.List.{map};
-ghost use Prim.Native.Nat.{_+_, _*_, _/_, _≤_, _<_};
+ghost use mathlib.Core.Bool.{true, false};
+ghost use Prim.Native.Nat.{_+_, _*_, _≤_, _<_};
 ghost use lib.ListN.{length, drop};
+ghost use Rattle.repeats.specs.Repeats.{rises};
 ghost use Rattle.packed.specs.Assignment.{segmentsOf, sizeSegments};
-ghost use Rattle.delta.specs.Delta.{idsOf};
-ghost use Rattle.log_entries.specs.declared.Entry.the-variants.{Detach};
-ghost use Rattle.log_entries.specs.Log.{areDeltas, deltasOf, entryOf, entriesIn, entriesOf, clearIn};
-ghost use Rattle.log_entries.specs.Passes.{attachOf, Checked};
-ghost use Rattle.log_entries.specs.Follows.{sameEntry, hasEntry, allIn, follows};
-ghost use Rattle.attach_log.specs.Steps.{deltaIn};
+ghost use Rattle.log_entries.specs.Log.{areDeltas, deltasOf, entriesOf, clearIn};
+ghost use Rattle.log_entries.specs.Passes.{Checked};
+ghost use Rattle.log_entries.specs.Follows.{follows};
+ghost use Rattle.attach_log.specs.Steps.{idsIn, sizeFirst, sizeIn, LoadedIs, partIn, deltaIn};
 use delta::FrontRead;
 use log_entries::ENTRY;
-use log_entries::Entry;
 use log_entries::LogAnswer;
 use refusal::Refusal;
 
-// 2^63: the first bit of 64.
-const TOP: u64 = 9223372036854775808;
+// Ids loaded into a row: how many, and the place behind them.
+struct Loaded {
+    count: usize,
+    next: usize,
+}
 
 // The bytes are deltas, one behind another.
 fn deltas_ok(s: &[u8]) -> bool
@@ -55,98 +55,69 @@ fn filling_clear(log: &[u8], n: usize) -> bool
     true
 }
 
-// The entry in the 9 bytes from a place on.
-fn entry_at(log: &[u8], at: usize) -> Entry
-    requires { ⌜ at + 9 ≤ length (now log) ⌝ }
-    ensures { λ r. ⌜ r ≡ entryOf (drop at (now (log .entry))) ⌝ }
+// The bytes of the record at a place, or of the id.
+fn size_first(s: &[u8], p: usize, attach: bool) -> usize
+    requires { ⌜ p + sizeFirst attach (drop p (now s)) ≤ length (now s) ⌝ }
+    ensures { λ r. ⌜ r ≡ sizeFirst attach (drop p (now (s .entry))) ⌝ }
 {
-    let high = packed_int::read_u64(log, at);
-    let low = parts::wide(log[at + 8]);
-    let id = high % TOP * 2 + low / 128;
-    if high < TOP {
-        Entry::Detach(id)
-    } else {
-        Entry::Attach(id)
-    }
+    if attach { records::size_at(s, p) } else { 8 }
 }
 
-fn same_entry(x: Entry, y: Entry) -> bool
-    ensures { λ r. ⌜ r ≡ sameEntry x y ⌝ }
+// Loads the ids of a part into a row, at most n and as many as it has places.
+fn load_row(s: &[u8], at: usize, n: usize, attach: bool, ids: &mut [u64]) -> Loaded
+    requires { ⌜ at + sizeIn attach n (drop at (now s)) ≤ length (now s) ⌝ }
+    requires { ⌜ 0 < length (now ids) ⌝ }
+    ensures { λ r. ⌜ LoadedIs attach (now (s .entry)) at n r (now (ids .exit)) ⌝ }
 {
-    match x {
-        Entry::Detach(i) => match y {
-            Entry::Detach(j) => i == j,
-            Entry::Attach(_) => false,
-        },
-        Entry::Attach(i) => match y {
-            Entry::Detach(_) => false,
-            Entry::Attach(j) => i == j,
-        },
+    let mut next = at;
+    let mut count: usize = 0;
+    while count < ids.len() {
+        if n <= count {
+            return Loaded { count, next };
+        }
+        ids[count] = packed_int::read_u64(s, next);
+        next = next + size_first(s, next, attach);
+        count = count + 1;
     }
+    Loaded { count, next }
 }
 
-// The entry is one of the n from a place on.
-fn has_entry(log: &[u8], at: usize, n: usize, entry: Entry) -> bool
-    requires { ⌜ at + 9 * n ≤ length (now log) ⌝ }
-    ensures { λ r. ⌜ r ≡ hasEntry entry (entriesIn n (drop at (now (log .entry)))) ⌝ }
+// Each of the n ids of a part has its entry among the m from the place q on: row after row.
+fn rows_in(s: &[u8], at: usize, n: usize, attach: bool, log: &[u8], q: usize, m: usize) -> bool
+    requires { ⌜ (at + sizeIn attach n (drop at (now s)) ≤ length (now s)) × (rises (idsIn attach n (drop at (now s))) ≡ true) ⌝ }
+    requires { ⌜ q + 9 * m ≤ length (now log) ⌝ }
+    ensures { λ r. ⌜ r ≡ partIn attach (now (s .entry)) at n (now (log .entry)) q m ⌝ }
 {
+    let mut ids = [0u64; log_rows::ROW];
     let mut p = at;
     let mut left = n;
     while 0 < left {
-        if same_entry(entry_at(log, p), entry) {
-            return true;
+        let row = load_row(s, p, left, attach, &mut ids);
+        let count = row.count;
+        if !log_rows::row_in(log, q, m, attach, &ids[..count]) {
+            return false;
         }
-        p = p + ENTRY;
-        left = left - 1;
+        p = row.next;
+        left = left - count;
     }
-    false
+    true
 }
 
-// The entry is one of the n from a place on: the one at the place i is looked at first.
-fn finds_entry(log: &[u8], at: usize, n: usize, i: usize, entry: Entry) -> bool
-    requires { ⌜ (i < n) × (at + 9 * n ≤ length (now log)) ⌝ }
-    ensures { λ r. ⌜ r ≡ hasEntry entry (entriesIn n (drop at (now (log .entry)))) ⌝ }
-{
-    if same_entry(entry_at(log, at + ENTRY * i), entry) {
-        return true;
-    }
-    has_entry(log, at, n, entry)
-}
-
-// Each of the n lost ids from a place on is detached among the n entries from the place q on.
-fn lost_in(s: &[u8], at: usize, n: usize, log: &[u8], q: usize) -> bool
-    requires { ⌜ (at + 8 * n ≤ length (now s)) × (q + 9 * n ≤ length (now log)) ⌝ }
-    ensures { λ r. ⌜ r ≡ allIn (map Detach (idsOf n (drop at (now (s .entry)))))
-        (entriesIn n (drop q (now (log .entry)))) ⌝ }
+// Each of the n ids of a part has its entry among the n from the place q on. It is looked for at the id's own place; from
+// the first on that stands elsewhere, the ids are taken row by row.
+fn part_in(s: &[u8], at: usize, n: usize, attach: bool, log: &[u8], q: usize) -> bool
+    requires { ⌜ (at + sizeIn attach n (drop at (now s)) ≤ length (now s)) × (rises (idsIn attach n (drop at (now s))) ≡ true) ⌝ }
+    requires { ⌜ q + 9 * n ≤ length (now log) ⌝ }
+    ensures { λ r. ⌜ r ≡ partIn attach (now (s .entry)) at n (now (log .entry)) q n ⌝ }
 {
     let mut p = at;
     let mut left = n;
     while 0 < left {
         let id = packed_int::read_u64(s, p);
-        if !finds_entry(log, q, n, n - left, Entry::Detach(id)) {
-            return false;
+        if !log_rows::is_entry(log, q + ENTRY * (n - left), attach, id) {
+            return rows_in(s, p, left, attach, log, q, n);
         }
-        p = p + 8;
-        left = left - 1;
-    }
-    true
-}
-
-// Each of the n records from a place on is attached among the n entries from the place q on.
-fn gained_in(s: &[u8], at: usize, n: usize, log: &[u8], q: usize) -> bool
-    requires { ⌜ (at + sizeSegments (segmentsOf n (drop at (now s))) ≤ length (now s))
-        × (q + 9 * n ≤ length (now log)) ⌝ }
-    ensures { λ r. ⌜ r ≡ allIn (map attachOf (segmentsOf n (drop at (now (s .entry)))))
-        (entriesIn n (drop q (now (log .entry)))) ⌝ }
-{
-    let mut p = at;
-    let mut left = n;
-    while 0 < left {
-        let id = records::id_at(s, p);
-        if !finds_entry(log, q, n, n - left, Entry::Attach(id)) {
-            return false;
-        }
-        p = p + records::size_at(s, p);
+        p = p + size_first(s, p, attach);
         left = left - 1;
     }
     true
@@ -156,10 +127,19 @@ fn gained_in(s: &[u8], at: usize, n: usize, log: &[u8], q: usize) -> bool
 fn delta_in(s: &[u8], lost: usize, gained: usize, log: &[u8], q: usize) -> bool
     requires { ⌜ (12 + 8 * lost + sizeSegments (segmentsOf gained (drop (12 + 8 * lost) (now s))) ≤ length (now s))
         × (q + 9 * (lost + gained) ≤ length (now log)) ⌝ }
+    requires { ⌜ (rises (idsIn false lost (drop 12 (now s))) ≡ true)
+        × (rises (idsIn true gained (drop (12 + 8 * lost) (now s))) ≡ true) ⌝ }
     ensures { λ r. ⌜ r ≡ deltaIn (now (s .entry)) lost gained (drop q (now (log .entry))) ⌝ }
 {
-    if lost_in(s, delta::HEAD, lost, log, q) {
-        gained_in(s, delta::HEAD + 8 * lost, gained, log, q + ENTRY * lost)
+    if part_in(s, delta::HEAD, lost, false, log, q) {
+        part_in(
+            s,
+            delta::HEAD + 8 * lost,
+            gained,
+            true,
+            log,
+            q + ENTRY * lost,
+        )
     } else {
         false
     }

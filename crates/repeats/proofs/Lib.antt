@@ -1,3 +1,3 @@
 pub mod RepeatLaws
-mod RowLaws
+pub mod RowLaws
 mod SearchLaws

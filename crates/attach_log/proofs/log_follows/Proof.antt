@@ -3,6 +3,7 @@
 -- Assumes nothing.
 use Prim.Native.Nat.{ℕ, _+_, _-_, _*_, _≤_}
 use native.Mathlib.Omega.{arith}
+use mathlib.Core.Bool.{true, false}
 use mathlib.Core.List.{List}
 use mathlib.Core.Path.{_≡_, sym, ap, _∙_, subst}
 use lib.ListN.{length, drop, length-drop}
@@ -12,7 +13,9 @@ use Rattle.packed.specs.Assignment.{segmentsOf, sizeSegments}
 use Rattle.parts.proofs.PartLaws.{rest}
 use Rattle.delta.specs.Answers.{frontRead}
 use Rattle.delta.proofs.RoundLaws.{Front, front-answer, not-front}
-use Rattle.attach_log.specs.Steps.{deltaIn}
+use Rattle.repeats.specs.Repeats.{rises}
+use Rattle.attach_log.specs.Steps.{idsIn, deltaIn}
+use Rattle.attach_log.proofs.PartLaws.{lost-rise, gained-rise}
 use Rattle.attach_log.proofs.FollowLaws.{Follow, follow-start, follow-bad, follow-few}
 use Rattle.attach_log.proofs.FollowLaws.{follow-wrong, follow-next, follow-end}
 use Rattle.attach_log.proofs.WalkLaws.{long, fits, few}
@@ -80,11 +83,15 @@ delta-in-requires : tie.Need-delta-in-requires Inv-loop μ-loop
 delta-in-requires c κs = let k = c .before .before in
     let t = walk k in
     let l = t .before .loop in
-    let v = k .lost .given .0 in (
-      subst (λ (s : List ℕ). 12 + 8 * v .0 + sizeSegments (segmentsOf (v .1 .0) (drop (12 + 8 * v .0) s)) ≤ length s)
-          (sym (rest (bytes t) (l .p))) (front-there k .records .fits),
-      omega (arith, l .inv .place),
-    )
+    let v = k .lost .given .0 in
+    let e = sym (rest (bytes t) (l .p)) in
+    let f = front-there k in
+    let fits = subst (λ (s : List ℕ). 12 + 8 * v .0 + sizeSegments (segmentsOf (v .1 .0) (drop (12 + 8 * v .0) s)) ≤ length s) e
+    (f .records .fits) in
+    let lost = subst (λ (s : List ℕ). rises (idsIn false (v .0) (drop 12 s)) ≡ true) e (lost-rise (v .0) _ (f .ids-rise)) in
+    let gained = subst (λ (s : List ℕ). rises (idsIn true (v .1 .0) (drop (12 + 8 * v .0) s)) ≡ true) e
+    (gained-rise (v .1 .0) _ (f .records .ok)) in
+    ((fits, omega (arith, l .inv .place)), (lost, gained))
 
 -- whether its entries are there
 in-there : (i : tie.After-delta-in Inv-loop μ-loop)

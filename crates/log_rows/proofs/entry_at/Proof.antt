@@ -1,9 +1,9 @@
--- `attach_log::entry_at` meets its contract: the numbers that were read are the entry of 72 bits.
+-- `log_rows::entry_at` meets its contract: the numbers that were read are the entry of 72 bits.
 -- Assumes nothing.
 use borrow.Author.Needs.{needs}
-use Rattle.attach_log.proofs.EntryLaws.{entry-low, entry-high}
-use Rattle.attach_log.proofs.entry_at.Statement.{statement}
-use Rattle.attach_log.proofs.entry_at.Tie as tie
+use Rattle.log_rows.proofs.EntryLaws.{entry-low, entry-high}
+use Rattle.log_rows.proofs.entry_at.Statement.{statement}
+use Rattle.log_rows.proofs.entry_at.Tie as tie
 
 returns : tie.Need-returns
 returns c = let w = c .before in
