@@ -1,10 +1,13 @@
-// Checks an uploader's log as often as asked: logs rising|falling IDS TIMES, of one delta that loses and gains so many
-// segments without buckets; the entries of each part stand in the order of the ids, or against it. Prints the answer.
+// Checks an uploader's log as often as asked: logs rising|falling|shuffled|halves IDS TIMES, of one delta that loses and
+// gains so many segments without buckets. The entries of each part stand in the order of the ids, against it, in a random
+// order, or the upper half before the lower. Prints the answer, and where TIMES is `stack` the bytes of the deepest stack of
+// one call.
 #include <stdint.h>
 #include <stdio.h>
 #include <stdlib.h>
 
 #include "../bindings/c/cuddrewyn.h"
+#include "stack.h"
 
 enum { HEAD = 12, RECORD = 14 };
 
@@ -34,22 +37,51 @@ static void put_entry(uint8_t *entry, unsigned attach, uint64_t number) {
     entry[8] = (uint8_t)(number << 7);
 }
 
+// Where the entry of the nth id stands.
+static size_t places[65536];
+
+static void fill_places(char order, size_t ids) {
+    uint64_t state = 1;
+    for (size_t n = 0; n < ids; n++) places[n] = order == 'f' ? ids - 1 - n : order == 'h' ? (n + ids / 2) % ids : n;
+    for (size_t n = ids; order == 's' && n > 1; n--) {
+        state = state * 6364136223846793005u + 1442695040888963407u;
+        size_t other = (size_t)(state >> 33) % n, place = places[n - 1];
+        places[n - 1] = places[other];
+        places[other] = place;
+    }
+}
+
+static uint8_t delta[HEAD + (8 + RECORD) * 65535], log_bytes[2 * 65535 * CUDDREWYN_LOG_ENTRY];
+static size_t delta_length, log_length;
+
+static void make_log(char order, size_t ids) {
+    delta_length = put_delta(delta, ids);
+    log_length = 2 * ids * CUDDREWYN_LOG_ENTRY;
+    fill_places(order, ids);
+    for (size_t n = 0; n < ids; n++) {
+        put_entry(log_bytes + CUDDREWYN_LOG_ENTRY * places[n], 0, id(n));
+        put_entry(log_bytes + CUDDREWYN_LOG_ENTRY * (ids + places[n]), 1, id(n));
+    }
+}
+
+static int answer = -1;
+
+static void *check_once(void *given) {
+    answer = cuddrewyn_check_log(delta, delta_length, log_bytes, log_length).answer;
+    return given;
+}
+
 int main(int count, char **words) {
-    static uint8_t delta[HEAD + (8 + RECORD) * 65535], log[2 * 65535 * CUDDREWYN_LOG_ENTRY];
     if (count != 4) return 2;
     size_t ids = strtoul(words[2], 0, 10);
     if (ids > 65535) return 2;
-    size_t size = put_delta(delta, ids);
-    for (size_t n = 0; n < ids; n++) {
-        size_t place = words[1][0] == 'f' ? ids - 1 - n : n;
-        put_entry(log + CUDDREWYN_LOG_ENTRY * place, 0, id(n));
-        put_entry(log + CUDDREWYN_LOG_ENTRY * (ids + place), 1, id(n));
+    make_log(words[1][0], ids);
+    if (!strcmp(words[3], "stack")) {
+        size_t bytes = stack_of(check_once, NULL);
+        printf("%d %zu\n", answer, bytes);
+        return 0;
     }
-    int answer = -1;
-    for (int left = atoi(words[3]); left > 0; left--) {
-        __asm__ volatile("" : : : "memory");
-        answer = cuddrewyn_check_log(delta, size, log, 2 * ids * CUDDREWYN_LOG_ENTRY).answer;
-    }
+    for (int left = atoi(words[3]); left > 0; left--) check_once(NULL);
     printf("%d\n", answer);
     return 0;
 }

@@ -1,23 +1,25 @@
 // Runs calls of the archive as a station makes them, as often as asked, and prints what came of them:
 //
-//   port update FIRST SECOND REGISTERED QUEUED TIMES    updates by two messages in turn
-//   port reconnect FIRST SECOND RESPONSE QUEUED TIMES   a new link, QUEUED updates that wait, the response, drains until none is left
-//   port watch SET FIRST SECOND TIMES                   updates of a watch by two messages in turn
-//   port queue push|response|first|last FIRST SECOND RESPONSE QUEUED TIMES   one call over QUEUED updates that wait: an update more, the response,
-//                                                       the first drain or the last
-//   port stack update|response|drain|watch ..           the deepest stack of one such call; the words are those of update, reconnect or watch
+//   port PARENT update FIRST SECOND REGISTERED QUEUED TIMES    updates by two messages in turn
+//   port PARENT stray FIRST SECOND REGISTERED QUEUED TIMES     the same, addressed to another link
+//   port PARENT reconnect FIRST SECOND RESPONSE QUEUED TIMES   a new link, QUEUED updates that wait, the response, drains until none is left
+//   port PARENT watch SET FIRST SECOND TIMES                   updates of a watch by two messages in turn
+//   port PARENT queue push|response|first|last FIRST SECOND RESPONSE QUEUED TIMES   one call over QUEUED updates that wait: an update more, the
+//                                                       response, the first drain or the last
+//   port PARENT stack update|response|drain|watch ..    the deepest stack of one such call; the words are those of update, reconnect or watch
 //
-// An update's session is registered (1) with no segments, or not (0), and QUEUED pushes of FIRST stand in its queue, all drained: one is made, the others
-// are copies of it. A watch's set is made by the snapshot SET. An update by SECOND comes before those that are counted.
-// Prints how many calls were refused, then how many segments, or topics, the last change lost and gained, or added and removed.
-#include <pthread.h>
+// The session's topic is PARENT. An update's session is registered (1) with no segments, or not (0), and QUEUED pushes of FIRST stand in its queue, all
+// drained: one is made, the others are copies of it. A watch's set is made by the snapshot SET. An update by SECOND comes before those that are counted.
+// Prints how many calls were refused, of those that are counted alone, then how many segments, or topics, the last change lost and gained, or added and
+// removed.
 #include <stdio.h>
 #include <stdlib.h>
 #include <string.h>
 
-#include "../bindings/c/cuddrewyn.h"
+#include "calls.h"
+#include "stack.h"
 
-enum { ROOM = 1 << 21, STACK = 1 << 20, PAINT = 0xa5 };
+enum { ROOM = 1 << 21 };
 
 typedef struct {
     uint8_t bytes[ROOM];
@@ -25,10 +27,9 @@ typedef struct {
 } message;
 
 static message messages[3];
-static uint8_t store[CUDDREWYN_MAX_STORE], set[ROOM], out[ROOM];
+static uint8_t set[ROOM], out[ROOM];
 static size_t used, written;
-static cuddrewyn_record record;
-static int refused;
+static const char *parent;
 
 static void read_message(message *m, const char *path) {
     FILE *file = fopen(path, "rb");
@@ -37,24 +38,15 @@ static void read_message(message *m, const char *path) {
     fclose(file);
 }
 
-static cuddrewyn_reply keep(cuddrewyn_session_reply told) {
-    record = told.state;
-    refused += told.reply.answer == CUDDREWYN_REFUSED;
-    return told.reply;
-}
+static void open_session(void) { call_open(parent); }
 
-static void open_session(void) {
-    const char *topic = "topic://a/b/c";
-    keep(cuddrewyn_open(7, 1, (const uint8_t *)topic, strlen(topic), (const uint8_t *)"s", 1, (const uint8_t *)"n", 1, 0, store, sizeof store));
-}
+static void update_on(const message *m, uint64_t link) { call_update(m->bytes, m->length, link, out); }
 
-static void update(const message *m) {
-    keep(cuddrewyn_update(record, store, sizeof store, m->bytes, m->length, record.incarnation, out, CUDDREWYN_MIN_OUTPUT));
-}
+static void update(const message *m) { update_on(m, record.incarnation); }
 
-static void respond(const message *m) { keep(cuddrewyn_response(record, store, sizeof store, m->bytes, m->length, record.incarnation)); }
+static void respond(const message *m) { call_response(m->bytes, m->length); }
 
-static bool drain(void) { return keep(cuddrewyn_drain_for(record, store, sizeof store, 0, out, CUDDREWYN_MIN_OUTPUT)).answer == CUDDREWYN_REPLAY; }
+static bool drain(void) { return call_drain(0, out).answer == CUDDREWYN_REPLAY; }
 
 static void watch(const message *m) {
     cuddrewyn_reply told = cuddrewyn_watch(7, set, sizeof set, used, m->bytes, m->length, out, sizeof out);
@@ -80,19 +72,20 @@ static void prepare_updates(bool registered, size_t queued) {
     }
     update(&messages[1]);
     memset(out, 0, CUDDREWYN_MIN_OUTPUT);
+    refused = 0;
 }
 
 // An unregistered session is lent the same record each time, so that its queue does not grow.
-static void updates(bool registered, int times) {
+static void updates(bool registered, bool stray, int times) {
     cuddrewyn_record before = record;
     for (int turn = 0; turn < times; turn++) {
         if (!registered) record = before;
-        update(&messages[turn % 2]);
+        update_on(&messages[turn % 2], record.incarnation + stray);
     }
 }
 
 static void queue_updates(size_t queued) {
-    keep(cuddrewyn_begin(record, record.incarnation + 1));
+    call_begin(record.incarnation + 1);
     for (size_t push = 0; push < queued; push++) update(&messages[push % 2]);
 }
 
@@ -111,7 +104,7 @@ static void queue_calls(const char *call, size_t queued, int times) {
     open_session();
     queue_updates(queued);
     if (!push && !response) respond(&messages[2]);
-    if (!strcmp(call, "last")) record.drain_position = queued - 1;
+    if (!strcmp(call, "last")) record.drain_positions[0] = queued - 1;
     cuddrewyn_record before = record;
     for (int turn = 0; turn < times; turn++) {
         record = before;
@@ -148,21 +141,6 @@ static void *update_once(void *m) { return update(m), NULL; }
 static void *respond_once(void *m) { return respond(m), NULL; }
 static void *drain_once(void *m) { return (void)m, (void)drain(), NULL; }
 static void *watch_once(void *m) { return watch(m), NULL; }
-static void *nothing(void *m) { return m; }
-
-// How many bytes of a painted stack a thread changes.
-static size_t stack_of(void *(*run)(void *), void *m) {
-    static uint8_t stack[STACK] __attribute__((aligned(4096)));
-    pthread_attr_t attributes;
-    pthread_t thread;
-    memset(stack, PAINT, sizeof stack);
-    if (pthread_attr_init(&attributes) || pthread_attr_setstack(&attributes, stack, sizeof stack)) exit(2);
-    if (pthread_create(&thread, &attributes, run, m) || pthread_join(thread, NULL)) exit(2);
-    size_t free = 0;
-    while (free < sizeof stack && stack[free] == PAINT) free++;
-    return sizeof stack - free;
-}
-
 static size_t deepest(const char *call, size_t queued) {
     if (!strcmp(call, "watch")) return prepare_watch(), stack_of(watch_once, &messages[1]);
     open_session();
@@ -173,33 +151,45 @@ static size_t deepest(const char *call, size_t queued) {
     return stack_of(drain_once, NULL);
 }
 
+// The three kinds of runs: updates, a watch, reconnects.
+static void run_updates(char **word, size_t queued, int times) {
+    bool registered = atoi(word[3]) != 0;
+    prepare_updates(registered, queued);
+    updates(registered, !strcmp(word[0], "stray"), times);
+    print_delta();
+}
+
+static void run_watch(int times) {
+    prepare_watch();
+    for (int turn = 0; turn < times; turn++) watch(&messages[1 + turn % 2]);
+    print_topics();
+}
+
+static void run_reconnects(size_t queued, int times) {
+    open_session();
+    reconnects(queued, times);
+    print_delta();
+}
+
+static void run_stack(const char *call, size_t queued) {
+    size_t bytes = deepest(call, queued);
+    printf("%d %zu\n", refused, bytes);
+}
+
 int main(int count, char **words) {
-    bool stack = count > 1 && !strcmp(words[1], "stack"), queue = count > 1 && !strcmp(words[1], "queue");
-    char **word = words + 1 + (stack || queue);
-    if (count < 6 + (stack || queue)) return 2;
-    bool is_update = !strcmp(word[0], "update"), is_watch = !strcmp(word[0], "watch");
+    if (count < 7) return 2;
+    parent = words[1];
+    bool stack = !strcmp(words[2], "stack"), queue = !strcmp(words[2], "queue");
+    char **word = words + 2 + (stack || queue);
+    if (count < 7 + (stack || queue)) return 2;
+    bool is_update = !strcmp(word[0], "update") || !strcmp(word[0], "stray"), is_watch = !strcmp(word[0], "watch");
     for (int which = 0; which < (is_update ? 2 : 3); which++) read_message(&messages[which], word[1 + which]);
     int times = atoi(words[count - 1]);
     size_t queued = (size_t)atoi(words[count - 2]);
-    if (stack) {
-        size_t idle = stack_of(nothing, NULL), bytes = deepest(word[0], queued) - idle;
-        printf("%d %zu\n", refused, bytes);
-    } else if (queue) {
-        queue_calls(word[0], queued, times);
-        print_delta();
-    } else if (is_watch) {
-        prepare_watch();
-        for (int turn = 0; turn < times; turn++) watch(&messages[1 + turn % 2]);
-        print_topics();
-    } else if (is_update) {
-        bool registered = atoi(word[3]) != 0;
-        prepare_updates(registered, queued);
-        updates(registered, times);
-        print_delta();
-    } else {
-        open_session();
-        reconnects(queued, times);
-        print_delta();
-    }
+    if (stack) run_stack(word[0], queued);
+    else if (queue) queue_calls(word[0], queued, times), print_delta();
+    else if (is_watch) run_watch(times);
+    else if (is_update) run_updates(word, queued, times);
+    else run_reconnects(queued, times);
     return 0;
 }

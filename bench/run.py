@@ -1,11 +1,12 @@
 #!/usr/bin/env python3
-"""Measures the port beside the Rust and prints the tables of docs/BENCHMARKS.md; with --write they replace those in the file. A table's mark as a word (update,
-reconnect, queue, scan, intake, plain, text, watch, keys, logs, memory, sizes) makes that one alone.
+"""Judge: measures the port beside the Rust and prints the tables of docs/BENCHMARKS.md; only with --write does it change a file.
 
 Instructions are counted by callgrind: a run of some turns less a run of none, by their number. Times are the shortest of five runs of many turns less the shortest of
 five of none. The heap is what valgrind finds. It needs rt, gcc and valgrind. The Rust's side is measured where CUDDREWYN_RUST names the folder of the Rust's sources
 and cargo finds Debian's crates (librust-prost-dev, librust-prost-derive-dev, librust-bytes-dev, librust-thiserror-dev); else its columns say so.
 """
+import argparse
+import math
 import os
 import pathlib
 import re
@@ -14,6 +15,9 @@ import sys
 import tempfile
 import time
 
+import growth
+import messages
+
 HERE = pathlib.Path(__file__).resolve().parent
 ROOT = HERE.parent
 DOCUMENT = ROOT / "docs" / "BENCHMARKS.md"
@@ -21,7 +25,7 @@ ABSENT = "not measured"
 TURNS = 20
 FULL = 1024
 SLOT = 2048
-RECORD = 48
+RECORD = 104
 MEASURED = ["Rust, instructions", "port, instructions", "port / Rust", "Rust, µs", "port, µs"]
 MESSAGES = {
     "a": "4 segments without buckets",
@@ -42,16 +46,31 @@ TEXTS = {
 # What it is; the two messages that come in turn; whether the session is registered; how many pushes its queue holds; how many segments each update loses and gains.
 UPDATES = [
     ("a: 4 segments without buckets", "a", "a2", 1, 0, "2 2"),
+    ("a, a parent's path of 46 bytes", "a-long", "a-long2", 1, 0, "2 2"),
     ("n: a's first message again, no change", "a", "a", 1, 0, "0 0"),
+    ("n, a parent's path of 46 bytes", "a-long", "a-long", 1, 0, "0 0"),
     ("b: 145 segments without buckets", "b", "b2", 1, 0, "72 72"),
     ("c: one segment, 506 buckets that rise", "c", "c2", 1, 0, "1 1"),
     ("d: a's first message, queued before the response", "a", "a", 0, 0, "0 0"),
+    ("d, a parent's path of 46 bytes", "a-long", "a-long", 0, 0, "0 0"),
     ("f: b's segments in falling order", "f", "f2", 1, 0, "72 72"),
+    ("g: b's segments shuffled", "g", "g2", 1, 0, "72 72"),
     ("s: c's buckets in falling order, no change", "s", "s", 1, 0, "0 0"),
     ("a, 1,024 pushes in the queue", "a", "a2", 1, FULL, "2 2"),
     ("n, 1,024 pushes in the queue", "a", "a", 1, FULL, "0 0"),
     ("b, 1,024 pushes in the queue", "b", "b2", 1, FULL, "72 72"),
     ("c, 1,024 pushes in the queue", "c", "c2", 1, FULL, "1 1"),
+    ("s, 1,024 pushes in the queue", "s", "s", 1, FULL, "0 0"),
+]
+# Those that are measured through the binding besides.
+BOUND = ("a", "b", "c")
+# What it is; the call; its message, which comes each time; what the Rust and the port say: * is the number of calls, all refused.
+HOSTILE = [
+    ("65,536 falling buckets in one segment (15)", "update", "l", "0 0 0", "* 0 0"),
+    ("the same, addressed to another link (23)", "stray", "l", "* 0 0", "* 0 0"),
+    ("20,000 segments (15)", "update", "segments-20000", "0 0 0", "* 0 0"),
+    ("the same in falling order (15)", "update", "segments-20000-falling", "0 0 0", "* 0 0"),
+    ("20,000 segments, the last id has come before (14)", "update", "repeat-20000", "* 0 0", "* 0 0"),
 ]
 # Pushes that wait for the response; turns that are counted.
 RECONNECTS = [(0, TURNS), (16, TURNS), (FULL, 1)]
@@ -68,7 +87,7 @@ QUEUES = [
 ]
 # Topics of a set; turns that are counted.
 SIZES = [(10, TURNS), (1000, TURNS), (20000, 2)]
-# What it is; the two messages that come in turn; how many topics each adds and removes, of n.
+# What it is; the two messages that come in turn; how many topics each adds and removes, of n: the last that comes is the second.
 WATCHES = [
     ("snapshot, rising", "rising", "rising", lambda n: (n, 0)),
     ("snapshot, shuffled", "shuffled", "shuffled", lambda n: (n, 0)),
@@ -76,11 +95,17 @@ WATCHES = [
     ("diff of 10, rising", "few", "few-back", lambda n: (5, 5)),
     ("diff of n / 2, rising", "half", "half-back", lambda n: (n // 4, n // 4)),
     ("diff of n / 2, shuffled", "half-shuffled", "half-shuffled-back", lambda n: (n // 4, n // 4)),
+    ("diff of n / 2, falling", "half-falling", "half-falling-back", lambda n: (n // 4, n // 4)),
+    ("diff: n / 4 rising, and the highest the other way", "high", "high-back", lambda n: (1, n // 4)),
 ]
 # Bytes of a key; segments of the list.
 KEYS = [(0, 4), (8, 4), (32, 4), (1024, 4), (65535, 4), (8, 145)]
 # Ids that a delta loses, and as many that it gains; the order of the log; turns that are counted.
-LOGS = [(145, "rising", TURNS), (145, "falling", TURNS), (4000, "rising", TURNS), (4000, "falling", 1), (65535, "rising", 2)]
+LOGS = [
+    (145, "rising", TURNS), (145, "falling", TURNS), (145, "shuffled", TURNS),
+    (4000, "rising", TURNS), (4000, "falling", 1), (4000, "shuffled", 1), (4000, "halves", 1),
+    (65535, "rising", 2), (65535, "shuffled", 1),
+]
 YES = "6"
 # What it is; how many calls of the run are refused; the call and its messages.
 STACKS = [
@@ -97,30 +122,50 @@ def run(*words, **more):
     return subprocess.run([str(word) for word in words], check=True, capture_output=True, text=True, **more)
 
 
+def say(text):
+    print(f"bench: {text}", file=sys.stderr, flush=True)
+
+
+def each(table, cases):
+    """The cases one after the other; says which one it is."""
+    for place, case in enumerate(cases, 1):
+        say(f"{table}: case {place} of {len(cases)}")
+        yield case
+
+
 class Bench:
     """The programs of both sides, and the folder with their messages."""
 
-    def __init__(self, folder):
+    def __init__(self, folder, archives, times):
         self.folder = folder
-        run(sys.executable, HERE / "messages.py", folder)
-        for library in ("speed", "export"):
-            run("rt", "staticlib", library, cwd=ROOT)
+        self.archives = archives or self.proved()
+        self.times = times
+        messages.write_all(folder)
         self.port = self.compiled("port", "export", "-pthread")
-        self.pieces = self.compiled("pieces", "speed")
+        self.growth = self.compiled("growth", "export")
         self.keys = self.compiled("keys", "export")
-        self.logs = self.compiled("logs", "export")
+        self.logs = self.compiled("logs", "export", "-pthread")
+        self.pieces = self.compiled("pieces", "speed")
         self.rust = self.built()
 
+    def proved(self):
+        for library in ("speed", "export"):
+            say(f"rt staticlib {library}")
+            run("rt", "staticlib", library, cwd=ROOT)
+        return ROOT / "target/staticlib"
+
     def compiled(self, name, library, *more):
-        run("gcc", "-O2", *more, HERE / f"{name}.c", ROOT / f"target/staticlib/lib{library}.a", "-o", self.folder / name)
+        run("gcc", "-O2", *more, HERE / f"{name}.c", self.archives / f"lib{library}.a", "-o", self.folder / name)
         return self.folder / name
 
     def built(self):
         """The program of the Rust's side, or None where the Rust's folder is not named."""
         if not os.environ.get("CUDDREWYN_RUST"):
             return None
+        say("cargo build")
+        more = {"cwd": HERE / "rust", "env": {**os.environ, "CUDDREWYN_LIB": str(self.archives.resolve())}}
         try:
-            run("cargo", "build", "--release", "--offline", "--target-dir", self.folder / "rust", cwd=HERE / "rust")
+            run("cargo", "build", "--release", "--offline", "--target-dir", self.folder / "rust", **more)
         except (OSError, subprocess.CalledProcessError) as error:
             sys.exit(f"bench: the Rust's side was not built: {getattr(error, 'stderr', error)}")
         return self.folder / "rust/release/rust-session"
@@ -128,47 +173,64 @@ class Bench:
     def file(self, name):
         return self.folder / f"{name}.bin"
 
+    def sides(self, *words, parent=messages.PARENT):
+        """The same words for the Rust's program and for the port's."""
+        return [self.rust, parent, *words], [self.port, parent, *words]
 
-def checked(done, told):
+
+def checked(done, told, turns):
+    """What the turns print must be as told."""
+    told = told.replace("*", str(turns))
     assert done.stdout.strip() == told, f"{done.args} printed {done.stdout}, not {told}"
-    return done
 
 
 def instructions(told, words, turns):
-    """The instructions of one turn; what the turns print must be as told."""
+    """The instructions of one turn."""
     counts = []
     for times in (0, turns):
         done = run("valgrind", "--tool=callgrind", "--callgrind-out-file=/dev/null", *words, times)
-        counts.append(int(re.search(r"Collected : (\d+)", (checked(done, told) if times else done).stderr)[1]))
+        counts.append(int(re.search(r"Collected : (\d+)", done.stderr)[1]))
+    checked(done, told, turns)
     return (counts[1] - counts[0]) // turns
+
+
+def shortest(words, times):
+    """The shortest of five runs, and the last of them."""
+    taken = []
+    for _ in range(5):
+        start = time.perf_counter()
+        done = run(*words, times)
+        taken.append(time.perf_counter() - start)
+    return min(taken), done
 
 
 def microseconds(told, words, turns):
     """The time of one turn."""
-    shortest = []
-    for times in (0, turns):
-        taken = []
-        for _ in range(5):
-            start = time.perf_counter()
-            done = run(*words, times)
-            taken.append(time.perf_counter() - start)
-            if times:
-                checked(done, told)
-        shortest.append(min(taken))
-    return (shortest[1] - shortest[0]) / turns * 1e6
+    idle, _ = shortest(words, 0)
+    busy, done = shortest(words, turns)
+    checked(done, told, turns)
+    return (busy - idle) / turns * 1e6
 
 
-def measured(told, theirs, ours, turns=TURNS):
-    """The cells of a row: what one turn costs on both sides. Where there is no program of the Rust, its cells say so."""
-    counts, times = [], []
-    for words in (theirs, ours):
-        if words[0] is None:
-            counts.append(None), times.append(None)
-            continue
-        counts.append(instructions(told, words, turns))
-        times.append(microseconds(told, words, min(max(400_000_000 // counts[-1], 2), 20_000)))
-    share = f"{counts[1] / counts[0]:,.2f}" if counts[0] else ABSENT
-    return [ABSENT if one is None else f"{one:,}" for one in counts] + [share] + [ABSENT if one is None else f"{one:,.2f}" for one in times]
+def side(bench, told, words, turns):
+    """What one turn costs on one side: instructions and time, or nothing where there is no program of the Rust or the time is not asked for."""
+    if words[0] is None:
+        return None, None
+    count = instructions(told, words, turns)
+    many = min(max(400_000_000 // max(count, 1), 2), 20_000) // 2 * 2
+    return count, microseconds(told, words, many) if bench.times else None
+
+
+def shown(value, form):
+    return ABSENT if value is None else format(value, form)
+
+
+def measured(bench, told, sides, turns=TURNS):
+    """The cells of a row: what one turn costs on both sides. They may have to say different things."""
+    told = [told, told] if isinstance(told, str) else told
+    (theirs, slow), (ours, quick) = (side(bench, says, words, turns) for says, words in zip(told, sides))
+    share = None if theirs is None else ours / theirs
+    return [shown(theirs, ","), shown(ours, ","), shown(share, ",.2f"), shown(slow, ",.2f"), shown(quick, ",.2f")]
 
 
 def rows(heads, lines):
@@ -176,13 +238,17 @@ def rows(heads, lines):
     return "\n".join([head, "|" + "---|" * len(heads), *rest])
 
 
+def size_of(file):
+    return f"{os.path.getsize(file):,}"
+
+
 def piece_table(bench, theirs, ours, names, part=""):
     """A piece of an update by itself; the port's may be lent a part of the message alone."""
     lines = []
-    for name in names:
+    for name in each(ours, names):
         file, own = bench.file(name), bench.file(name + part)
-        cells = measured("0", [bench.rust, theirs, file], [bench.pieces, ours, own])
-        lines.append([f"{name}: {MESSAGES[name]}", f"{os.path.getsize(file):,}", *cells])
+        cells = measured(bench, "0", [[bench.rust, messages.PARENT, theirs, file], [bench.pieces, ours, own]])
+        lines.append([f"{name}: {MESSAGES[name]}", size_of(file), *cells])
     return rows(["case", "bytes", *MEASURED], lines)
 
 
@@ -200,57 +266,72 @@ def plain_table(bench):
 
 def text_table(bench):
     lines = []
-    for name, what in TEXTS.items():
+    for name in each("text", list(TEXTS)):
         file = bench.file(f"text-{name}")
-        lines.append([what, f"{os.path.getsize(file):,}", *measured("0", [bench.rust, "text", file], [bench.pieces, "text", file])[:3]])
+        sides = [[bench.rust, messages.PARENT, "text", file], [bench.pieces, "text", file]]
+        lines.append([TEXTS[name], size_of(file), *measured(bench, "0", sides)[:3]])
     return rows(["text", "bytes", *MEASURED[:3]], lines)
+
+
+def bound_row(bench, what, told, sides, words):
+    """An update through bindings/rust."""
+    through = [bench.rust, messages.PARENT, "binding", *words]
+    return [f"{what[0]}, through bindings/rust", told[2:].replace(" ", ", "), *measured(bench, told, [sides[0], through])]
 
 
 def update_table(bench):
     lines = []
-    for what, first, second, registered, queued, changed in UPDATES:
-        words = ["update", bench.file(first), bench.file(second), registered, queued]
-        lines.append([what, changed.replace(" ", ", "), *measured(f"0 {changed}", [bench.rust, *words], [bench.port, *words])])
-        if bench.rust and first in "abc" and registered and not queued:
-            through = [bench.rust, "binding", *words[1:3]]
-            lines.append([f"{what[0]}, through bindings/rust", changed.replace(" ", ", "), *measured(f"0 {changed}", [bench.rust, *words], through)])
+    for what, first, second, registered, queued, changed in each("update", UPDATES):
+        parent = messages.LONG if "long" in first else messages.PARENT
+        words = [bench.file(first), bench.file(second)]
+        sides = bench.sides("update", *words, registered, queued, parent=parent)
+        lines.append([what, changed.replace(" ", ", "), *measured(bench, f"0 {changed}", sides)])
+        if bench.rust and first in BOUND and registered and not queued:
+            lines.append(bound_row(bench, what, f"0 {changed}", sides, words))
     return rows(["case", "lost, gained", *MEASURED], lines)
+
+
+def hostile_table(bench):
+    lines = []
+    for what, call, name, theirs, ours in each("hostile", HOSTILE):
+        file = bench.file(name)
+        cells = measured(bench, [theirs, ours], bench.sides(call, file, file, 1, 0), 2)
+        lines.append([what, size_of(file), *cells])
+    return rows(["update", "bytes", *MEASURED], lines)
 
 
 def reconnect_table(bench):
     lines = []
-    for queued, turns in RECONNECTS:
+    for queued, turns in each("reconnect", RECONNECTS):
         words = ["reconnect", *(bench.file(name) for name in ("a", "a2", "response")), queued]
-        told = "0 2 2" if queued else "0 0 0"
-        lines.append([f"{queued:,}", *measured(told, [bench.rust, *words], [bench.port, *words], turns)])
+        lines.append([f"{queued:,}", *measured(bench, "0 2 2" if queued else "0 0 0", bench.sides(*words), turns)])
     return rows(["pushes that wait", *MEASURED], lines)
 
 
 def queue_table(bench):
     """One call of the port while pushes wait, or before they are drained."""
     lines = []
-    for what, call, queued, changed in QUEUES:
-        words = [bench.port, "queue", call, *(bench.file(name) for name in ("a", "a2", "response")), queued]
-        lines.append([what, f"{instructions(f'0 {changed}', words, TURNS):,}"])
+    for what, call, queued, changed in each("queue", QUEUES):
+        words = ["queue", call, *(bench.file(name) for name in ("a", "a2", "response")), queued]
+        lines.append([what, f"{instructions(f'0 {changed}', bench.sides(*words)[1], TURNS):,}"])
     return rows(["call", "port, instructions"], lines)
 
 
 def watch_table(bench):
     lines = []
-    for size, turns in SIZES:
-        for what, first, second, counts in WATCHES:
-            told = "0 {} {}".format(*counts(size))
-            words = ["watch", *(bench.file(f"w-{size}-{name}") for name in ("rising", first, second))]
-            lines.append([f"{size:,} topics: {what}", f"{os.path.getsize(words[2]):,}", *measured(told, [bench.rust, *words], [bench.port, *words], turns)])
+    for size, turns, what, first, second, counts in each("watch", [(*size, *case) for size in SIZES for case in WATCHES]):
+        words = ["watch", *(bench.file(f"w-{size}-{name}") for name in ("rising", first, second))]
+        told = "0 {} {}".format(*counts(size))
+        lines.append([f"{size:,} topics: {what}", size_of(words[2]), *measured(bench, told, bench.sides(*words), turns)])
     return rows(["case", "bytes", *MEASURED], lines)
 
 
 def key_table(bench):
     """The segment of a key beside a plain C hash. Both have to find the same one."""
     lines = []
-    for length, segments in KEYS:
+    for length, segments in each("keys", KEYS):
         told = run(bench.keys, "c", length, segments, 1).stdout.strip()
-        counts = [instructions(told, [bench.keys, side, length, segments], TURNS) for side in ("c", "port")]
+        counts = [instructions(told, [bench.keys, which, length, segments], TURNS) for which in ("c", "port")]
         cells = [f"{count:,}" for count in (length, segments, *counts)]
         lines.append([*cells, f"{counts[1] / counts[0]:.2f}"])
     return rows(["bytes of the key", "segments", "C, instructions", "port, instructions", "port / C"], lines)
@@ -259,34 +340,56 @@ def key_table(bench):
 def log_table(bench):
     """An uploader's log of one delta, which passes."""
     lines = []
-    for ids, order, turns in LOGS:
+    for ids, order, turns in each("logs", LOGS):
         count = instructions(YES, [bench.logs, order, ids], turns)
         lines.append([f"{ids:,}", order, f"{count:,}", f"{count // (2 * ids):,}"])
     return rows(["ids lost, and as many gained", "entries", "port, instructions", "for an entry"], lines)
+
+
+def exponents(counts):
+    """By which power of its size the cost grows, from n to 2n and from 2n to 4n."""
+    return ", ".join(f"{math.log2(more / less):.2f}" for less, more in zip(counts, counts[1:]))
+
+
+def growth_row(bench, case):
+    """A call over an input of the sizes n, 2n and 4n."""
+    ours, largest, theirs = [instructions(case.told(size), case.ours(bench, size), case.turns) for size in case.sizes], case.sizes[-1], None
+    if bench.rust and case.theirs:
+        theirs = instructions((case.rust_told or case.told)(largest), case.theirs(bench, largest), case.turns)
+    share = None if theirs is None else ours[-1] / theirs
+    cells = [f"{count:,}" for count in (case.sizes[0], *ours)]
+    other = ["", ""] if not case.theirs else [shown(theirs, ","), shown(share, ",.2f")]
+    return [case.call, case.what, *cells, exponents(ours), *other]
+
+
+def growth_table(bench):
+    lines = [growth_row(bench, case) for case in each("growth", growth.CASES)]
+    return rows(["call", "input", "n", "port, n", "2n", "4n", "exponents", "Rust, 4n", "port / Rust at 4n"], lines)
 
 
 def heap(bench, *words):
     """The bytes that a run of the Rust leaves in use, and how often it allocates; nothing where it is not measured."""
     if bench.rust is None:
         return None
-    told = run("valgrind", "--leak-check=no", bench.rust, *words).stderr
+    told = run("valgrind", "--leak-check=no", bench.rust, messages.PARENT, *words).stderr
     found = re.search(r"in use at exit: ([\d,]+) bytes.*?total heap usage: ([\d,]+) allocs", told, re.S)
     return [int(number.replace(",", "")) for number in found.groups()]
 
 
+def held(bench, empty, *words):
+    """What a session of the Rust holds besides what an empty one does."""
+    return f"{heap(bench, *words)[0] - empty[0]:,}" if empty else ABSENT
+
+
 def memory_table(bench):
     """What a session holds, in bytes."""
-    empty = heap(bench, "open")
-
-    def held(*words):
-        return f"{heap(bench, *words)[0] - empty[0]:,}" if empty else ABSENT
-
-    lines = []
-    for name in "abc":
+    empty, lines = heap(bench, "open"), []
+    for name in each("memory", "abc"):
         words = ["update", bench.file(name), bench.file(name)]
-        lines.append([f"{name}'s list held", held(*words, 1, 0, 1), f"{3 * SLOT + RECORD:,}"])
+        lines.append([f"{name}'s list held", held(bench, empty, *words, 1, 0, 1), f"{3 * SLOT + RECORD:,}"])
         for queued in (16, FULL):
-            lines.append([f"{queued:,} pushes of {name} that wait", held(*words, 0, queued - 1, 0), f"{3 * SLOT + queued * (2 + PACKED[name]) + RECORD:,}"])
+            lent = 3 * SLOT + queued * (2 + PACKED[name]) + RECORD
+            lines.append([f"{queued:,} pushes of {name} that wait", held(bench, empty, *words, 0, queued - 1, 0), f"{lent:,}"])
     return rows(["a session with", "Rust, on the heap", "port, lent"], lines)
 
 
@@ -298,37 +401,62 @@ def allocations(bench, name):
     return f"{(counts[1] - counts[0]) / TURNS:,.0f}"
 
 
+def stack_row(bench, what, refused, call, *names):
+    files = [bench.file(name) for name in names]
+    told = run(*bench.sides("stack", call, *files, *[1] * (5 - len(files)))[1]).stdout.split()
+    assert told[0] == str(refused), f"{call} told {told}"
+    return [f"deepest stack of {what}, bytes", "", f"{int(told[1]):,}"]
+
+
 def size_table(bench):
     """The archive, the allocations of an update, and the deepest stack of each call."""
-    archive = ROOT / "target/staticlib/libexport.a"
+    archive = bench.archives / "libexport.a"
     text = sum(int(line.split()[0]) for line in run("size", archive).stdout.splitlines()[1:])
     lines = [["libexport.a, bytes", "", f"{archive.stat().st_size:,}"], ["machine code and constants in it, bytes", "", f"{text:,}"]]
     lines += [[f"allocations of an update, case {name}", allocations(bench, name), "0"] for name in "abc"]
-    for what, refused, call, *words in STACKS:
-        files = [bench.file(word) for word in words]
-        told = run(bench.port, "stack", call, *files, *[1] * (5 - len(files))).stdout.split()
-        assert told[0] == str(refused), f"{call} told {told}"
-        lines.append([f"deepest stack of {what}, bytes", "", f"{int(told[1]):,}"])
+    lines += [stack_row(bench, *case) for case in each("sizes", STACKS)]
+    answer, deepest = run(bench.logs, "falling", 145, "stack").stdout.split()
+    assert answer == YES, f"the log told {answer}"
+    lines.append(["deepest stack of a log in falling order, bytes", "", f"{int(deepest):,}"])
     return rows(["what", "Rust", "port"], lines)
 
 
 TABLES = {
-    "update": update_table, "reconnect": reconnect_table, "queue": queue_table, "scan": scan_table, "intake": intake_table, "plain": plain_table, "text": text_table,
-    "watch": watch_table, "keys": key_table, "logs": log_table, "memory": memory_table, "sizes": size_table,
+    "update": update_table, "hostile": hostile_table, "reconnect": reconnect_table, "queue": queue_table, "scan": scan_table, "intake": intake_table,
+    "plain": plain_table, "text": text_table, "watch": watch_table, "keys": key_table, "logs": log_table, "growth": growth_table, "memory": memory_table,
+    "sizes": size_table,
 }
 
 
+def arguments():
+    parser = argparse.ArgumentParser(description=__doc__, formatter_class=argparse.RawDescriptionHelpFormatter)
+    parser.add_argument("tables", nargs="*", metavar="TABLE", choices=[[], *TABLES], help=f"these alone, of {', '.join(TABLES)}")
+    parser.add_argument("--write", nargs="?", type=pathlib.Path, const=DOCUMENT, metavar="FILE", help="replace the tables in docs/BENCHMARKS.md, or in FILE")
+    parser.add_argument("--archives", type=pathlib.Path, metavar="FOLDER", help="measure libexport.a and libspeed.a of this folder, in place of those that rt makes")
+    parser.add_argument("--counts", action="store_true", help="instructions alone: the times of a busy machine say nothing")
+    return parser.parse_args()
+
+
+def written(file, made):
+    """Puts each table between its marks."""
+    text = file.read_text(encoding="utf-8")
+    for mark, table in made.items():
+        text, times = re.subn(rf"(<!-- {mark} -->\n).*?(<!-- end -->)", lambda match: match[1] + table + "\n" + match[2], text, flags=re.S)
+        if times != 1:
+            sys.exit(f"bench: {file} has the mark {mark} {times} times")
+    file.write_text(text, encoding="utf-8")
+
+
 def main():
-    marks = [mark for mark in TABLES if mark in sys.argv] or TABLES
+    asked, made = arguments(), {}
     with tempfile.TemporaryDirectory() as name:
-        bench = Bench(pathlib.Path(name))
-        made = {mark: TABLES[mark](bench) for mark in marks}
-    print("\n\n".join(made.values()))
-    if "--write" in sys.argv:
-        text = DOCUMENT.read_text(encoding="utf-8")
-        for mark, table in made.items():
-            text = re.sub(rf"(<!-- {mark} -->\n).*?(<!-- end -->)", lambda match: match[1] + table + "\n" + match[2], text, flags=re.S)
-        DOCUMENT.write_text(text, encoding="utf-8")
+        bench = Bench(pathlib.Path(name), asked.archives, not asked.counts)
+        for mark in [mark for mark in TABLES if mark in asked.tables or not asked.tables]:
+            made[mark] = TABLES[mark](bench)
+            print(made[mark], end="\n\n", flush=True)
+    if asked.write:
+        written(asked.write, made)
 
 
-main()
+if __name__ == "__main__":
+    main()

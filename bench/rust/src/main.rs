@@ -1,12 +1,12 @@
 //! Runs the Rust as often as asked and prints what came of it:
 //!
-//!     rust-session decode FILE TIMES      an update decoded by prost
-//!     rust-session intake FILE TIMES      the assignment of an update that was decoded beforehand
-//!     rust-session both FILE TIMES        an update decoded, and its assignment
-//!     rust-session text FILE TIMES        a text by `core::str::from_utf8`
-//!     rust-session update, reconnect, watch ..      as bench/port.c has them; each message is decoded by prost
-//!     rust-session binding FIRST SECOND TIMES       updates of a registered session through bindings/rust
-//!     rust-session open                   a session and nothing else
+//!     rust-session PARENT decode FILE TIMES      an update decoded by prost
+//!     rust-session PARENT intake FILE TIMES      the assignment of an update that was decoded beforehand
+//!     rust-session PARENT both FILE TIMES        an update decoded, and its assignment
+//!     rust-session PARENT text FILE TIMES        a text by `core::str::from_utf8`
+//!     rust-session PARENT update, stray, reconnect, watch ..      as bench/port.c has them; each message is decoded by prost
+//!     rust-session PARENT binding FIRST SECOND TIMES       updates of a registered session through bindings/rust
+//!     rust-session PARENT open                   a session and nothing else
 //!
 //! A session is not dropped at the end: what it holds is then what valgrind finds in use at exit.
 use prost::Message as _;
@@ -30,7 +30,6 @@ macro_rules! from_number {
 
 from_number!(SegmentState CompressionType ScalableConsumerType);
 
-const TOPIC: &str = "topic://a/b/c";
 /// Request 1 answered by a list with no segments at epoch 0.
 const EMPTY: [u8; 6] = [0x08, 0x01, 0x22, 0x02, 0x08, 0x00];
 /// So many pushes wait at most: behind them a new link empties the queue.
@@ -50,9 +49,9 @@ struct Run {
 }
 
 impl Run {
-    fn open() -> Self {
+    fn open(parent: &str) -> Self {
         let link = ControllerIncarnation(1);
-        let session = ScalableConsumerSession::new(7, TOPIC.into(), "s".into(), "n".into(), ScalableConsumerType::Stream, link);
+        let session = ScalableConsumerSession::new(7, parent.into(), "s".into(), "n".into(), ScalableConsumerType::Stream, link);
         Self { session, link, refused: 0, lost: 0, gained: 0 }
     }
 
@@ -62,8 +61,12 @@ impl Run {
     }
 
     fn update(&mut self, message: &[u8]) {
+        self.update_on(message, self.link);
+    }
+
+    fn update_on(&mut self, message: &[u8], link: ControllerIncarnation) {
         let update = decoded(black_box(message));
-        match black_box(self.session.handle_assignment_update_for(self.link, &update)) {
+        match black_box(self.session.handle_assignment_update_for(link, &update)) {
             Ok(Some(delta)) => (self.lost, self.gained) = (delta.lost.len(), delta.gained.len()),
             Ok(None) => {}
             Err(_) => self.refused += 1,
@@ -91,14 +94,14 @@ fn decode(message: &[u8], times: usize) {
     println!("{}", (0..times).filter(refused).count());
 }
 
-fn intake(message: &[u8], times: usize) {
+fn intake(parent: &str, message: &[u8], times: usize) {
     let update = decoded(message);
-    let refused = |_: &usize| black_box(ConsumerAssignment::try_from_pb(black_box(&update.assignment), TOPIC)).is_err();
+    let refused = |_: &usize| black_box(ConsumerAssignment::try_from_pb(black_box(&update.assignment), parent)).is_err();
     println!("{}", (0..times).filter(refused).count());
 }
 
-fn both(message: &[u8], times: usize) {
-    let refused = |_: &usize| black_box(ConsumerAssignment::try_from_pb(&decoded(black_box(message)).assignment, TOPIC)).is_err();
+fn both(parent: &str, message: &[u8], times: usize) {
+    let refused = |_: &usize| black_box(ConsumerAssignment::try_from_pb(&decoded(black_box(message)).assignment, parent)).is_err();
     println!("{}", (0..times).filter(refused).count());
 }
 
@@ -107,8 +110,9 @@ fn text(bytes: &[u8], times: usize) {
     println!("{}", (0..times).filter(refused).count());
 }
 
-fn updates(messages: [&[u8]; 2], registered: bool, queued: usize, times: usize) {
-    let mut run = Run::open();
+/// A session before its updates: so many pushes in the queue, drained where it is registered, and an update by the second message.
+fn prepared(parent: &str, messages: [&[u8]; 2], registered: bool, queued: usize) -> Run {
+    let mut run = Run::open(parent);
     for _ in 0..queued {
         run.update(messages[0]);
     }
@@ -116,18 +120,24 @@ fn updates(messages: [&[u8]; 2], registered: bool, queued: usize, times: usize) 
         run.respond(&EMPTY);
     }
     run.update(messages[1]);
-    (run.lost, run.gained) = (0, 0);
+    (run.refused, run.lost, run.gained) = (0, 0, 0);
+    run
+}
+
+/// Updates by two messages in turn, addressed to the session's link or to the next one.
+fn updates(mut run: Run, messages: [&[u8]; 2], registered: bool, stray: bool, times: usize) {
     for turn in 0..times {
         if !registered && turn % WAITING == WAITING - 1 {
             run.begin();
         }
-        run.update(messages[turn % 2]);
+        let link = ControllerIncarnation(run.link.0 + u64::from(stray));
+        run.update_on(messages[turn % 2], link);
     }
     run.close();
 }
 
-fn reconnects(messages: [&[u8]; 3], queued: usize, times: usize) {
-    let mut run = Run::open();
+fn reconnects(parent: &str, messages: [&[u8]; 3], queued: usize, times: usize) {
+    let mut run = Run::open(parent);
     for _ in 0..times {
         run.begin();
         for push in 0..queued {
@@ -139,10 +149,10 @@ fn reconnects(messages: [&[u8]; 3], queued: usize, times: usize) {
 }
 
 /// As `updates`, by the port: what a station that has swapped its session does.
-fn binding(messages: [&[u8]; 2], times: usize) {
+fn binding(parent: &str, messages: [&[u8]; 2], times: usize) {
     let (mut store, mut out) = (vec![0; cuddrewyn::FULL_STORE], [0; cuddrewyn::MIN_OUTPUT]);
     let (kind, link) = (cuddrewyn::ScalableConsumerType::Stream, cuddrewyn::ControllerIncarnation(1));
-    let mut session = cuddrewyn::ScalableConsumerSession::new(7, TOPIC, "s", "n", kind, link, &mut store).expect("a store");
+    let mut session = cuddrewyn::ScalableConsumerSession::new(7, parent, "s", "n", kind, link, &mut store).expect("a store");
     session.handle_subscribe_response(&EMPTY).expect("a baseline");
     let (mut refused, mut lost, mut gained) = (0, 0, 0);
     for turn in 0..=times {
@@ -192,19 +202,22 @@ fn main() {
     let words: Vec<&str> = words.iter().map(String::as_str).collect();
     let read = |path: &str| std::fs::read(path).expect("a message");
     let number = |word: &str| word.parse::<usize>().expect("a number");
+    let Some((parent, words)) = words.split_first() else { panic!("the forms stand at the head of bench/rust/src/main.rs") };
     match words[..] {
-        ["open"] => Run::open().close(),
+        ["open"] => Run::open(parent).close(),
         ["decode", file, times] => decode(&read(file), number(times)),
-        ["intake", file, times] => intake(&read(file), number(times)),
-        ["both", file, times] => both(&read(file), number(times)),
+        ["intake", file, times] => intake(parent, &read(file), number(times)),
+        ["both", file, times] => both(parent, &read(file), number(times)),
         ["text", file, times] => text(&read(file), number(times)),
-        ["update", first, second, registered, queued, times] => {
-            updates([&read(first), &read(second)], number(registered) != 0, number(queued), number(times));
+        [call @ ("update" | "stray"), first, second, registered, queued, times] => {
+            let (first, second, registered) = (read(first), read(second), number(registered) != 0);
+            let messages = [&first[..], &second[..]];
+            updates(prepared(parent, messages, registered, number(queued)), messages, registered, call == "stray", number(times));
         }
         ["reconnect", first, second, response, queued, times] => {
-            reconnects([&read(first), &read(second), &read(response)], number(queued), number(times));
+            reconnects(parent, [&read(first), &read(second), &read(response)], number(queued), number(times));
         }
-        ["binding", first, second, times] => binding([&read(first), &read(second)], number(times)),
+        ["binding", first, second, times] => binding(parent, [&read(first), &read(second)], number(times)),
         ["watch", set, first, second, times] => watches(&read(set), [&read(first), &read(second)], number(times)),
         _ => panic!("the forms stand at the head of bench/rust/src/main.rs"),
     }
