@@ -10,29 +10,30 @@ static uint8_t store[CUDDREWYN_MAX_STORE];
 static cuddrewyn_record record;
 static int refused;
 
-static cuddrewyn_reply keep(cuddrewyn_session_reply told) {
-    record = told.state;
-    refused += told.reply.answer == CUDDREWYN_REFUSED;
-    return told.reply;
+static cuddrewyn_reply told(cuddrewyn_reply reply) {
+    refused += reply.answer == CUDDREWYN_REFUSED;
+    return reply;
 }
 
 static cuddrewyn_reply call_open(const char *topic) {
     const uint8_t *s = (const uint8_t *)"s", *n = (const uint8_t *)"n";
-    return keep(cuddrewyn_open(7, 1, (const uint8_t *)topic, strlen(topic), s, 1, n, 1, 0, store, sizeof store));
+    cuddrewyn_session_reply opened = cuddrewyn_open(7, 1, (const uint8_t *)topic, strlen(topic), s, 1, n, 1, 0, store, sizeof store);
+    record = opened.state;
+    return told(opened.reply);
 }
 
-static cuddrewyn_reply call_begin(uint64_t link) { return keep(cuddrewyn_begin(record, link)); }
+static cuddrewyn_reply call_begin(uint64_t link) { return told(cuddrewyn_begin(&record, link)); }
 
 static cuddrewyn_reply call_update(const uint8_t *message, size_t length, uint64_t link, uint8_t *out) {
-    return keep(cuddrewyn_update(record, store, sizeof store, message, length, link, out, CUDDREWYN_MIN_OUTPUT));
+    return told(cuddrewyn_update(&record, store, sizeof store, message, length, link, out, CUDDREWYN_MIN_OUTPUT));
 }
 
 static cuddrewyn_reply call_response(const uint8_t *message, size_t length) {
-    return keep(cuddrewyn_response(record, store, sizeof store, message, length, record.incarnation));
+    return told(cuddrewyn_response(&record, store, sizeof store, message, length, record.incarnation));
 }
 
 static cuddrewyn_reply call_drain(size_t reader, uint8_t *out) {
-    return keep(cuddrewyn_drain_for(record, store, sizeof store, reader, out, CUDDREWYN_MIN_OUTPUT));
+    return told(cuddrewyn_drain_for(&record, store, sizeof store, reader, out, CUDDREWYN_MIN_OUTPUT));
 }
 
 #endif

@@ -9,8 +9,8 @@ CRATE = "crates/export/src/"
 HEADER, RAW, EXPORTS = "bindings/c/cuddrewyn.h", "bindings/rust/src/raw.rs", "docs/EXPORTS.md"
 OF_C = {
     "uint64_t": "u64", "uint32_t": "u32", "int32_t": "i32", "uint8_t": "u8", "size_t": "usize", "bool": "bool", "const uint8_t *": "*const u8",
-    "uint8_t *": "*mut u8", "cuddrewyn_record": "Record", "cuddrewyn_reply": "Reply", "cuddrewyn_session_reply": "SessionReply",
-    "cuddrewyn_part": "Part",
+    "uint8_t *": "*mut u8", "cuddrewyn_record *": "*mut Record", "cuddrewyn_record": "Record", "cuddrewyn_reply": "Reply",
+    "cuddrewyn_session_reply": "SessionReply", "cuddrewyn_part": "Part",
 }
 FN = re.compile(r'#\[no_mangle\]\s+pub extern "C" fn (\w+)\(([^)]*)\)\s*->\s*(\w+)')
 EXTERN = re.compile(r'(?:#\[link_name = "(\w+)"\]\s+)?pub fn (\w+)\(([^)]*)\)\s*->\s*(\w+);')
@@ -29,7 +29,7 @@ def as_words(name, type_):
     """An argument of Rattle as it is handed over."""
     if type_ in ("&[u8]", "&mut [u8]"):
         return [(name, "*mut u8" if "mut" in type_ else "*const u8"), (name + "_len", "usize")]
-    return [(name, type_)]
+    return [(name, type_.replace("&mut ", "*mut "))]
 
 
 def exported(sources):

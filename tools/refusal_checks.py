@@ -219,7 +219,7 @@ def numbers_of(formula):
 
 def check_ours(table, sources):
     """Demand 2 takes as the port's own what the table says is ours, of all that the calls in its runs refuse."""
-    with_record = [name for name, (arguments, _) in declarations.exported(sources).items() if ("r", "Record") in arguments]
+    with_record = [name for name, (arguments, _) in declarations.exported(sources).items() if ("r", "*mut Record") in arguments]
     faults = []
     for path, error in OURS.items():
         formula = re.search(r"^ours\w* n = (.*)$", sources[path], re.M)

@@ -1,6 +1,7 @@
 /* The exported calls of the port, for C on x86-64 Linux. Link target/staticlib/libexport.a.
  *
- * Every call takes any bytes and any numbers. A refusal changes nothing. docs/EXPORTS.md has the tables of answers, refusals and sizes.
+ * Every call takes any bytes and any numbers. A refusal changes nothing: record, store and output stay, byte by byte. docs/EXPORTS.md has the tables of answers,
+ * refusals and sizes. A record is lent by a pointer that is not NULL; the call writes it back.
  * A slice is a pointer and a length in bytes; a slice of length 0 still needs a pointer that is not NULL. Slices that are written may not overlap others.
  */
 #ifndef CUDDREWYN_H
@@ -14,13 +15,19 @@
 extern "C" {
 #endif
 
-/* The version of this header: the layout of its structs and the parameters of its calls. Version 1 had one drain position in the record.
- * The library's function answers it, and the function's own name has it: header and library of two versions do not link. */
-#define CUDDREWYN_ABI 2
-#define cuddrewyn_abi cuddrewyn_abi_2
+/* The version of this header: the layout of its structs and the parameters of its calls. Version 1 had one drain position in the record, version 2
+ * took the record by value. The library's function answers it, and the function's own name has it: header and library of two versions do not link. */
+#define CUDDREWYN_ABI 3
+#define cuddrewyn_abi cuddrewyn_abi_3
 uint32_t cuddrewyn_abi(void);
 /* Asks for that function in every file that includes this header. */
 __attribute__((used)) static uint32_t (*const cuddrewyn_abi_needed)(void) = cuddrewyn_abi;
+
+/* The sizes of the structs below. */
+#define CUDDREWYN_RECORD_SIZE 104
+#define CUDDREWYN_REPLY_SIZE 40
+#define CUDDREWYN_SESSION_REPLY_SIZE 144
+#define CUDDREWYN_PART_SIZE 16
 
 /* Sizes to lend. */
 #define CUDDREWYN_SLOT 2048
@@ -64,16 +71,17 @@ enum {
     CUDDREWYN_FOUND = 8
 };
 
-/* A session's own numbers. epoch_floor is 0 where has_floor is false; drain_positions says of each reader how many pushes of the queue it has drained. */
+/* A session's own numbers. drain_positions says of each reader how many pushes of the queue it has drained. A flag is any byte: 0 says no, all others yes;
+ * a call writes 1 or 0, and an epoch_floor of 0 where has_floor is 0. The five bytes behind the flags hold nothing: a call may change them. */
 typedef struct {
     uint64_t consumer_id;
     uint64_t incarnation;
     uint64_t epoch_floor;
     size_t queue_count;
     size_t drain_positions[CUDDREWYN_READERS];
-    bool has_floor;
-    bool registered;
-    bool invalidated;
+    uint8_t has_floor;
+    uint8_t registered;
+    uint8_t invalidated;
 } cuddrewyn_record;
 
 /* An answer: which it is, the number of a refusal (0: none), how many values come with it, and these. A value that can be negative is a two's complement. */
@@ -173,7 +181,7 @@ enum {
     /* tools/refusals.py: end */
 };
 
-/* The record behind a call, and the call's answer. Keep state in place of the record that you gave. */
+/* The record of a session that is opened, and the answer. */
 typedef struct {
     cuddrewyn_record state;
     cuddrewyn_reply reply;
@@ -192,28 +200,32 @@ cuddrewyn_session_reply cuddrewyn_open(uint64_t consumer_id, uint64_t incarnatio
                                        size_t store_len);
 
 /* A new link to the controller. Touches no store. ACCEPTED; refuses 25 (not above the old incarnation). */
-cuddrewyn_session_reply cuddrewyn_begin(cuddrewyn_record r, uint64_t incarnation);
+cuddrewyn_reply cuddrewyn_begin(cuddrewyn_record *r, uint64_t incarnation);
 
 /* The controller is not to be trusted any more. Touches no store. ACCEPTED. */
-cuddrewyn_session_reply cuddrewyn_invalidate(cuddrewyn_record r);
+cuddrewyn_reply cuddrewyn_invalidate(cuddrewyn_record *r);
 
 /* A push of the controller (CommandScalableTopicAssignmentUpdate). Lend an output of at least 3,210 bytes.
  * DELTA: first is the delta's length in out; the list held stands in the store at CUDDREWYN_LIST. UNCHANGED: it was queued, or is the list held.
  * Refuses 1, 2, 22, 3, 4, 7, 6, 23, 24, 9 to 11, 34, 12 to 15, then 26, 28 or 27. */
-cuddrewyn_session_reply cuddrewyn_update(cuddrewyn_record r, uint8_t *store, size_t store_len, const uint8_t *message, size_t message_len,
-                                         uint64_t incarnation, uint8_t *out, size_t out_len);
+cuddrewyn_reply cuddrewyn_update(cuddrewyn_record *r, uint8_t *store, size_t store_len, const uint8_t *message, size_t message_len, uint64_t incarnation,
+                                 uint8_t *out, size_t out_len);
 
 /* The answer to a registration (CommandScalableTopicSubscribeResponse).
  * ACCEPTED: the baseline stands in the store at CUDDREWYN_BASELINE; each reader drains until UNCHANGED. Refuses 1, 22, 3, 4, 7, 6, 23, 16 or 17,
  * 9 to 11, 34, 12 to 15, 26, 27. */
-cuddrewyn_session_reply cuddrewyn_response(cuddrewyn_record r, uint8_t *store, size_t store_len, const uint8_t *message, size_t message_len,
-                                           uint64_t incarnation);
+cuddrewyn_reply cuddrewyn_response(cuddrewyn_record *r, uint8_t *store, size_t store_len, const uint8_t *message, size_t message_len,
+                                   uint64_t incarnation);
 
 /* The next push of the queue, for one of the readers, that differs from the one before. Lend an output of at least 3,210 bytes. Only that reader's
  * position moves: each is handed every replay.
  * REPLAY: first is the byte place of the list in the store, second the delta's length in out. UNCHANGED: none is left for it. Refuses 1, 2, 33 (reader
  * not below CUDDREWYN_READERS), 22. */
-cuddrewyn_session_reply cuddrewyn_drain_for(cuddrewyn_record r, const uint8_t *store, size_t store_len, size_t reader, uint8_t *out, size_t out_len);
+cuddrewyn_reply cuddrewyn_drain_for(cuddrewyn_record *r, const uint8_t *store, size_t store_len, size_t reader, uint8_t *out, size_t out_len);
+
+/* Whether record and store are a session's, as update, response and drain_for ask first: for those that were kept. Changes nothing. ACCEPTED; refuses
+ * 1, 22. */
+cuddrewyn_reply cuddrewyn_check(cuddrewyn_record r, const uint8_t *store, size_t store_len);
 
 /* Whether the store was opened with these texts and this kind. YES or NO; refuses 1, 22 (the identity slot is malformed). */
 cuddrewyn_reply cuddrewyn_matches_registration(const uint8_t *store, size_t store_len, const uint8_t *topic, size_t topic_len,

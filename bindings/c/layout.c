@@ -7,7 +7,7 @@
 
 #define PLACE(type, field, at) _Static_assert(offsetof(type, field) == (at), #type "." #field)
 
-_Static_assert(sizeof(cuddrewyn_record) == 104, "size of a record");
+_Static_assert(sizeof(cuddrewyn_record) == 104 && CUDDREWYN_RECORD_SIZE == 104, "size of a record");
 PLACE(cuddrewyn_record, consumer_id, 0);
 PLACE(cuddrewyn_record, incarnation, 8);
 PLACE(cuddrewyn_record, epoch_floor, 16);
@@ -17,7 +17,7 @@ PLACE(cuddrewyn_record, drain_positions[7], 88);
 PLACE(cuddrewyn_record, has_floor, 96);
 PLACE(cuddrewyn_record, registered, 97);
 PLACE(cuddrewyn_record, invalidated, 98);
-_Static_assert(sizeof(cuddrewyn_reply) == 40, "size of a reply");
+_Static_assert(sizeof(cuddrewyn_reply) == 40 && CUDDREWYN_REPLY_SIZE == 40, "size of a reply");
 PLACE(cuddrewyn_reply, answer, 0);
 PLACE(cuddrewyn_reply, number, 1);
 PLACE(cuddrewyn_reply, count, 2);
@@ -25,10 +25,10 @@ PLACE(cuddrewyn_reply, first, 8);
 PLACE(cuddrewyn_reply, second, 16);
 PLACE(cuddrewyn_reply, third, 24);
 PLACE(cuddrewyn_reply, fourth, 32);
-_Static_assert(sizeof(cuddrewyn_session_reply) == 144, "size of a session's reply");
+_Static_assert(sizeof(cuddrewyn_session_reply) == 144 && CUDDREWYN_SESSION_REPLY_SIZE == 144, "size of a session's reply");
 PLACE(cuddrewyn_session_reply, state, 0);
 PLACE(cuddrewyn_session_reply, reply, 104);
-_Static_assert(sizeof(cuddrewyn_part) == 16, "size of a part");
+_Static_assert(sizeof(cuddrewyn_part) == 16 && CUDDREWYN_PART_SIZE == 16, "size of a part");
 PLACE(cuddrewyn_part, start, 0);
 PLACE(cuddrewyn_part, length, 8);
 _Static_assert(CUDDREWYN_FULL_STORE == CUDDREWYN_QUEUE + 1024 * (CUDDREWYN_QUEUE_LENGTH + 2046), "the full store");
@@ -80,29 +80,30 @@ static cuddrewyn_reply four(uint8_t answer, const uint8_t *bytes) {
                              .fourth = bytes[3]};
 }
 
-/* A refused begin gives back the record: each number of its own, each flag by itself. */
+/* A refused begin leaves the record, whatever the bytes of its flags; an invalidation writes it: each number of its own, each flag by itself, as 1 or 0. */
 static void records(void) {
     for (int flags = 0; flags < 8; flags++) {
         cuddrewyn_record given = {.consumer_id = 0x0102030405060708,
                                   .incarnation = 0x1112131415161718,
-                                  .epoch_floor = flags & 1 ? 0x2122232425262728 : 0,
+                                  .epoch_floor = 0x2122232425262728,
                                   .queue_count = 0x3132333435363738,
-                                  .has_floor = flags & 1,
+                                  .has_floor = flags & 1 ? 0x80 : 0,
                                   .registered = flags & 2,
-                                  .invalidated = flags & 4};
+                                  .invalidated = flags & 4 ? 0xff : 0};
         for (size_t reader = 0; reader < CUDDREWYN_READERS; reader++)
             given.drain_positions[reader] = 0x4142434445464748 + reader;
-        cuddrewyn_session_reply got = cuddrewyn_begin(given, 5);
-        check_record(got.state, given);
-        check_reply(got.reply, refused(25, 2, 5, given.incarnation, 0, 0));
+        cuddrewyn_record r = given;
+        check_reply(cuddrewyn_begin(&r, 5), refused(25, 2, 5, given.incarnation, 0, 0));
+        check_record(r, given);
 
-        got = cuddrewyn_invalidate(given);
+        check_reply(cuddrewyn_invalidate(&r), plain(CUDDREWYN_ACCEPTED));
+        given.has_floor = flags & 1;
+        given.epoch_floor = flags & 1 ? given.epoch_floor : 0;
         given.queue_count = 0;
         memset(given.drain_positions, 0, sizeof given.drain_positions);
-        given.registered = false;
-        given.invalidated = true;
-        check_record(got.state, given);
-        check_reply(got.reply, plain(CUDDREWYN_ACCEPTED));
+        given.registered = 0;
+        given.invalidated = 1;
+        check_record(r, given);
     }
 }
 
@@ -111,10 +112,10 @@ static cuddrewyn_record open(void) {
 }
 
 /* An update whose message has memory of just its length. */
-static cuddrewyn_session_reply update(cuddrewyn_record r, const message *m, uint64_t incarnation) {
+static cuddrewyn_reply update(cuddrewyn_record *r, const message *m, uint64_t incarnation) {
     uint8_t *bytes = lend(m->length);
     memcpy(bytes, m->bytes, m->length);
-    cuddrewyn_session_reply got = cuddrewyn_update(r, store, STORE, bytes, m->length, incarnation, out, OUT);
+    cuddrewyn_reply got = cuddrewyn_update(r, store, STORE, bytes, m->length, incarnation, out, OUT);
     free(bytes);
     return got;
 }
@@ -128,27 +129,27 @@ static void replies(void) {
     put_bucket(&outside, 2, 9);
     put_bucket(&outside, 0, 1);
     message bad = update_of(7, 1, &segment), wide = update_of(7, 1, &outside), full = update_of(7, 1, NULL);
-    cuddrewyn_record r = open();
-    cuddrewyn_session_reply got = update(r, &bad, 1);
-    check_reply(got.reply, refused(10, 4, 0x0102030405060708, 1, (uint64_t)-2, (uint64_t)(int64_t)INT32_MIN));
-    check_record(got.state, r);
-    check_reply(update(r, &wide, 1).reply, refused(34, 2, 0x0102030405060708, 1, 0, 0));
-    check_reply(update(r, &full, 1).reply, refused(28, 1, 0, 0, 0, 0));
-    check_reply(update(r, &full, 8).reply, refused(23, 2, 8, 1, 0, 0));
-    got = cuddrewyn_open(7, 1, TOPIC, TOPIC_LEN, TOPIC, 0, TOPIC, 0, 1, store, STORE - 1);
+    cuddrewyn_record r = open(), opened = r;
+    check_reply(update(&r, &bad, 1), refused(10, 4, 0x0102030405060708, 1, (uint64_t)-2, (uint64_t)(int64_t)INT32_MIN));
+    check_reply(update(&r, &wide, 1), refused(34, 2, 0x0102030405060708, 1, 0, 0));
+    check_reply(update(&r, &full, 1), refused(28, 1, 0, 0, 0, 0));
+    check_reply(update(&r, &full, 8), refused(23, 2, 8, 1, 0, 0));
+    check_record(r, opened);
+    cuddrewyn_session_reply got = cuddrewyn_open(7, 1, TOPIC, TOPIC_LEN, TOPIC, 0, TOPIC, 0, 1, store, STORE - 1);
     check_reply(got.reply, refused(1, 0, 0, 0, 0, 0));
     check_record(got.state, (cuddrewyn_record){.consumer_id = 7, .incarnation = 1});
-    check_reply(cuddrewyn_drain_for(r, store, STORE, CUDDREWYN_READERS, out, OUT - 1).reply, refused(2, 0, 0, 0, 0, 0));
-    check_reply(cuddrewyn_drain_for(r, store, STORE, CUDDREWYN_READERS - 1, out, OUT).reply, plain(CUDDREWYN_UNCHANGED));
-    r.drain_positions[7] = 1;
-    check_reply(cuddrewyn_drain_for(r, store, STORE, CUDDREWYN_READERS, out, OUT).reply, refused(33, 0, 0, 0, 0, 0));
-    check_reply(cuddrewyn_drain_for(r, store, STORE, SIZE_MAX, out, OUT).reply, refused(33, 0, 0, 0, 0, 0));
-    got = cuddrewyn_drain_for(r, store, STORE, 0, out, OUT);
-    check_reply(got.reply, refused(22, 0, 0, 0, 0, 0));
-    check_record(got.state, r);
+    check_reply(cuddrewyn_drain_for(&r, store, STORE, CUDDREWYN_READERS, out, OUT - 1), refused(2, 0, 0, 0, 0, 0));
+    check_reply(cuddrewyn_drain_for(&r, store, STORE, CUDDREWYN_READERS - 1, out, OUT), plain(CUDDREWYN_UNCHANGED));
+    check_reply(cuddrewyn_check(r, store, STORE), plain(CUDDREWYN_ACCEPTED));
+    check_reply(cuddrewyn_check(r, store, STORE - 1), refused(1, 0, 0, 0, 0, 0));
+    opened.drain_positions[7] = r.drain_positions[7] = 1;
+    check_reply(cuddrewyn_drain_for(&r, store, STORE, CUDDREWYN_READERS, out, OUT), refused(33, 0, 0, 0, 0, 0));
+    check_reply(cuddrewyn_drain_for(&r, store, STORE, SIZE_MAX, out, OUT), refused(33, 0, 0, 0, 0, 0));
+    check_reply(cuddrewyn_drain_for(&r, store, STORE, 0, out, OUT), refused(22, 0, 0, 0, 0, 0));
+    check_reply(cuddrewyn_check(r, store, STORE), refused(22, 0, 0, 0, 0, 0));
+    check_record(r, opened);
     r.drain_positions[7] = 0;
-    got = cuddrewyn_response(r, store, STORE, (const uint8_t *)"\x08\x2a", 2, 1);
-    check_reply(got.reply, refused(17, 1, 42, 0, 0, 0));
+    check_reply(cuddrewyn_response(&r, store, STORE, (const uint8_t *)"\x08\x2a", 2, 1), refused(17, 1, 42, 0, 0, 0));
 }
 
 static void registrations(void) {

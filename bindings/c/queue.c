@@ -32,10 +32,9 @@ static cuddrewyn_record opened(uint8_t *store, size_t length) {
 static size_t fill(cuddrewyn_record *r, uint8_t *store, size_t length, const message *push, cuddrewyn_reply *refusal) {
     size_t count = 0;
     for (;; count++) {
-        cuddrewyn_session_reply got = cuddrewyn_update(*r, store, length, push->bytes, push->length, r->incarnation, out, sizeof out);
-        *r = got.state;
-        if (got.reply.answer != CUDDREWYN_UNCHANGED) {
-            *refusal = got.reply;
+        cuddrewyn_reply got = cuddrewyn_update(r, store, length, push->bytes, push->length, r->incarnation, out, sizeof out);
+        if (got.answer != CUDDREWYN_UNCHANGED) {
+            *refusal = got;
             return count;
         }
     }
@@ -55,15 +54,15 @@ static void of_64_kib(void) {
         check_reply(refusal, full);
         check_bytes(store + CUDDREWYN_QUEUE, "\0\x5a\0\0\0\0\0\0\0\5\0\2", 12, "the first entry: its length, its epoch, its segments");
         check_bytes(store + CUDDREWYN_QUEUE + 644 * ENTRY, store + CUDDREWYN_QUEUE, ENTRY, "the last entry");
-        r = cuddrewyn_begin(r, incarnation).state;
+        cuddrewyn_begin(&r, incarnation);
     }
     message old = of_ninety(4);
     check_number(fill(&r, store, STORE, &old, &refusal), 645, "pushes of another epoch");
     message response = response_of(1, 4, NULL);
-    r = cuddrewyn_response(r, store, STORE, response.bytes, response.length, r.incarnation).state;
-    cuddrewyn_session_reply got = cuddrewyn_drain_for(r, store, STORE, 0, out, sizeof out);
-    check_reply(got.reply, (cuddrewyn_reply){.answer = CUDDREWYN_REPLAY, .count = 2, .first = 6146, .second = 92});
-    check_reply(cuddrewyn_drain_for(got.state, store, STORE, 0, out, sizeof out).reply, (cuddrewyn_reply){.answer = CUDDREWYN_UNCHANGED});
+    cuddrewyn_response(&r, store, STORE, response.bytes, response.length, r.incarnation);
+    check_reply(cuddrewyn_drain_for(&r, store, STORE, 0, out, sizeof out),
+                (cuddrewyn_reply){.answer = CUDDREWYN_REPLAY, .count = 2, .first = 6146, .second = 92});
+    check_reply(cuddrewyn_drain_for(&r, store, STORE, 0, out, sizeof out), (cuddrewyn_reply){.answer = CUDDREWYN_UNCHANGED});
     free(store);
 }
 

@@ -8,7 +8,7 @@ use std::path::{Path, PathBuf};
 
 const ARCHIVE: &str = "libexport.a";
 /// The function whose name has the version: the layout of the structs and the parameters of the calls.
-const ABI: &[u8] = b"cuddrewyn_abi_2\0";
+const ABI: &[u8] = b"cuddrewyn_abi_3\0";
 
 fn main() {
     println!("cargo::rerun-if-env-changed=CUDDREWYN_LIB");

@@ -36,29 +36,44 @@ pub fn matches(texts: &Texts, store: &mut [u8]) -> Reply {
     spoiled_reply(Call::Matches, reply, &mut [store])
 }
 
+/// A call to which a copy of the record is lent, and what it leaves there.
+fn lent(mut state: Record, call: impl FnOnce(&mut Record) -> Reply) -> SessionReply {
+    let reply = call(&mut state);
+    SessionReply { state, reply }
+}
+
 pub fn begin(record: Record, incarnation: u64) -> SessionReply {
-    spoiled(Call::Begin, unsafe { raw::cuddrewyn_begin(record, incarnation) }, &mut [])
+    spoiled(Call::Begin, lent(record, |record| unsafe { raw::cuddrewyn_begin(record, incarnation) }), &mut [])
 }
 
 pub fn invalidate(record: Record) -> SessionReply {
-    spoiled(Call::Invalidate, unsafe { raw::cuddrewyn_invalidate(record) }, &mut [])
+    spoiled(Call::Invalidate, lent(record, |record| unsafe { raw::cuddrewyn_invalidate(record) }), &mut [])
 }
 
 pub fn update(record: Record, store: &mut [u8], message: &mut [u8], incarnation: u64, out: &mut [u8]) -> SessionReply {
-    let given = unsafe {
+    let given = lent(record, |record| unsafe {
         raw::cuddrewyn_update(record, store.as_mut_ptr(), store.len(), message.as_ptr(), message.len(), incarnation, out.as_mut_ptr(), out.len())
-    };
+    });
     spoiled(Call::Update, given, &mut [store, message, out])
 }
 
 pub fn response(record: Record, store: &mut [u8], message: &mut [u8], incarnation: u64) -> SessionReply {
-    let given = unsafe { raw::cuddrewyn_response(record, store.as_mut_ptr(), store.len(), message.as_ptr(), message.len(), incarnation) };
+    let given = lent(record, |record| unsafe {
+        raw::cuddrewyn_response(record, store.as_mut_ptr(), store.len(), message.as_ptr(), message.len(), incarnation)
+    });
     spoiled(Call::Response, given, &mut [store, message])
 }
 
 pub fn drain(record: Record, store: &mut [u8], reader: usize, out: &mut [u8]) -> SessionReply {
-    let given = unsafe { raw::cuddrewyn_drain_for(record, store.as_ptr(), store.len(), reader, out.as_mut_ptr(), out.len()) };
+    let given = lent(record, |record| unsafe {
+        raw::cuddrewyn_drain_for(record, store.as_ptr(), store.len(), reader, out.as_mut_ptr(), out.len())
+    });
     spoiled(Call::Drain, given, &mut [store, out])
+}
+
+pub fn check(record: Record, store: &mut [u8]) -> Reply {
+    let reply = unsafe { raw::cuddrewyn_check(record, store.as_ptr(), store.len()) };
+    spoiled_reply(Call::Check, reply, &mut [store])
 }
 
 pub fn response_text(message: &mut [u8]) -> Part {

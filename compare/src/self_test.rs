@@ -24,7 +24,7 @@ fn gives(call: Call) -> Gives {
         Call::Response | Call::Drain => Gives::Reply(true, 2),
         Call::Update => Gives::Reply(true, 3),
         Call::KeyForHash | Call::RangeLen | Call::RangeContains | Call::RangeContainsRange | Call::RangeAdjacent => Gives::Reply(false, 0),
-        Call::Matches | Call::KeyInSegment | Call::Charge | Call::SegmentSource | Call::IsOpen | Call::EarliestOpen => Gives::Reply(false, 1),
+        Call::Matches | Call::Check | Call::KeyInSegment | Call::Charge | Call::SegmentSource | Call::IsOpen | Call::EarliestOpen => Gives::Reply(false, 1),
         Call::ChurnPush | Call::ChurnClear | Call::ChurnCurrent => Gives::Reply(false, 1),
         Call::SegmentForKey | Call::CheckLog | Call::SegmentTopic | Call::ParentTopic => Gives::Reply(false, 2),
         Call::Apply | Call::Join | Call::ApplyEitherOrder | Call::JoinEitherOrder | Call::ToPb | Call::Watch => Gives::Reply(false, 3),
@@ -90,9 +90,8 @@ fn places_of_the_order(call: Call) -> Vec<Place> {
 /// The part of a run in whose steps everything that a call gives is tried.
 fn home(call: Call) -> &'static str {
     match call {
-        Call::Open | Call::Matches | Call::Begin | Call::Invalidate | Call::Update | Call::Response | Call::ResponseText | Call::Drain => {
-            SMALL_STORES
-        }
+        Call::Open | Call::Matches | Call::Begin | Call::Invalidate | Call::Update | Call::Response | Call::ResponseText => SMALL_STORES,
+        Call::Drain | Call::Check => SMALL_STORES,
         Call::Apply | Call::Join | Call::ToPb => LISTS,
         Call::ApplyEitherOrder | Call::JoinEitherOrder => EITHER_ORDER,
         Call::SegmentForKey | Call::KeyForHash | Call::KeyInSegment => KEYS,

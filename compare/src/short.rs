@@ -1,6 +1,6 @@
 //! All short messages, and all short contents of a message's parts.
 use crate::model::identity::Texts;
-use crate::model::session::SLOT;
+use crate::model::session::{SLOT, is_set};
 use crate::rng::Rng;
 use crate::session::script::{CONSUMER, TOPIC};
 use crate::session::stage::{Ask, ROOM, Stage};
@@ -162,10 +162,10 @@ impl Short {
             Watch => return self.check_watch(tally, &message),
         };
         self.stage.ask(tally, &ask, self.twin.as_mut());
-        if self.stage.record.registered || self.stage.record.queue_count > 0 {
+        if is_set(self.stage.record.registered) || self.stage.record.queue_count > 0 {
             self.stage.ask(tally, &Ask::Invalidate, self.twin.as_mut());
         }
-        if self.stage.record.has_floor && self.rng.one_in(64) {
+        if is_set(self.stage.record.has_floor) && self.rng.one_in(64) {
             self.reopen(tally);
         }
     }

@@ -106,9 +106,9 @@ pub fn spoil_state(call: Call, state: &mut Record) {
         1 => state.incarnation ^= 1,
         2 => state.epoch_floor ^= 1,
         3 => state.queue_count ^= 1,
-        4 => state.has_floor ^= true,
-        5 => state.registered ^= true,
-        6 => state.invalidated ^= true,
+        4 => state.has_floor ^= 1,
+        5 => state.registered ^= 1,
+        6 => state.invalidated ^= 1,
         _ => state.drain_positions[k - POSITIONS] ^= 1,
     }
     ARMED.set(None);

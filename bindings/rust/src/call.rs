@@ -1,8 +1,8 @@
 //! The exported functions over slices. Every unsafe block of the crate stands here.
 //!
-//! What the functions ask of a caller is little (docs/EXPORTS.md): a slice's pointer is not null and good for its length, and a slice that is
-//! written overlaps no other. Rust's references give both: a reference is never null, not even that of an empty slice, and `&mut` is exclusive.
-//! Every number and every byte is allowed; no pointer is kept behind the call, and nothing outside the slices is written.
+//! What the functions ask of a caller is little (docs/EXPORTS.md): a slice's pointer is not null and good for its length, a record's is one to
+//! a record, and what is written overlaps nothing else. Rust's references give all: a reference is never null, not even that of an empty slice,
+//! and `&mut` is exclusive. Every number and every byte is allowed; no pointer is kept behind the call, and nothing but what is lent is written.
 
 use crate::raw::{self, Part, Record, Reply, SessionReply};
 
@@ -39,18 +39,18 @@ pub(crate) fn open(consumer_id: u64, incarnation: u64, identity: Identity<'_>, s
     }
 }
 
-pub(crate) fn begin(record: Record, incarnation: u64) -> SessionReply {
-    // SAFETY: numbers alone; any are allowed.
+pub(crate) fn begin(record: &mut Record, incarnation: u64) -> Reply {
+    // SAFETY: a live reference to a record, which is exclusive; any numbers are allowed.
     unsafe { raw::cuddrewyn_begin(record, incarnation) }
 }
 
-pub(crate) fn invalidate(record: Record) -> SessionReply {
-    // SAFETY: numbers alone; any are allowed.
+pub(crate) fn invalidate(record: &mut Record) -> Reply {
+    // SAFETY: a live reference to a record, which is exclusive; any numbers are allowed.
     unsafe { raw::cuddrewyn_invalidate(record) }
 }
 
-pub(crate) fn update(record: Record, store: &mut [u8], message: &[u8], incarnation: u64, out: &mut [u8]) -> SessionReply {
-    // SAFETY: three slices as pointer and length of live references; `store` and `out`, which are written, are exclusive.
+pub(crate) fn update(record: &mut Record, store: &mut [u8], message: &[u8], incarnation: u64, out: &mut [u8]) -> Reply {
+    // SAFETY: a record and three slices of live references; `record`, `store` and `out`, which are written, are exclusive.
     unsafe {
         raw::cuddrewyn_update(
             record,
@@ -65,16 +65,21 @@ pub(crate) fn update(record: Record, store: &mut [u8], message: &[u8], incarnati
     }
 }
 
-pub(crate) fn response(record: Record, store: &mut [u8], message: &[u8], incarnation: u64) -> SessionReply {
-    // SAFETY: two slices as pointer and length of live references; `store`, the only one written, is exclusive.
+pub(crate) fn response(record: &mut Record, store: &mut [u8], message: &[u8], incarnation: u64) -> Reply {
+    // SAFETY: a record and two slices of live references; `record` and `store`, which are written, are exclusive.
     unsafe {
         raw::cuddrewyn_response(record, store.as_mut_ptr(), store.len(), message.as_ptr(), message.len(), incarnation)
     }
 }
 
-pub(crate) fn drain_for(record: Record, store: &[u8], reader: usize, out: &mut [u8]) -> SessionReply {
-    // SAFETY: two slices as pointer and length of live references; `out`, the only one written, is exclusive.
+pub(crate) fn drain_for(record: &mut Record, store: &[u8], reader: usize, out: &mut [u8]) -> Reply {
+    // SAFETY: a record and two slices of live references; `record` and `out`, which are written, are exclusive.
     unsafe { raw::cuddrewyn_drain_for(record, store.as_ptr(), store.len(), reader, out.as_mut_ptr(), out.len()) }
+}
+
+pub(crate) fn check(record: Record, store: &[u8]) -> Reply {
+    // SAFETY: a slice as pointer and length of a live reference; it is not written.
+    unsafe { raw::cuddrewyn_check(record, store.as_ptr(), store.len()) }
 }
 
 pub(crate) fn matches_registration(store: &[u8], identity: Identity<'_>) -> Reply {

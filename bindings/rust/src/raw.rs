@@ -1,12 +1,12 @@
 //! The exported functions as they are: numbers, pointers and plain structs. docs/EXPORTS.md says what each takes and answers.
 
 /// The version of the structs' layout and of the calls' parameters.
-pub const ABI: u32 = 2;
+pub const ABI: u32 = 3;
 
 /// How many readers the replays have.
 pub const READERS: usize = 8;
 
-/// A session's record.
+/// A session's record. A flag is any byte: 0 says no, all others yes; a call writes 1 or 0.
 #[repr(C)]
 #[derive(Clone, Copy, Debug, Default, PartialEq, Eq)]
 pub struct Record {
@@ -17,9 +17,9 @@ pub struct Record {
     pub queue_count: usize,
     /// How many pushes of the queue each reader has drained.
     pub drain_positions: [usize; READERS],
-    pub has_floor: bool,
-    pub registered: bool,
-    pub invalidated: bool,
+    pub has_floor: u8,
+    pub registered: u8,
+    pub invalidated: u8,
 }
 
 /// Which answer it is, the number of a refusal (0: none), and the values that come with it.
@@ -35,7 +35,7 @@ pub struct Reply {
     pub fourth: u64,
 }
 
-/// What a call of a session gives: the record as it is then, and the answer.
+/// What an open gives: the session's record, and the answer.
 #[repr(C)]
 #[derive(Clone, Copy, Debug, Default, PartialEq, Eq)]
 pub struct SessionReply {
@@ -63,7 +63,7 @@ pub const FOUND: u8 = 8;
 
 unsafe extern "C" {
     /// Answers [`ABI`]. The symbol's name has it too: an archive of another version does not link.
-    #[link_name = "cuddrewyn_abi_2"]
+    #[link_name = "cuddrewyn_abi_3"]
     pub fn cuddrewyn_abi() -> u32;
     pub fn cuddrewyn_open(
         consumer_id: u64,
@@ -78,10 +78,10 @@ unsafe extern "C" {
         store: *mut u8,
         store_len: usize,
     ) -> SessionReply;
-    pub fn cuddrewyn_begin(r: Record, incarnation: u64) -> SessionReply;
-    pub fn cuddrewyn_invalidate(r: Record) -> SessionReply;
+    pub fn cuddrewyn_begin(r: *mut Record, incarnation: u64) -> Reply;
+    pub fn cuddrewyn_invalidate(r: *mut Record) -> Reply;
     pub fn cuddrewyn_update(
-        r: Record,
+        r: *mut Record,
         store: *mut u8,
         store_len: usize,
         message: *const u8,
@@ -89,23 +89,24 @@ unsafe extern "C" {
         incarnation: u64,
         out: *mut u8,
         out_len: usize,
-    ) -> SessionReply;
+    ) -> Reply;
     pub fn cuddrewyn_response(
-        r: Record,
+        r: *mut Record,
         store: *mut u8,
         store_len: usize,
         message: *const u8,
         message_len: usize,
         incarnation: u64,
-    ) -> SessionReply;
+    ) -> Reply;
     pub fn cuddrewyn_drain_for(
-        r: Record,
+        r: *mut Record,
         store: *const u8,
         store_len: usize,
         reader: usize,
         out: *mut u8,
         out_len: usize,
-    ) -> SessionReply;
+    ) -> Reply;
+    pub fn cuddrewyn_check(r: Record, store: *const u8, store_len: usize) -> Reply;
     pub fn cuddrewyn_matches_registration(
         store: *const u8,
         store_len: usize,

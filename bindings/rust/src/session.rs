@@ -9,9 +9,6 @@ use crate::types::{ControllerIncarnation, Reader, ScalableConsumerType};
 use crate::views::{AssignmentDelta, ConsumerAssignment, front, known};
 use crate::{BASELINE, LIST};
 
-/// A message that no reader accepts: a varint that ends early. A call that is given it tests store and record, then refuses 3.
-pub(crate) const BROKEN: &[u8] = &[0xff];
-
 /// One queued push that changed the list, handed out after the response.
 #[derive(Debug, Clone, Copy, PartialEq, Eq)]
 pub struct AssignmentReplay<'a> {
@@ -61,13 +58,13 @@ impl<'s> ScalableConsumerSession<'s> {
     /// # Errors
     ///
     /// [`AssignmentError::StoreTooShort`] (1); [`AssignmentError::MalformedStore`] (22) where a slot in use is malformed or a count of the
-    /// record is beyond what it counts. The proved library makes this test, and the store is left as it was. [`Self::resume`] asks less of
-    /// the store. The session's other calls are never refused so: nothing else can write to a store that is lent.
+    /// record is beyond what it counts. The proved library makes this test (`cuddrewyn_check`). [`Self::resume`] asks less of the store. The
+    /// session's other calls are never refused so: nothing else can write to a store that is lent.
     pub fn from_parts(record: Record, store: &'s mut [u8]) -> Result<Self, AssignmentError<'static>> {
-        let SessionReply { state, reply } = call::response(record, store, BROKEN, record.incarnation);
-        match AssignmentError::from_reply(reply, "") {
-            AssignmentError::InvalidWireFormat => Ok(Self { record: state, store }),
-            refusal => Err(refusal),
+        let reply = call::check(record, store);
+        match reply.answer {
+            raw::ACCEPTED => Ok(Self { record, store }),
+            _ => Err(AssignmentError::from_reply(reply, "")),
         }
     }
 
@@ -82,9 +79,10 @@ impl<'s> ScalableConsumerSession<'s> {
         store: &'s mut [u8],
         incarnation: ControllerIncarnation,
     ) -> Result<Self, AssignmentError<'static>> {
-        let SessionReply { state, reply } = call::begin(record, incarnation.0);
+        let mut record = record;
+        let reply = call::begin(&mut record, incarnation.0);
         match reply.answer {
-            raw::ACCEPTED => Self::from_parts(state, store),
+            raw::ACCEPTED => Self::from_parts(record, store),
             _ => Err(AssignmentError::from_reply(reply, "")),
         }
     }
@@ -122,19 +120,19 @@ impl<'s> ScalableConsumerSession<'s> {
     /// The highest epoch that was ever accepted, over all incarnations.
     #[must_use]
     pub const fn epoch_floor(&self) -> Option<u64> {
-        if self.record.has_floor { Some(self.record.epoch_floor) } else { None }
+        if self.record.has_floor != 0 { Some(self.record.epoch_floor) } else { None }
     }
 
     /// True from an accepted response on, until the session begins anew or is invalidated.
     #[must_use]
     pub const fn is_registered(&self) -> bool {
-        self.record.registered
+        self.record.registered != 0
     }
 
     /// True from [`Self::invalidate_authority`] on, until the session begins anew. A response does not clear it.
     #[must_use]
     pub const fn is_invalidated(&self) -> bool {
-        self.record.invalidated
+        self.record.invalidated != 0
     }
 
     /// The list held, or `None` while the session is not registered. It stands in the store.
@@ -152,7 +150,7 @@ impl<'s> ScalableConsumerSession<'s> {
     }
 
     fn list_in_slot(&self, place: usize) -> Option<ConsumerAssignment<'_>> {
-        if !self.record.registered {
+        if !self.is_registered() {
             return None;
         }
         list_at(self.store, place)
@@ -177,8 +175,7 @@ impl<'s> ScalableConsumerSession<'s> {
     ///
     /// [`AssignmentError::NonAdvancingIncarnation`] (25) unless `incarnation` is above the present one; nothing is then given up.
     pub fn begin_incarnation(&mut self, incarnation: ControllerIncarnation) -> Result<(), AssignmentError<'static>> {
-        let SessionReply { state, reply } = call::begin(self.record, incarnation.0);
-        self.record = state;
+        let reply = call::begin(&mut self.record, incarnation.0);
         match reply.answer {
             raw::ACCEPTED => Ok(()),
             _ => Err(AssignmentError::from_reply(reply, "")),
@@ -187,7 +184,7 @@ impl<'s> ScalableConsumerSession<'s> {
 
     /// The controller is not to be trusted any more. The list is given up, the queue emptied, the floor kept. Never refused.
     pub fn invalidate_authority(&mut self) {
-        self.record = call::invalidate(self.record).state;
+        call::invalidate(&mut self.record);
     }
 
     /// The answer to the registration, on the present connection; see [`Self::handle_subscribe_response_for`].
@@ -215,8 +212,7 @@ impl<'s> ScalableConsumerSession<'s> {
         incarnation: ControllerIncarnation,
         message: &'m [u8],
     ) -> Result<ConsumerAssignment<'_>, AssignmentError<'m>> {
-        let SessionReply { state, reply } = call::response(self.record, self.store, message, incarnation.0);
-        self.record = state;
+        let reply = call::response(&mut self.record, self.store, message, incarnation.0);
         match reply.answer {
             raw::ACCEPTED => known(self.baseline(), reply),
             _ if reply.number == 16 => {
@@ -255,8 +251,7 @@ impl<'s> ScalableConsumerSession<'s> {
         message: &[u8],
         out: &'o mut [u8],
     ) -> Result<Option<AssignmentDelta<'o>>, AssignmentError<'static>> {
-        let SessionReply { state, reply } = call::update(self.record, self.store, message, incarnation.0, out);
-        self.record = state;
+        let reply = call::update(&mut self.record, self.store, message, incarnation.0, out);
         match reply.answer {
             raw::UNCHANGED => Ok(None),
             raw::DELTA => known(front(out, reply.first).and_then(AssignmentDelta::whole), reply).map(Some),
@@ -292,8 +287,7 @@ impl<'s> ScalableConsumerSession<'s> {
         reader: Reader,
         out: &'a mut [u8],
     ) -> Result<Option<AssignmentReplay<'a>>, AssignmentError<'static>> {
-        let SessionReply { state, reply } = call::drain_for(self.record, self.store, reader.number(), out);
-        self.record = state;
+        let reply = call::drain_for(&mut self.record, self.store, reader.number(), out);
         match reply.answer {
             raw::UNCHANGED => Ok(None),
             raw::REPLAY => {

@@ -6,8 +6,11 @@ use core::fmt;
 use crate::call;
 use crate::error::{own_text, signed, unknown};
 use crate::raw::{self, Reply};
-use crate::session::{BROKEN, text_in};
+use crate::session::text_in;
 use crate::views::{front, take_part, take_u16};
+
+/// A message that no reader accepts: a varint that ends early. A watch that is given it tests its set, then refuses 3.
+const BROKEN: &[u8] = &[0xff];
 
 /// Topics packed one behind the other, in rising byte order: each a 16-bit length and its text.
 #[derive(Clone, Copy, PartialEq, Eq, Default)]

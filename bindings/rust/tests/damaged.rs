@@ -119,7 +119,7 @@ fn random_stores_and_records() {
         let numbers = [0, 1, 2, 3, 4, usize::MAX];
         record.queue_count = numbers[random.below(6)];
         record.drain_positions[random.below(Reader::COUNT)] = numbers[random.below(6)];
-        record.has_floor = random.below(2) == 0;
+        record.has_floor = random.below(3) as u8;
         record.epoch_floor = random.next();
         exercise(record, &mut store);
         let length = random.below(3 * SLOT + 10);
@@ -150,9 +150,13 @@ fn counts_beyond_the_queue() {
 #[test]
 fn a_floor_that_is_unset_has_no_number() {
     let (record, mut store) = sound(false);
-    let given = Record { has_floor: false, epoch_floor: 5, ..record };
-    let session = ScalableConsumerSession::from_parts(given, &mut store).unwrap();
-    assert_eq!((session.epoch_floor(), session.record()), (None, Record { has_floor: false, epoch_floor: 0, ..record }));
+    let given = Record { has_floor: 0, epoch_floor: 5, ..record };
+    let mut session = ScalableConsumerSession::from_parts(given, &mut store).unwrap();
+    // A refusal leaves the record as it is; a call that is taken writes it.
+    assert!(session.begin_incarnation(ControllerIncarnation(1)).is_err());
+    assert_eq!((session.epoch_floor(), session.record()), (None, given));
+    session.invalidate_authority();
+    assert_eq!((session.epoch_floor(), session.record().epoch_floor), (None, 0));
 }
 
 #[test]

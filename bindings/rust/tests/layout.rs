@@ -38,32 +38,32 @@ fn sizes_and_offsets() {
     assert_eq!([size_of::<Part>(), offset_of!(Part, start), offset_of!(Part, length)], [16, 0, 8]);
 }
 
-/// A refused begin gives the record back: each number of its own, and each flag alone.
+/// A refused begin leaves the record, whatever the bytes of its flags; an invalidation writes it: each number of its own, and each flag alone.
 #[test]
 fn every_field_of_a_record() {
-    for (has_floor, registered, invalidated) in
-        [(true, false, false), (true, true, false), (true, false, true), (false, true, true)]
-    {
+    for (has_floor, registered, invalidated) in [(1, 0, 0), (2, 1, 0), (0x80, 0, 1), (0, 0xff, 0xff)] {
         let given = Record {
             consumer_id: 0x0101_0202_0303_0404,
             incarnation: 0x1111_2222_3333_4444,
-            epoch_floor: if has_floor { 0x2121_2222_2323_2424 } else { 0 },
+            epoch_floor: 0x2121_2222_2323_2424,
             queue_count: 0x3131_3232_3333_3434,
             drain_positions: core::array::from_fn(|reader| 0x4141_4242_4343_4444 + reader),
             has_floor,
             registered,
             invalidated,
         };
-        // SAFETY: numbers alone.
-        let SessionReply { state, reply } = unsafe { cuddrewyn_begin(given, 5) };
-        assert_eq!(state, given);
+        let mut record = given;
+        // SAFETY: a record of its own.
+        let reply = unsafe { cuddrewyn_begin(&mut record, 5) };
+        assert_eq!(record, given);
         let expected =
             Reply { answer: REFUSED, number: 25, count: 2, first: 5, second: given.incarnation, third: 0, fourth: 0 };
         assert_eq!(reply, expected);
-        // SAFETY: numbers alone.
-        let SessionReply { state, reply } = unsafe { cuddrewyn_invalidate(given) };
-        let ended = Record { queue_count: 0, drain_positions: [0; READERS], registered: false, invalidated: true, ..given };
-        assert_eq!((state, reply), (ended, Reply { answer: ACCEPTED, ..Reply::default() }));
+        // SAFETY: a record of its own.
+        let reply = unsafe { cuddrewyn_invalidate(&mut record) };
+        let (has_floor, epoch_floor) = if has_floor == 0 { (0, 0) } else { (1, given.epoch_floor) };
+        let ended = Record { queue_count: 0, drain_positions: [0; READERS], registered: 0, invalidated: 1, has_floor, epoch_floor, ..given };
+        assert_eq!((record, reply), (ended, Reply { answer: ACCEPTED, ..Reply::default() }));
     }
 }
 
@@ -79,16 +79,18 @@ fn open(store: &mut [u8]) -> Record {
 #[test]
 fn every_value_of_a_reply() {
     let (mut store, mut out) = (vec![0; 6_144], vec![0; 3_210]);
-    let record = open(&mut store);
+    let opened = open(&mut store);
+    let mut record = opened;
     let id = 0x0102_0304_0506_0708;
     let message = update(1, &[segment(id, 0, 9, &[(0, 1), (2, 3), (-2, i32::MIN)])]);
     let (store, store_len) = (store.as_mut_ptr(), store.len());
     let (out, out_len) = (out.as_mut_ptr(), out.len());
-    // SAFETY: pointers and lengths of live slices; store and output are exclusive.
-    let refused = unsafe { cuddrewyn_update(record, store, store_len, message.as_ptr(), message.len(), 1, out, out_len) };
+    let (bytes, length) = (message.as_ptr(), message.len());
+    // SAFETY: pointers and lengths of live slices; record, store and output are exclusive.
+    let reply = unsafe { cuddrewyn_update(&mut record, store, store_len, bytes, length, 1, out, out_len) };
     let (third, fourth) = (-2_i64 as u64, i32::MIN as i64 as u64);
-    assert_eq!(refused.reply, Reply { answer: REFUSED, number: 10, count: 4, first: id, second: 2, third, fourth });
-    assert_eq!(refused.state, record);
+    assert_eq!(reply, Reply { answer: REFUSED, number: 10, count: 4, first: id, second: 2, third, fourth });
+    assert_eq!(record, opened);
 }
 
 #[test]

@@ -60,21 +60,34 @@ pub fn fresh(consumer_id: u64, incarnation: u64) -> Record {
     Record { consumer_id, incarnation, ..Record::default() }
 }
 
-/// A record without a floor has the number 0 there.
+/// A flag is any byte: all but 0 say yes.
+pub fn is_set(flag: u8) -> bool {
+    flag != 0
+}
+
+/// The record as a call writes it: its flags are 1 or 0, and without a floor there is the number 0.
 pub fn normal(record: Record) -> Record {
-    Record { epoch_floor: if record.has_floor { record.epoch_floor } else { 0 }, ..record }
+    let [has_floor, registered, invalidated] = [record.has_floor, record.registered, record.invalidated].map(|flag| u8::from(is_set(flag)));
+    let epoch_floor = if is_set(has_floor) { record.epoch_floor } else { 0 };
+    Record { epoch_floor, has_floor, registered, invalidated, ..record }
 }
 
 fn with_floor(record: Record, floor: u64) -> Record {
-    Record { has_floor: true, epoch_floor: floor, ..record }
+    normal(Record { has_floor: 1, epoch_floor: floor, ..record })
 }
 
 fn higher_floor(record: &Record, epoch: u64) -> u64 {
-    if record.has_floor { record.epoch_floor.max(epoch) } else { epoch }
+    if is_set(record.has_floor) { record.epoch_floor.max(epoch) } else { epoch }
 }
 
+/// A call that is taken, and writes nothing but the record.
 fn unchanged(record: &Record, reply: Reply) -> Prediction {
     Prediction { reply, state: normal(*record), writes: Vec::new(), out: Vec::new() }
+}
+
+/// A call that is refused: the record stays, byte by byte.
+fn left(record: &Record, reply: Reply) -> Prediction {
+    Prediction { reply, state: *record, writes: Vec::new(), out: Vec::new() }
 }
 
 /// The slots in use.
@@ -105,7 +118,7 @@ fn in_use<'a>(record: &Record, store: &'a [u8]) -> Option<Slots<'a>> {
     if record.queue_count > QUEUE_MOST || record.drain_positions.iter().any(|position| *position > record.queue_count) {
         return None;
     }
-    let held = if record.registered { Some((sheet(BASELINE)?, sheet(LIST)?)) } else { None };
+    let held = if is_set(record.registered) { Some((sheet(BASELINE)?, sheet(LIST)?)) } else { None };
     let queue = Queue::read(store, record.queue_count)?;
     Some(Slots { topic, held, queue })
 }
@@ -141,12 +154,12 @@ fn same_incarnation(record: &Record, incarnation: u64) -> Result<(), Reply> {
 }
 
 fn above_floor(record: &Record, epoch: u64) -> Result<(), Reply> {
-    let below = record.has_floor && epoch < record.epoch_floor;
+    let below = is_set(record.has_floor) && epoch < record.epoch_floor;
     if below { Err(refused(26, &[epoch, record.epoch_floor])) } else { Ok(()) }
 }
 
 pub fn update(record: &Record, store: &[u8], message: &[u8], incarnation: u64, room: usize) -> Prediction {
-    updated(record, store, message, incarnation, room).unwrap_or_else(|reply| unchanged(record, reply))
+    updated(record, store, message, incarnation, room).unwrap_or_else(|reply| left(record, reply))
 }
 
 fn updated(record: &Record, store: &[u8], message: &[u8], incarnation: u64, room: usize) -> Result<Prediction, Reply> {
@@ -192,7 +205,7 @@ fn queued(record: &Record, free: usize, end: usize, incoming: &Sheet) -> Result<
 }
 
 pub fn response(record: &Record, store: &[u8], message: &[u8], incarnation: u64) -> Prediction {
-    responded(record, store, message, incarnation).unwrap_or_else(|reply| unchanged(record, reply))
+    responded(record, store, message, incarnation).unwrap_or_else(|reply| left(record, reply))
 }
 
 fn responded(record: &Record, store: &[u8], message: &[u8], incarnation: u64) -> Result<Prediction, Reply> {
@@ -205,7 +218,7 @@ fn responded(record: &Record, store: &[u8], message: &[u8], incarnation: u64) ->
     };
     let baseline = content(&assignment, slots.topic)?;
     above_floor(record, baseline.epoch)?;
-    let replayed = if record.registered { &[][..] } else { &slots.queue.entries[..] };
+    let replayed = if is_set(record.registered) { &[][..] } else { &slots.queue.entries[..] };
     let mut last = &baseline;
     for (_, entry) in replayed {
         if entry.epoch < last.epoch {
@@ -213,7 +226,7 @@ fn responded(record: &Record, store: &[u8], message: &[u8], incarnation: u64) ->
         }
         last = entry;
     }
-    let state = Record { registered: true, drain_positions: [0; READERS], queue_count: replayed.len(), ..*record };
+    let state = Record { registered: 1, drain_positions: [0; READERS], queue_count: replayed.len(), ..*record };
     Ok(Prediction {
         reply: taken(raw::ACCEPTED, &[]),
         state: with_floor(state, higher_floor(record, last.epoch)),
@@ -223,7 +236,7 @@ fn responded(record: &Record, store: &[u8], message: &[u8], incarnation: u64) ->
 }
 
 pub fn drain(record: &Record, store: &[u8], reader: usize, room: usize) -> Prediction {
-    drained(record, store, reader, room).unwrap_or_else(|reply| unchanged(record, reply))
+    drained(record, store, reader, room).unwrap_or_else(|reply| left(record, reply))
 }
 
 /// 1, 2, 33, 22; then the next change from the reader's own position on.
@@ -251,17 +264,23 @@ fn drained(record: &Record, store: &[u8], reader: usize, room: usize) -> Result<
 }
 
 fn unregistered(record: &Record, incarnation: u64, invalidated: bool) -> Prediction {
-    let state = Record { incarnation, invalidated, registered: false, queue_count: 0, drain_positions: [0; READERS], ..*record };
+    let state = Record { incarnation, invalidated: u8::from(invalidated), registered: 0, queue_count: 0, drain_positions: [0; READERS], ..*record };
     unchanged(&state, taken(raw::ACCEPTED, &[]))
 }
 
 pub fn begin(record: &Record, incarnation: u64) -> Prediction {
     if incarnation <= record.incarnation {
-        return unchanged(record, refused(25, &[incarnation, record.incarnation]));
+        return left(record, refused(25, &[incarnation, record.incarnation]));
     }
     unregistered(record, incarnation, false)
 }
 
 pub fn invalidate(record: &Record) -> Prediction {
     unregistered(record, record.incarnation, true)
+}
+
+/// 1, then 22.
+pub fn check(record: &Record, store: &[u8]) -> Prediction {
+    let checked = long_enough(store, None).and_then(|()| slots(record, store));
+    left(record, checked.map_or_else(|reply| reply, |_| taken(raw::ACCEPTED, &[])))
 }

@@ -48,6 +48,9 @@ fn length(rng: &mut Rng) -> usize {
     }
 }
 
+/// Bytes of a flag: 0 says no, all others yes.
+const FLAGS: &[u8] = &[0, 0, 1, 1, 2, 0x80, 0xff];
+
 /// A record over a queue of so many entries.
 fn record(entries: usize, rng: &mut Rng) -> Record {
     let queue_count = if rng.one_in(12) { rng.pick(&[entries + 1, entries + 2, 1024, 1025, usize::MAX, 1 << 32]) } else { rng.below(entries + 1) };
@@ -62,9 +65,9 @@ fn record(entries: usize, rng: &mut Rng) -> Record {
         epoch_floor: floor,
         queue_count,
         drain_positions,
-        has_floor: !rng.one_in(3),
-        registered: !rng.one_in(3),
-        invalidated: rng.one_in(3),
+        has_floor: rng.pick(FLAGS),
+        registered: rng.pick(FLAGS),
+        invalidated: rng.pick(FLAGS),
     }
 }
 
@@ -156,6 +159,7 @@ fn ask(stage: &Stage, world: &mut World, rng: &mut Rng) -> Ask {
         6..8 => Ask::Drain { reader: if rng.one_in(12) { rng.pick(&[READERS, usize::MAX]) } else { rng.below(READERS) }, room },
         8 if rng.one_in(3) => Ask::Begin { incarnation: rng.pick(&[0, 1, 2, u64::MAX]) },
         8 if rng.one_in(3) => Ask::Invalidate,
+        8 => Ask::Check,
         _ => {
             let texts = [world.topic.as_bytes().to_vec(), b"s".to_vec(), b"n".to_vec()];
             Ask::Matches(Texts { texts, kind: rng.pick(&[0, 1]) })

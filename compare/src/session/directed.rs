@@ -196,7 +196,7 @@ fn link_traps(tally: &mut Tally, seed: u64) {
     s.expect("floor of an undrained push", Call::Response, given, refused(26, &[8, 9]));
     s.invalidate();
     s.response(&list(9, &[(1, 2, 3)]));
-    s.expect("invalidated stays", Call::Response, taken(u8::from(s.stage.record.invalidated), &[]), taken(1, &[]));
+    s.expect("invalidated stays", Call::Response, taken(s.stage.record.invalidated, &[]), taken(1, &[]));
     let given = s.begin(2);
     s.expect("no advance", Call::Begin, given, refused(25, &[2, 2]));
     s.begin(u64::MAX);

@@ -34,6 +34,7 @@ fn stores(tally: &mut Tally, seed: u64) {
             s.update(&list(epoch, &[(epoch, 0, 1)]));
         }
         s.ask(&Ask::Matches(Texts { texts: [TOPIC, "s", "n"].map(|text| text.as_bytes().to_vec()), kind: 0 }));
+        s.ask(&Ask::Check);
         s.response(&list(1, &[]));
         s.drain_all();
         s.update(&list(4, &[(9, 0, 1)]));
@@ -244,6 +245,7 @@ fn every_call(tally: &mut Tally, stage: &Stage, rng: &mut Rng) {
         Ask::Matches(texts),
         Ask::Begin { incarnation: 2 },
         Ask::Invalidate,
+        Ask::Check,
     ];
     for ask in &asks {
         stage.clone().ask(tally, ask, None);
@@ -268,7 +270,7 @@ fn deep(tally: &mut Tally, seed: u64) {
         for registered in [false, true] {
             for queue_count in [1022, 1023, 1024, 1025, 1026] {
                 let drain_positions = [queue_count - 2; READERS];
-                stage.record = Record { consumer_id: CONSUMER, incarnation: 1, queue_count, drain_positions, registered, ..Default::default() };
+                stage.record = Record { consumer_id: CONSUMER, incarnation: 1, queue_count, drain_positions, registered: u8::from(registered), ..Default::default() };
                 every_call(tally, &stage, &mut rng);
             }
         }

@@ -2,7 +2,7 @@
 use super::twin::{Fed, Twin, answer_differs};
 use crate::model::identity::{self, Texts};
 use crate::model::messages;
-use crate::model::session::{self, LIST, OUT_LEAST, Prediction, QUEUE, Queue, SLOT, Write, fresh};
+use crate::model::session::{self, LIST, OUT_LEAST, Prediction, QUEUE, Queue, SLOT, Write, fresh, is_set};
 use crate::model::sheet::Sheet;
 use crate::ours;
 use crate::raw::{self, Record, SessionReply};
@@ -21,6 +21,7 @@ pub enum Ask {
     Drain { reader: usize, room: usize },
     Begin { incarnation: u64 },
     Invalidate,
+    Check,
     Matches(Texts),
 }
 
@@ -32,6 +33,7 @@ impl Ask {
             Self::Drain { .. } => Call::Drain,
             Self::Begin { .. } => Call::Begin,
             Self::Invalidate => Call::Invalidate,
+            Self::Check => Call::Check,
             Self::Matches(_) => Call::Matches,
         }
     }
@@ -144,7 +146,7 @@ impl Stage {
         let mut message = ask.message().to_vec();
         let given = make(ask, self.record, &mut self.store, &mut message, &mut self.out);
         let due = [&prediction.reply, &given.reply].iter().any(|reply| is_ours(reply));
-        let fed = twin.filter(|_| !due);
+        let fed = twin.filter(|_| !due && !matches!(ask, Ask::Check));
         tally.count(ask.call(), &given.reply, fed.is_some());
         if let Some(at) = ask.again().filter(|_| fed.is_some()) {
             tally.again[at] += 1;
@@ -219,7 +221,7 @@ impl Stage {
             other => format!("{other:?}"),
         };
         let queue = self.show_queue();
-        let held = if self.record.registered { [SLOT, LIST].map(|place| self.show_sheet(place)) } else { [(); 2].map(|()| "none".into()) };
+        let held = if is_set(self.record.registered) { [SLOT, LIST].map(|place| self.show_sheet(place)) } else { [(); 2].map(|()| "none".into()) };
         format!(
             "{with}\n    {:?}\n    store of {} bytes: identity {}, baseline {}, list {}, queue {queue}",
             self.record,
@@ -265,6 +267,7 @@ fn predict(ask: &Ask, record: &Record, store: &[u8]) -> Prediction {
         Ask::Drain { reader, room } => session::drain(record, store, *reader, *room),
         Ask::Begin { incarnation } => session::begin(record, *incarnation),
         Ask::Invalidate => session::invalidate(record),
+        Ask::Check => session::check(record, store),
         Ask::Matches(texts) => Prediction { reply: identity::matches(store, texts), state: *record, writes: Vec::new(), out: Vec::new() },
     }
 }
@@ -278,6 +281,7 @@ fn make(ask: &Ask, record: Record, store: &mut [u8], message: &mut [u8], out: &m
         Ask::Drain { reader, .. } => ours::drain(record, store, *reader, out),
         Ask::Begin { incarnation } => ours::begin(record, *incarnation),
         Ask::Invalidate => ours::invalidate(record),
+        Ask::Check => SessionReply { state: record, reply: ours::check(record, store) },
         Ask::Matches(texts) => SessionReply { state: record, reply: ours::matches(texts, store) },
     }
 }

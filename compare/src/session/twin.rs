@@ -1,7 +1,7 @@
 //! The Rust's session beside ours: fed the same calls, except those that only ours refuses.
 use super::stage::Ask;
 use crate::model::identity::Texts;
-use crate::model::session::LIST;
+use crate::model::session::{LIST, is_set};
 use crate::oracle;
 use crate::raw::{self, Record, Reply};
 use crate::reply::{show, taken};
@@ -74,6 +74,7 @@ impl Twin {
                 self.session.invalidate_authority();
                 Ok(Fed::plain(taken(raw::ACCEPTED, &[])))
             }
+            Ask::Check => Err("the Rust has no store to check".into()),
             Ask::Matches(texts) => Ok(Fed::plain(taken(if self.matches(texts) { raw::YES } else { raw::NO }, &[]))),
         }
     }
@@ -126,8 +127,8 @@ impl Twin {
 
     /// How our record and list differ from the Rust's session.
     pub fn differs(&self, record: &Record, store: &[u8]) -> Option<String> {
-        let floor = record.has_floor.then_some(record.epoch_floor);
-        let ours = (record.registered, record.invalidated, record.incarnation, floor);
+        let floor = is_set(record.has_floor).then_some(record.epoch_floor);
+        let ours = (is_set(record.registered), is_set(record.invalidated), record.incarnation, floor);
         let session = &self.session;
         let theirs = (session.is_registered(), session.is_invalidated(), session.incarnation().0, session.epoch_floor());
         if ours != theirs {
@@ -156,7 +157,7 @@ impl Twin {
         let text = self.text();
         let queue = text.split("buffered_updates: [").nth(1)?.split("replayed_updates: [").next()?;
         let theirs = queue.matches("layout_epoch: ").count();
-        let ours = if record.registered { 0 } else { record.queue_count };
+        let ours = if is_set(record.registered) { 0 } else { record.queue_count };
         (ours != theirs).then(|| format!("queued: ours {ours}, the Rust {theirs}"))
     }
 }

@@ -6,7 +6,7 @@ use super::world::{TOPICS, World};
 use crate::generate::{Assignment, Style, damaged, refusing_response};
 use crate::lists::{AT_LIMIT, size_at_limit};
 use crate::model::identity::Texts;
-use crate::model::session::{SLOT, STORE_FULL, STORE_LEAST};
+use crate::model::session::{SLOT, STORE_FULL, STORE_LEAST, is_set};
 use crate::names::long_path;
 use crate::raw::{self, READERS, Reply};
 use crate::relay;
@@ -184,12 +184,12 @@ impl Walk {
     }
 
     fn floor(&self) -> u64 {
-        if self.stage.record.has_floor { self.stage.record.epoch_floor } else { 3 }
+        if is_set(self.stage.record.has_floor) { self.stage.record.epoch_floor } else { 3 }
     }
 
     /// The epoch below which a push would be stale: the last push's while there is a queue, else the floor.
     fn behind(&self) -> u64 {
-        let queued = !self.stage.record.registered && self.stage.record.queue_count > 0;
+        let queued = !is_set(self.stage.record.registered) && self.stage.record.queue_count > 0;
         if queued { self.pushed.max(self.floor()) } else { self.floor() }
     }
 
@@ -302,15 +302,16 @@ impl Walk {
     fn next(&mut self) -> Ask {
         let record = self.stage.record;
         if self.rng.one_in(self.patience) {
-            match self.rng.below(if record.registered { 40 } else { 12 }) {
+            match self.rng.below(if is_set(record.registered) { 40 } else { 12 }) {
                 0 if self.rng.one_in(2) => return self.begin(),
                 0 => return Ask::Invalidate,
                 1 | 2 => return self.response(),
                 _ => {}
             }
         }
-        let replays = record.registered && record.drain_positions.iter().any(|position| *position < record.queue_count);
+        let replays = is_set(record.registered) && record.drain_positions.iter().any(|position| *position < record.queue_count);
         match self.rng.below(30) {
+            0 if self.rng.one_in(4) => Ask::Check,
             0 => self.matches(),
             1..3 => self.drain(),
             3..20 if replays => self.drain(),

@@ -14,4 +14,5 @@ pub use print::quoted;
 pub use print::space;
 pub use print::text;
 pub use refusals::refused;
+pub use refusals::refused_reply;
 pub use refusals::values;

@@ -45,6 +45,14 @@ pub fn values(r: Reply, with_signs: bool) {
     }
 }
 
+// `refused N NAME V1 V2 ..` of a session's reply that is a refusal
+pub fn refused_reply(r: Reply) {
+    labelled(b"refused ", r.number as u64);
+    space();
+    named(r.number as usize);
+    values(r, true);
+}
+
 // `refused N NAME V1 V2 ..`
 pub fn refused(x: Refusal) {
     let r = reply::refused(x);

@@ -1,4 +1,4 @@
--- What an exported call gives, from what the call under it gives and its answer in numbers: with an output, with a window, with a record, an opening, a log, a kind.
+-- What an exported call gives, from what the call under it gives and its answer in numbers: with an output, with a window, an opening, a log, a kind.
 -- Assumes nothing.
 use Prim.Native.Nat.{ℕ}
 use native.Mathlib.Omega.{arith}
@@ -21,23 +21,20 @@ use Rattle.log_entries.specs.declared.LogAnswer.{LogAnswer}
 use Rattle.log_entries.specs.Passes.{Checked}
 use Rattle.session.specs.declared.SessionRecord.{SessionRecord}
 use Rattle.session.specs.declared.Answer.{Answer}
-use Rattle.session.specs.Calls.{Outcome, OpenOutcome, outcome}
+use Rattle.session.specs.Calls.{OpenOutcome}
 use Rattle.hours.specs.declared.EarliestAnswer.{EarliestAnswer}
 use Rattle.hours.specs.Hours.{Earliest}
 use Rattle.watch.specs.declared.WatchAnswer.{WatchAnswer}
 use Rattle.watch.specs.Watch as watch
 use Rattle.reply.specs.declared.Reply.{Reply}
 use Rattle.session_reply.specs.declared.SessionReply.{SessionReply}
-use Rattle.session_reply.specs.Replies.{sessionReply}
-use Rattle.export.specs.Exports.{Output, Exported, Opening, writeReply, writeOf, nameReply, nameOf, exportOf, openOf}
+use Rattle.session_reply.specs.Replies.{openReply}
+use Rattle.export.specs.Exports.{Output, Opening, writeReply, writeOf, nameReply, nameOf, openOf}
 use Rattle.export.specs.Exports.{Watched, watchReply, watchOf, earliestReply, EarliestReply, logReply, LogReply}
 use Rattle.export.specs.Exports.{Windowed, churnReply, windowOf}
 
 abbrev pub outputs : Reply → List ℕ → Output
 outputs x out = record { reply = x; out = out }
-
-abbrev pub exported : SessionReply → List ℕ → List ℕ → Exported
-exported x store out = record { call = x; store = store; out = out }
 
 abbrev pub opening : SessionReply → List ℕ → Opening
 opening x store = record { call = x; store = store }
@@ -57,14 +54,9 @@ pub window-call :
     {x : Reply} {a : ChurnAnswer} {w : List ℕ} {o : window.Outcome} → x ≡ churnReply a → window.outcome a w ≡ o → windowed x w ≡ windowOf o
 window-call {w = w} e f = ap (λ (y : Reply). windowed y w) e ∙ ap windowOf f
 
-pub session-call :
-    {x : SessionReply} {a : Answer} {r : SessionRecord} {store out : List ℕ} {o : Outcome} →
-    x ≡ sessionReply a r → outcome a r store out ≡ o → exported x store out ≡ exportOf o
-session-call {store = store} {out = out} e f = ap (λ (y : SessionReply). exported y store out) e ∙ ap exportOf f
-
 pub open-call :
     {x : SessionReply} {a : Answer} {r : SessionRecord} {store : List ℕ} {o : OpenOutcome} →
-    x ≡ sessionReply a r → record { answer = a; next = r; store = store } ≡ o → opening x store ≡ openOf o
+    x ≡ openReply a r → record { answer = a; next = r; store = store } ≡ o → opening x store ≡ openOf o
 open-call {store = store} e f = ap (λ (y : SessionReply). opening y store) e ∙ ap openOf f
 
 pub earliest-call :

@@ -36,14 +36,14 @@ use Rattle.log_entries.specs.declared.LogAnswer.the-variants as log
 use Rattle.log_entries.specs.Passes.{Checked}
 use Rattle.session.specs.declared.Match.{Match}
 use Rattle.session.specs.declared.Match.the-variants as match′
-use Rattle.session.specs.Calls.{Outcome, OpenOutcome}
+use Rattle.session.specs.Calls.{OpenOutcome}
 use Rattle.watch.specs.declared.WatchAnswer.{WatchAnswer}
 use Rattle.watch.specs.declared.WatchAnswer.the-variants as change
 use Rattle.watch.specs.Watch as watch
 use Rattle.reply.specs.declared.Reply.{Reply}
 use Rattle.reply.specs.Replies.{written, yes, no, found, refusedReply, takenReply, testReply}
 use Rattle.session_reply.specs.declared.SessionReply.{SessionReply}
-use Rattle.session_reply.specs.Replies.{sessionReply}
+use Rattle.session_reply.specs.Replies.{openReply}
 
 -- ---- answers in numbers
 
@@ -117,15 +117,6 @@ watchReply (change.Refused x) = refusedReply x
 
 -- ---- what a call leaves
 
--- reply, record, store, output
-pub record Exported : Type 0 where
-  pub call : SessionReply
-  pub store : List ℕ
-  pub out : List ℕ
-
-abbrev pub exportOf : Outcome → Exported
-exportOf o = record { call = sessionReply (o .answer) (o .next); store = o .store; out = o .out }
-
 -- the one answer that `Earliest` has, in numbers
 pub record EarliestReply (contract : List ℕ) (second : ℕ) (x : Reply) : Type 0 where
   pub answer : EarliestAnswer
@@ -172,4 +163,4 @@ pub record Opening : Type 0 where
   pub store : List ℕ
 
 abbrev pub openOf : OpenOutcome → Opening
-openOf o = record { call = sessionReply (o .answer) (o .next); store = o .store }
+openOf o = record { call = openReply (o .answer) (o .next); store = o .store }

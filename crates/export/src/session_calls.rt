@@ -7,15 +7,15 @@ ghost use Rattle.readers.specs.Places.{responsePlace};
 ghost use Rattle.session.specs.Link.{beginOf, invalidateOf};
 ghost use Rattle.session.specs.Calls.{updateOutcome, responseOutcome, drainOutcome, openOutcome, matchOf};
 ghost use Rattle.values.specs.Places.{placeOf, PlaceIs};
-ghost use Rattle.session_reply.specs.Replies.{recordOf, changedReply};
-ghost use Rattle.export.specs.Exports.{matchReply, exportOf, openOf};
+ghost use Rattle.session_reply.specs.Replies.{recordOf, answerReply, changedReply, lentOf};
+ghost use Rattle.session_lent.specs.Check.{checkOf};
+ghost use Rattle.export.specs.Exports.{matchReply, openOf};
 use crate::Part;
 use reply::Reply;
 use session::Match;
 use session_reply::Record;
 use session_reply::SessionReply;
-use session_reply::record_of;
-use session_reply::session_reply;
+use session_reply::open_reply;
 use types::ControllerIncarnation;
 use types::ScalableConsumerType;
 
@@ -50,88 +50,87 @@ pub extern "C" fn cuddrewyn_open(
         store,
     );
     let answer = opened.answer;
-    session_reply(answer, opened.next)
+    open_reply(answer, opened.next)
 }
 
 // A new link to the controller: `begin_incarnation`.
 #[no_mangle]
-pub extern "C" fn cuddrewyn_begin(r: Record, incarnation: u64) -> SessionReply
-    ensures { λ x. ⌜ x ≡ changedReply (beginOf (recordOf r) (record { 0 = incarnation })) ⌝ }
+pub extern "C" fn cuddrewyn_begin(r: &mut Record, incarnation: u64) -> Reply
+    ensures { λ x. ⌜ record { state = now (r .exit); reply = x }
+        ≡ changedReply (now (r .entry)) (beginOf (recordOf (now (r .entry))) (record { 0 = incarnation })) ⌝ }
 {
-    let old = record_of(r);
-    let begun = session_link::begun(old, ControllerIncarnation(incarnation));
-    let answer = begun.answer;
-    session_reply(answer, begun.next)
+    let begun = session_lent::begun(*r, incarnation);
+    *r = begun.state;
+    begun.reply
 }
 
 // The controller is not to be trusted any more: `invalidate_authority`.
 #[no_mangle]
-pub extern "C" fn cuddrewyn_invalidate(r: Record) -> SessionReply
-    ensures { λ x. ⌜ x ≡ changedReply (invalidateOf (recordOf r)) ⌝ }
+pub extern "C" fn cuddrewyn_invalidate(r: &mut Record) -> Reply
+    ensures { λ x. ⌜ record { state = now (r .exit); reply = x } ≡ changedReply (now (r .entry)) (invalidateOf (recordOf (now (r .entry)))) ⌝ }
 {
-    let invalidated = session_link::invalidated(record_of(r));
-    let answer = invalidated.answer;
-    session_reply(answer, invalidated.next)
+    let invalidated = session_lent::invalidated(*r);
+    *r = invalidated.state;
+    invalidated.reply
 }
 
 // A push of the controller: `handle_assignment_update_for`.
 #[no_mangle]
 pub extern "C" fn cuddrewyn_update(
-    r: Record,
+    r: &mut Record,
     store: &mut [u8],
     message: &[u8],
     incarnation: u64,
     out: &mut [u8],
-) -> SessionReply
-    ensures { λ x. ⌜ record { call = x; store = now (store .exit); out = now (out .exit) }
-        ≡ exportOf (updateOutcome (recordOf r) (now (store .entry)) (now (message .entry)) (record { 0 = incarnation }) (now (out .entry))) ⌝ }
+) -> Reply
+    ensures { λ x. ⌜ record { reply = x; state = now (r .exit); store = now (store .exit); out = now (out .exit) }
+        ≡ lentOf (now (r .entry)) (updateOutcome (recordOf (now (r .entry))) (now (store .entry)) (now (message .entry))
+        (record { 0 = incarnation }) (now (out .entry))) ⌝ }
 {
-    let updated = session_update::updated(
-        record_of(r),
-        store,
-        message,
-        ControllerIncarnation(incarnation),
-        out,
-    );
-    let answer = updated.answer;
-    session_reply(answer, updated.next)
+    let updated = session_lent::updated(*r, store, message, incarnation, out);
+    *r = updated.state;
+    updated.reply
 }
 
 // The answer to a registration: `handle_subscribe_response_for`.
 #[no_mangle]
 pub extern "C" fn cuddrewyn_response(
-    r: Record,
+    r: &mut Record,
     store: &mut [u8],
     message: &[u8],
     incarnation: u64,
-) -> SessionReply
-    ensures { λ x. ⌜ ((out : List ℕ) → record { call = x; store = now (store .exit); out = out }
-        ≡ exportOf (responseOutcome (recordOf r) (now (store .entry)) (now (message .entry)) (record { 0 = incarnation }) out)) ⌝ }
+) -> Reply
+    ensures { λ x. ⌜ ((out : List ℕ) → record { reply = x; state = now (r .exit); store = now (store .exit); out = out }
+        ≡ lentOf (now (r .entry)) (responseOutcome (recordOf (now (r .entry))) (now (store .entry)) (now (message .entry))
+        (record { 0 = incarnation }) out)) ⌝ }
 {
-    let responded = session_response::responded(
-        record_of(r),
-        store,
-        message,
-        ControllerIncarnation(incarnation),
-    );
-    let answer = responded.answer;
-    session_reply(answer, responded.next)
+    let responded = session_lent::responded(*r, store, message, incarnation);
+    *r = responded.state;
+    responded.reply
 }
 
 // The next push of the queue, for one of the readers, that differs from its predecessor: `take_replayed_updates`, one per call.
 #[no_mangle]
 pub extern "C" fn cuddrewyn_drain_for(
-    r: Record,
+    r: &mut Record,
     store: &[u8],
     reader: usize,
     out: &mut [u8],
-) -> SessionReply
-    ensures { λ x. ⌜ record { call = x; store = now (store .entry); out = now (out .exit) }
-        ≡ exportOf (drainOutcome (recordOf r) (now (store .entry)) reader (now (out .entry))) ⌝ }
+) -> Reply
+    ensures { λ x. ⌜ record { reply = x; state = now (r .exit); store = now (store .entry); out = now (out .exit) }
+        ≡ lentOf (now (r .entry)) (drainOutcome (recordOf (now (r .entry))) (now (store .entry)) reader (now (out .entry))) ⌝ }
 {
-    let drained = session_drain::drained(record_of(r), store, reader, out);
-    let answer = drained.answer;
-    session_reply(answer, drained.next)
+    let drained = session_lent::drained(*r, store, reader, out);
+    *r = drained.state;
+    drained.reply
+}
+
+// Whether record and store are a session's, as every call over a store asks first.
+#[no_mangle]
+pub extern "C" fn cuddrewyn_check(r: Record, store: &[u8]) -> Reply
+    ensures { λ x. ⌜ x ≡ answerReply (checkOf (recordOf r) (now (store .entry))) ⌝ }
+{
+    session_lent::checked(r, store)
 }
 
 // Whether the store was opened with these texts and this kind: `matches_registration`.

@@ -1,4 +1,4 @@
--- Steps of a walk by hand with `&mut`: a plain type behind a `&mut` (`takes`, `puts`), and a local that is lent (`lends`, `back`).
+-- Steps of a walk by hand: a plain type behind a `&mut` (`takes`, `puts`).
 -- Assumes `Given`.
 use mathlib.Core.Path.{refl, sym}
 use Prim.Native.Nat.{ℕ}
@@ -58,26 +58,3 @@ module _ {M : Type 1} {𝓤 : URA M} {H : Heap 𝓤} {A : Atoms 𝓤} {K : Type 
       → Step K W (‵ (fobs γ (R .coded .code h)) ∷ ‵ (fbor κ (Body (mem R) b o γ)) ∷ ‵ (flft κ q) ∷ Γ) G
       (‵ (fat fullShare (ty F) b o (low F h)) ∷ ‵ (fobor κ q (Body (mem R) b o γ)) ∷ ‵ (fobs γ u) ∷ ‵ (fauth γ v) ∷ Γ) G
   puts t z F h b o is = step (λ s. as-raw t F h $ has t F h is $ move t (1 ∷ 0 ∷ []) $ shuts t z R h (low F h ∷ []) b o $ s)
-
-  -- a local that holds h is lent for a lifetime ν that is made for the call: [ν's token; the reference; what the lender keeps]
-  pub lends : K → Soaks G → (F : Flat R) (ℓ : Lifetime) (h : R .Denot) {l : ℕ} → IsLow F h
-      → ((ν : ℕ) (γ : GName) → Seq K W (‵ (flft (ν ∷ []) fullShare)
-      ∷ ‵ (MutRef ℓ (ν ∷ []) R .own (record { ptr = (l, 0); name = γ; now = h }) (vptr l 0 ∷ []))
-      ∷ ‵ (flent (ν ∷ []) (Body (mem R) l 0 γ)) ∷ Γ) G)
-      → Seq K W (‵ (fat fullShare (ty F) l 0 (low F h)) ∷ Γ) G
-  unfolding partOf
-  lends t z F ℓ h {l} is k =
-      as-raw t F h $ has t F h is $ move t (1 ∷ 0 ∷ []) $ fjoin t $
-      fpack t (List Val) (λ us. fsep (cellAt fullShare (R .mir) us l 0) (R .own h us)) (low F h ∷ []) $ lft-new t z (λ ν. move t (1 ∷ []) $
-      use1 W (later (some (λ (γ : GName). ‵ (MutRef ℓ (ν ∷ []) R .own (record { ptr = (l, 0); name = γ; now = h }) (vptr l 0 ∷ []))
-      ⊛ ‵ (flent (ν ∷ []) (Body (mem R) l 0 γ))))) (lends-ref 𝓤 H A W R ℓ (ν ∷ []) h l 0) $
-      await t z $ pick t (λ γ. split t $ move t (2 ∷ []) $ k ν γ))
-
-  -- the callee has said the last value h: the cell is back, with h
-  pub back : K → Soaks G → (F : Flat R) (h : R .Denot) {l ν : ℕ} {γ : GName}
-      → (IsLow F h → Seq K W (‵ (fat fullShare (ty F) l 0 (low F h)) ∷ Γ) G)
-      → Seq K W (‵ (flft (ν ∷ []) fullShare) ∷ ‵ (flent (ν ∷ []) (Body (mem R) l 0 γ)) ∷ ‵ (fres γ (R .coded .code h)) ∷ Γ) G
-  unfolding partOf
-  back t z F h {l} {ν} {γ} k =
-      lft-end t z $ use3 W (later (‵ (mem R .lies h l 0))) (ref-back 𝓤 H A W R (ν ∷ []) γ h l 0) $ await t z $
-      fpick t (λ vs. fsplit t $ as-low t F h vs l 0 k)

@@ -1,4 +1,4 @@
--- What the walks of the functions to which the session's record is lent have in common.
+-- What the walks of the functions to which the record is lent have in common.
 --
 -- Such a function copies the record out of the borrow, hands it and the other parameters, as they came, to a function that takes the record
 -- by value, puts the record of the result back, and answers the result's answer. In order: both functions' signatures (`Lent`, `Taken`), and
@@ -42,14 +42,14 @@ use denote.Triple.End.{all, Fins, lastsOf}
 use denote.Triple.Statement.{Contract, Triple}
 use denote.Triple.Table.{entered}
 use denote.Triple.Walked.{Stays, stay-ref, fitsOf, hasOf, walkOf, ends-at, walked, AllGo, goes-ref, walk-meets}
-use Rattle.session.specs.declared.SessionRecord.{SessionRecord}
-use Rattle.session.specs.declared.Changed.{Changed}
-use Rattle.session.proofs.SessionRecord as R
-use Rattle.session.proofs.Answer as A
-use Rattle.session.proofs.Changed as C
+use Rattle.session_reply.specs.declared.Record.{Record}
+use Rattle.session_reply.specs.declared.SessionReply.{SessionReply}
+use Rattle.session_reply.proofs.Record as R
+use Rattle.session_reply.proofs.SessionReply as C
+use Rattle.reply.proofs.Reply as A
 use Rattle.marks.proofs.Walk.{ty, low, IsLow, fits, held, envOf, allots, ends, Roomy, With, whole-of, sets, has, asks}
 use Rattle.marks.proofs.Walk.{Meant, Says, table, knows}
-use Rattle.session_lent.proofs.Types.{session, answer, changed, next-is, answer-is}
+use Rattle.session_lent.proofs.Types.{record′, answer, replied, state-is, reply-is}
 use Rattle.session_lent.proofs.Lend.{takes, puts}
 
 -- ---- the signatures: of a function that is lent the record, and of one that takes it
@@ -140,13 +140,13 @@ module _ {M : Type 1} (𝓤 : URA M) (H : Heap 𝓤) (A : Atoms 𝓤) (ls : List
 
   -- it is room, with xs in the others, and takes a value: by computation, where the locals are written out
   abbrev Ready : Type 2
-  Ready = (spotOf 𝓤 H (envOf 𝓤 H (lent-locals ls) m) (suc (suc d)) ≡ (ty changed, l, zero))
-      × (nth 𝓤 H A (twice d) (others xs) ≡ ‵ (froom (ty changed) l zero))
-      × ((v : Val) → nth 𝓤 H A (twice d) (others (set d v xs)) ≡ ‵ (fat fullShare (ty changed) l zero v))
-      × ((v : Val) → put 𝓤 H A (twice d) (‵ (fat fullShare (ty changed) l zero v)) (others xs) ≡ others (set d v xs))
+  Ready = (spotOf 𝓤 H (envOf 𝓤 H (lent-locals ls) m) (suc (suc d)) ≡ (ty replied, l, zero))
+      × (nth 𝓤 H A (twice d) (others xs) ≡ ‵ (froom (ty replied) l zero))
+      × ((v : Val) → nth 𝓤 H A (twice d) (others (set d v xs)) ≡ ‵ (fat fullShare (ty replied) l zero v))
+      × ((v : Val) → put 𝓤 H A (twice d) (‵ (fat fullShare (ty replied) l zero v)) (others xs) ≡ others (set d v xs))
 
 -- ---- the statement before the call
-module _ {M : Type 1} (𝓤 : URA M) (κ : Lft) (q : Share) (r : RefT SessionRecord) where
+module _ {M : Type 1} (𝓤 : URA M) (κ : Lft) (q : Share) (r : RefT Record) where
   -- the record behind the borrow
   abbrev pub Shut : List (Item 𝓤) → List (Item 𝓤)
   Shut Γ = ‵ (fobs (r .name) (R.the-row .coded .code (r .now))) ∷ ‵ (fbor κ (Body (mem R.the-row) (r .ptr .0) (r .ptr .1) (r .name)))
@@ -154,26 +154,26 @@ module _ {M : Type 1} (𝓤 : URA M) (κ : Lft) (q : Share) (r : RefT SessionRec
 
   -- the record out of the borrow
   abbrev pub Out : List (Item 𝓤) → List (Item 𝓤)
-  Out Γ = ‵ (fat fullShare (ty session) (r .ptr .0) (r .ptr .1) (low session (r .now)))
+  Out Γ = ‵ (fat fullShare (ty record′) (r .ptr .0) (r .ptr .1) (low record′ (r .now)))
       ∷ ‵ (fobor κ q (Body (mem R.the-row) (r .ptr .0) (r .ptr .1) (r .name))) ∷ ‵ (fobs (r .name) (R.the-row .coded .code (r .now)))
       ∷ ‵ (fauth (r .name) (R.the-row .coded .code (r .now))) ∷ Γ
 
 module _ {M : Type 1} {𝓤 : URA M} {H : Heap 𝓤} {A : Atoms 𝓤} {K : Type 0} {W : Given 𝓤 H A} {Γ : List (Item 𝓤)} {E : Env 𝓤 H}
     {C : Calls 𝓤 H} {Λ : Loops 𝓤 H} {p : Post 𝓤 H} {rest : Code} where
   -- the record is taken out, and copied to the local d
-  pub copies-record : K → (κ : Lft) (q : Share) (r : RefT SessionRecord) {d l : ℕ} {τ : Ty} → spotOf 𝓤 H E 1 ≡ (τ, l, zero)
+  pub copies-record : K → (κ : Lft) (q : Share) (r : RefT Record) {d l : ℕ} {τ : Ty} → spotOf 𝓤 H E 1 ≡ (τ, l, zero)
       → nth 𝓤 H A 8 (Out 𝓤 κ q r Γ) ≡ ‵ (fat fullShare τ l zero (vptr (r .ptr .0) (r .ptr .1))) → Roomy 𝓤 H A (Out 𝓤 κ q r Γ) E 6 d
-      → spotOf 𝓤 H E d .0 ≡ ty session
-      → (IsLow session (r .now) → Seq K W (With 𝓤 H A (Out 𝓤 κ q r Γ) E 6 d (low session (r .now))) (runs C Λ E rest p))
-      → Seq K W (Shut 𝓤 κ q r Γ) (runs C Λ E (seq (assign (place d []) (rvOpd (copy (place 1 (deref (ty session) ∷ []))))) rest) p)
-  copies-record t κ q r spot ref room typed k = takes t tt session (r .now) (r .ptr .0) (r .ptr .1) (λ is.
+      → spotOf 𝓤 H E d .0 ≡ ty record′
+      → (IsLow record′ (r .now) → Seq K W (With 𝓤 H A (Out 𝓤 κ q r Γ) E 6 d (low record′ (r .now))) (runs C Λ E rest p))
+      → Seq K W (Shut 𝓤 κ q r Γ) (runs C Λ E (seq (assign (place d []) (rvOpd (copy (place 1 (deref (ty record′) ∷ []))))) rest) p)
+  copies-record t κ q r spot ref room typed k = takes t tt record′ (r .now) (r .ptr .0) (r .ptr .1) (λ is.
       sets t 6 (of-opd t (load t (from t (rw spot (hop t (look t 8 ref) (stop t)))) (look t 0 refl))) room
-      (rw typed (fits session W (r .now) is)) $ k is)
+      (rw typed (fits record′ W (r .now) is)) $ k is)
 
 -- ---- the way out
--- behind the call: `*r = result.next; result.answer`
+-- behind the call: `*r = result.state; result.reply`
 abbrev puts-back : ℕ → Code
-puts-back d = seq (assign (place 1 (deref (ty session) ∷ [])) (rvOpd (copy (place (suc (suc d)) (field 0 ∷ [])))))
+puts-back d = seq (assign (place 1 (deref (ty record′) ∷ [])) (rvOpd (copy (place (suc (suc d)) (field 0 ∷ [])))))
     (seq (assign (place 0 []) (rvOpd (copy (place (suc (suc d)) (field 1 ∷ []))))) return)
 
 module _ {M : Type 1} (𝓤 : URA M) (H : Heap 𝓤) (𝓜 : Model 𝓤 H) (𝓖 : GhostRules 𝓤 H) (𝓡 : Running 𝓤 H 𝓜) (env : Names)
@@ -185,7 +185,7 @@ module _ {M : Type 1} (𝓤 : URA M) (H : Heap 𝓤) (𝓜 : Model 𝓤 H) (𝓖
   𝓣 = table 𝓤 H 𝓜 𝓖 𝓡 env
 
   -- at lifetimes, shares, the reference to the record, the other parameters with their spelling, and the ghost value
-  module _ (κs : Lfts (suc n)) (qs : Shares (suc n)) (r : RefT SessionRecord) (rest : Denots (typesAt ss κs)) (sp : Spells (typesAt ss κs))
+  module _ (κs : Lfts (suc n)) (qs : Shares (suc n)) (r : RefT Record) (rest : Denots (typesAt ss κs)) (sp : Spells (typesAt ss κs))
       (g : c κs (r, rest) .ghost) where
     abbrev ptr : Val
     ptr = vptr (r .ptr .0) (r .ptr .1)
@@ -198,27 +198,27 @@ module _ {M : Type 1} (𝓤 : URA M) (H : Heap 𝓤) (𝓜 : Model 𝓤 H) (𝓖
     Ends = walkOf 𝓤 H (𝓖 .A) (Lent ss) (all-stay ss) c .post ((κs, qs, tt, (r, rest), (ptr ∷ [], vs)), g)
 
     -- what the contract says, at the record and the answer of u
-    abbrev Told : Changed → Fin κs ss rest → SProp 𝓤
-    Told u ws = c κs (r, rest) .ensures g (u .answer) (atExit (Lent ss) κs (r, rest) (u .next, ws))
+    abbrev Told : SessionReply → Fin κs ss rest → SProp 𝓤
+    Told u ws = c κs (r, rest) .ensures g (u .reply) (atExit (Lent ss) κs (r, rest) (u .state, ws))
 
     -- the tokens of the others
     abbrev tokens : Item 𝓤
     tokens = raw (toks 𝓤 (𝓖 .A) n (κs .1) (qs .1))
 
     -- once the callee has answered u: what is said of the others' last values, the tokens, and what the contract says
-    abbrev Settled : Changed → Fin κs ss rest → List (Item 𝓤) → List (Item 𝓤)
+    abbrev Settled : SessionReply → Fin κs ss rest → List (Item 𝓤) → List (Item 𝓤)
     Settled u ws Γ = ‵ (said κs ss rest ws) ∷ tokens ∷ raw (Told u ws) ∷ Γ
 
     -- what there is at the end
-    abbrev Left : Changed → Fin κs ss rest → List (Item 𝓤)
-    Left u ws = Shut 𝓤 (κs .0) (qs .0) (record { ptr = r .ptr; name = r .name; now = u .next }) (Settled u ws [])
+    abbrev Left : SessionReply → Fin κs ss rest → List (Item 𝓤)
+    Left u ws = Shut 𝓤 (κs .0) (qs .0) (record { ptr = r .ptr; name = r .name; now = u .state }) (Settled u ws [])
 
-    leaves : (u : Changed) (ws : Fin κs ss rest) → IsLow changed u → ent 𝓤 (⋆ 𝓤 H (𝓖 .A) (Left u ws)) (Ends (low answer (u .answer)))
+    leaves : (u : SessionReply) (ws : Fin κs ss rest) → IsLow replied u → ent 𝓤 (⋆ 𝓤 H (𝓖 .A) (Left u ws)) (Ends (low answer (u .reply)))
     leaves u ws is =
         qed W (Left u ws) ∵ suffices ! _ (ends-at 𝓤 H (𝓖 .A) (Lent ss) (all-stay ss) c W ((κs, qs, tt, (r, rest), (ptr ∷ [], vs)), g)
-        (low answer (u .answer)) (u .answer) (u .next, ws) (tt, given-fit κs ss rest ws)) $
+        (low answer (u .reply)) (u .reply) (u .state, ws) (tt, given-fit κs ss rest ws)) $
         move ! (2 ∷ 4 ∷ []) $ join ! $ move ! (3 ∷ []) $ rewrite ! 0 ‵ (given-has κs ss rest ws vs) refl $ move ! (2 ∷ 3 ∷ []) $
-        feqI ! (List Val) (ptr ∷ []) (ptr ∷ []) refl $ fjoin3 ! $ fjoin ! $ has ! answer (u .answer) (answer-is u is) $
+        feqI ! (List Val) (ptr ∷ []) (ptr ∷ []) refl $ fjoin3 ! $ fjoin ! $ has ! answer (u .reply) (reply-is u is) $
         move ! (1 ∷ 0 ∷ []) $ join ! $ move ! (1 ∷ 0 ∷ []) $ join ! $ done !
 
     module _ (ls : List Local) (m : ℕ → ℕ) where
@@ -231,15 +231,15 @@ module _ {M : Type 1} (𝓤 : URA M) (H : Heap 𝓤) (𝓜 : Model 𝓤 H) (𝓖
 
       -- the result u is in its local
       gives-back : {K : Type 0} → K → {C : Calls 𝓤 H} {Λ : Loops 𝓤 H} (d : ℕ) (xs : List (Option Val)) → Ready 𝓤 H (𝓖 .A) ls m d xs
-          → (u : Changed) (ws : Fin κs ss rest) → IsLow changed u
-          → Seq K W (Opened (Settled u ws []) (set d (low changed u) xs)) (runs C Λ E (puts-back d) (atRet E Ends))
+          → (u : SessionReply) (ws : Fin κs ss rest) → IsLow replied u
+          → Seq K W (Opened (Settled u ws []) (set d (low replied u) xs)) (runs C Λ E (puts-back d) (atRet E Ends))
       gives-back t d xs (spot, room, has-it, puts-it) u ws is =
-          assigns t (of-opd t (part-of t (place-of d) 0 spot (has-it (low changed u)) refl))
-          (from t (hop t (look t 9 refl) (stop t))) (store t 0 refl (fits session W (u .next) (next-is u is))) $
-          assigns t (of-opd t (part-of t (place-of d) 1 spot (has-it (low changed u)) refl))
-          (from t (stop t)) (init t 7 refl (fits answer W (u .answer) (answer-is u is))) $
-          puts t tt session (u .next) (r .ptr .0) (r .ptr .1) (next-is u is) $ returns t (look t 6 refl) $
-          ends t (Left u ws) (lent-locals ls) m (just (low answer (u .answer)) ∷ just ptr ∷ set d (low changed u) xs) (leaves u ws is)
+          assigns t (of-opd t (part-of t (place-of d) 0 spot (has-it (low replied u)) refl))
+          (from t (hop t (look t 9 refl) (stop t))) (store t 0 refl (fits record′ W (u .state) (state-is u is))) $
+          assigns t (of-opd t (part-of t (place-of d) 1 spot (has-it (low replied u)) refl))
+          (from t (stop t)) (init t 7 refl (fits answer W (u .reply) (reply-is u is))) $
+          puts t tt record′ (u .state) (r .ptr .0) (r .ptr .1) (state-is u is) $ returns t (look t 6 refl) $
+          ends t (Left u ws) (lent-locals ls) m (just (low answer (u .reply)) ∷ just ptr ∷ set d (low replied u) xs) (leaves u ws is)
 
       -- the callee, at its own list of the other parameters
       module _ (ss′ : List (Slot n)) (c′ : Clauses 𝓤 (Taken ss′)) (rest′ : Denots (typesAt ss′ (κs .1))) (vs′ : Valss (typesAt ss′ (κs .1)))
@@ -248,44 +248,44 @@ module _ {M : Type 1} (𝓤 : URA M) (H : Heap 𝓤) (𝓜 : Model 𝓤 H) (𝓖
         G = Meant 𝓤 H (𝓖 .A) (Taken ss′) c′
 
         abbrev to : G .Ghost
-        to = ((κs .1, qs .1, tt, (r .now, rest′), (low session (r .now) ∷ [], vs′)), g′)
+        to = ((κs .1, qs .1, tt, (r .now, rest′), (low record′ (r .now) ∷ [], vs′)), g′)
 
         abbrev owned : Item 𝓤
         owned = ‵ (owns (typesAt ss′ (κs .1)) rest′ vs′)
 
         -- nothing is required, and what the callee says of the others' last values, and of its result, is what is to be said
         abbrev Agrees : Type 1
-        Agrees = ent 𝓤 (emp 𝓤) (c′ (κs .1) (r .now, rest′) .requires g′) × ((u : Changed) (ws : Fin (κs .1) ss′ rest′)
+        Agrees = ent 𝓤 (emp 𝓤) (c′ (κs .1) (r .now, rest′) .requires g′) × ((u : SessionReply) (ws : Fin (κs .1) ss′ rest′)
             → (xs : Fin κs ss rest) × ent 𝓤 (sem 𝓤 H (𝓖 .A) (said (κs .1) ss′ rest′ ws)) (sem 𝓤 H (𝓖 .A) (said κs ss rest xs))
             × ent 𝓤 (Says 𝓤 H (𝓖 .A) (Taken ss′) c′ to u (tt, ws)) (Told u xs))
 
-        asked : Agrees → IsLow session (r .now) → ent 𝓤 (⋆ 𝓤 H (𝓖 .A) (tokens ∷ owned ∷ [])) (G .pre to)
+        asked : Agrees → IsLow record′ (r .now) → ent 𝓤 (⋆ 𝓤 H (𝓖 .A) (tokens ∷ owned ∷ [])) (G .pre to)
         asked agree is =
-            qed W (tokens ∷ owned ∷ []) ∵ has ! session (r .now) is $ move ! (0 ∷ 2 ∷ []) $ fjoin ! $ move ! (1 ∷ 0 ∷ []) $ join ! $
+            qed W (tokens ∷ owned ∷ []) ∵ has ! record′ (r .now) is $ move ! (0 ∷ 2 ∷ []) $ fjoin ! $ move ! (1 ∷ 0 ∷ []) $ join ! $
             use0 W (raw (c′ (κs .1) (r .now, rest′) .requires g′)) (agree .0) $ move ! (1 ∷ 0 ∷ []) $ done !
 
         -- the callee is called, its record put back and its answer returned
         pub hands-on : {K : Type 0} → K → {ops : List Operand} (f : Name) (p : Routine) → env f ≡ p → Triple 𝓤 (𝓡 .run p) G → Agrees
-            → IsLow session (r .now) → (d : ℕ) (xs : List (Option Val)) → Opds K W (raw (G .pre to) ∷ Opened [] xs) E ops (G .args to)
+            → IsLow record′ (r .now) → (d : ℕ) (xs : List (Option Val)) → Opds K W (raw (G .pre to) ∷ Opened [] xs) E ops (G .args to)
             → Ready 𝓤 H (𝓖 .A) ls m d xs
             → Seq K W (Opened (owned ∷ tokens ∷ []) xs)
             (runs (𝓣 .C) (𝓣 .Λ) E (seq (call f ops (place (suc (suc d)) [])) (puts-back d)) (atRet E Ends))
         hands-on t f p calls met agree h-is d xs os (spot, room, has-it, puts-it) =
             move t (5 ∷ 4 ∷ []) $ use2 W (raw (G .pre to)) (asked agree h-is) $
-            asks (Taken ss′) c′ to t (fmOf 𝓤 H (W .laws) 𝓣) (knows 𝓤 H 𝓜 𝓖 𝓡 env G f p calls met) changed os (λ u ws is.
+            asks (Taken ss′) c′ to t (fmOf 𝓤 H (W .laws) 𝓣) (knows 𝓤 H 𝓜 𝓖 𝓡 env G f p calls met) replied os (λ u ws is.
             let told = agree .1 u (ws .1) in
             -- [the tokens; the last values; what is said; the record; the open borrow; obs; auth; the locals]
             move t (1 ∷ []) $ fsplit t $ drop t $ use1 W (‵ (said κs ss rest (told .0))) (told .1) $
             move t (2 ∷ []) $ use1 W (raw (Told u (told .0))) (told .2) $ move t (3 ∷ 4 ∷ 5 ∷ 6 ∷ 1 ∷ 2 ∷ 0 ∷ []) $
-            land t (from t (rw spot (stop t))) (init t (place-of d) room (fits changed W u is)) $
-            rw (puts-it (low changed u)) (gives-back t d xs (spot, room, has-it, puts-it) u (told .0) is))
+            land t (from t (rw spot (stop t))) (init t (place-of d) room (fits replied W u is)) $
+            rw (puts-it (low replied u)) (gives-back t d xs (spot, room, has-it, puts-it) u (told .0) is))
 
   -- ---- to the statement
   module _ (key : Name) (fn : Fn) where
     -- what a walk shows, with the parameters but the record spelt sp: from [the record behind the borrow; what the others own; their tokens;
     -- the locals] the body runs
     abbrev pub Walked : ((κs : Lfts (suc n)) → Spells (typesAt ss κs)) → Type 1
-    Walked sp = (κs : Lfts (suc n)) (qs : Shares (suc n)) (r : RefT SessionRecord) (rest : Denots (typesAt ss κs)) (g : c κs (r, rest) .ghost)
+    Walked sp = (κs : Lfts (suc n)) (qs : Shares (suc n)) (r : RefT Record) (rest : Denots (typesAt ss κs)) (g : c κs (r, rest) .ghost)
         → Are (typesAt ss κs) (Ises (typesAt ss κs)) rest (valss (typesAt ss κs) (sp κs) rest) → (m : ℕ → ℕ)
         → Sq W (Shut 𝓤 (κs .0) (qs .0) r (‵ (owns (typesAt ss κs) rest (valss (typesAt ss κs) (sp κs) rest))
         ∷ raw (toks 𝓤 (𝓖 .A) n (κs .1) (qs .1)) ∷ held 𝓤 (fn .locals) m []))

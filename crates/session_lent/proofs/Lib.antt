@@ -1,3 +1,4 @@
 mod Lend
-mod Lent
-mod Types
+pub mod Lent
+pub mod Types
+mod LentLaws

@@ -1,5 +1,5 @@
--- The record and the answer of a session's call as plain structs: the answer in numbers, the record with bytes for its flags. In order: the record, in and
--- out, and the laws that hold them to each other; the answer; what a call leaves.
+-- The record and the answer of a session's call as plain structs: the answer in numbers, the record with bytes for its flags. In order: the record, in
+-- and out, and the laws that hold both to each other; the answer; what a call leaves.
 -- Assumes nothing.
 use Prim.Native.Nat.{ℕ}
 use mathlib.Core.Path.{_≡_}
@@ -40,15 +40,15 @@ hasFloor Unset = false
 hasFloor (At n) = true
 
 unfoldable pub recordOf : Record → SessionRecord
-recordOf r =
+recordOf c =
     record {
-      «consumer_id» = r .«consumer_id»;
-      incarnation = record { 0 = r .incarnation };
-      registered = isSet (r .registered);
-      invalidated = isSet (r .invalidated);
-      «epoch_floor» = floorOf (isSet (r .«has_floor»)) (r .«epoch_floor»);
-      «queue_count» = r .«queue_count»;
-      «drain_positions» = r .«drain_positions»;
+      «consumer_id» = c .«consumer_id»;
+      incarnation = record { 0 = c .incarnation };
+      registered = isSet (c .registered);
+      invalidated = isSet (c .invalidated);
+      «epoch_floor» = floorOf (isSet (c .«has_floor»)) (c .«epoch_floor»);
+      «queue_count» = c .«queue_count»;
+      «drain_positions» = c .«drain_positions»;
     }
 
 unfoldable pub exportRecord : SessionRecord → Record

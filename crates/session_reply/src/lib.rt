@@ -47,18 +47,18 @@ fn floor_of(any: bool, floor: u64) -> Floor
     if any { Floor::At(floor) } else { Floor::Unset }
 }
 
-pub fn record_of(r: Record) -> SessionRecord
-    ensures { λ x. ⌜ x ≡ recordOf r ⌝ }
+pub fn record_of(c: Record) -> SessionRecord
+    ensures { λ x. ⌜ x ≡ recordOf c ⌝ }
 {
-    let epoch_floor = floor_of(is_set(r.has_floor), r.epoch_floor);
-    let drain_positions = r.drain_positions;
+    let epoch_floor = floor_of(is_set(c.has_floor), c.epoch_floor);
+    let drain_positions = c.drain_positions;
     SessionRecord {
-        consumer_id: r.consumer_id,
-        incarnation: ControllerIncarnation(r.incarnation),
-        registered: is_set(r.registered),
-        invalidated: is_set(r.invalidated),
+        consumer_id: c.consumer_id,
+        incarnation: ControllerIncarnation(c.incarnation),
+        registered: is_set(c.registered),
+        invalidated: is_set(c.invalidated),
         epoch_floor,
-        queue_count: r.queue_count,
+        queue_count: c.queue_count,
         drain_positions,
     }
 }
@@ -90,7 +90,7 @@ fn export_record(r: SessionRecord) -> Record
     }
 }
 
-fn answer_reply(a: Answer) -> Reply
+pub fn answer_reply(a: Answer) -> Reply
     ensures { λ x. ⌜ x ≡ answerReply a ⌝ }
 {
     match a {

@@ -3,16 +3,10 @@ use call_line::CallName;
 use call_text::quoted;
 use call_text::text;
 use libc::STDOUT_FILENO;
-use session::Answer;
-use session::Changed;
-use session::SessionRecord;
+use session_reply::Record;
+use session_reply::SessionReply;
 use types::ControllerIncarnation;
 use types::ScalableConsumerType;
-
-// Number k of a line, as the number of a link to the controller.
-fn incarnation_at(line: &[u8], k: usize) -> ControllerIncarnation {
-    ControllerIncarnation(lines::number_at(line, k))
-}
 
 fn consumer_type(word: &[u8]) -> ScalableConsumerType {
     if parts::same(word, b"checkpoint") {
@@ -23,70 +17,72 @@ fn consumer_type(word: &[u8]) -> ScalableConsumerType {
 }
 
 // The session behind an open; one that is refused leaves it as it was.
-fn opened(r: SessionRecord, x: Changed) -> Changed {
-    let answer = x.answer;
-    match answer {
-        Answer::Refused(refusal) => Changed {
-            next: r,
-            answer: Answer::Refused(refusal),
-        },
-        _ => x,
+fn opened(r: Record, x: SessionReply) -> SessionReply {
+    let told = x.reply;
+    if told.answer == reply::REFUSED {
+        return SessionReply {
+            state: r,
+            reply: told,
+        };
     }
+    x
 }
 
 // open CONSUMER INCARNATION TOPIC SUBSCRIPTION NAME KIND
-fn open(line: &[u8], store: &mut [u8]) -> Changed {
+fn open(line: &[u8], store: &mut [u8]) -> SessionReply {
     let mut topic = io::large_buffer();
     let mut subscription = io::large_buffer();
     let mut name = io::large_buffer();
     let n = lines::bytes_at(line, 3, &mut topic);
     let m = lines::bytes_at(line, 4, &mut subscription);
     let l = lines::bytes_at(line, 5, &mut name);
-    session_open::open(
+    let opened = session_open::open(
         lines::number_at(line, 1),
-        incarnation_at(line, 2),
+        ControllerIncarnation(lines::number_at(line, 2)),
         &topic[..n],
         &subscription[..m],
         &name[..l],
         consumer_type(lines::word(line, 6)),
         store,
-    )
+    );
+    let answer = opened.answer;
+    session_reply::open_reply(answer, opened.next)
 }
 
 // update INCARNATION MESSAGE
-fn update(r: SessionRecord, line: &[u8], store: &mut [u8], out: &mut [u8]) -> Changed {
+fn update(r: Record, line: &[u8], store: &mut [u8], out: &mut [u8]) -> SessionReply {
     let mut message = io::large_buffer();
     let n = lines::bytes_at(line, 2, &mut message);
-    session_update::updated(r, store, &message[..n], incarnation_at(line, 1), out)
+    session_lent::updated(r, store, &message[..n], lines::number_at(line, 1), out)
 }
 
 // response INCARNATION MESSAGE
-fn response(r: SessionRecord, line: &[u8], store: &mut [u8]) -> Changed {
+fn response(r: Record, line: &[u8], store: &mut [u8]) -> SessionReply {
     let mut message = io::large_buffer();
     let n = lines::bytes_at(line, 2, &mut message);
-    session_response::responded(r, store, &message[..n], incarnation_at(line, 1))
+    session_lent::responded(r, store, &message[..n], lines::number_at(line, 1))
 }
 
 // drain READER
-fn drain(r: SessionRecord, line: &[u8], store: &[u8], out: &mut [u8]) -> Changed {
-    session_drain::drained(r, store, lines::number_at(line, 1) as usize, out)
+fn drain(r: Record, line: &[u8], store: &[u8], out: &mut [u8]) -> SessionReply {
+    session_lent::drained(r, store, lines::number_at(line, 1) as usize, out)
 }
 
-// The call of a line.
+// The call of a line, by the function to which the exported call hands on.
 pub fn call(
-    r: SessionRecord,
+    r: Record,
     name: CallName,
     line: &[u8],
     store: &mut [u8],
     out: &mut [u8],
-) -> Changed {
+) -> SessionReply {
     match name {
         CallName::Open => opened(r, open(line, store)),
         CallName::Update => update(r, line, store, out),
         CallName::Response => response(r, line, store),
         CallName::Drain => drain(r, line, store, out),
-        CallName::Begin => session_link::begun(r, incarnation_at(line, 1)),
-        CallName::Invalidate => session_link::invalidated(r),
+        CallName::Begin => session_lent::begun(r, lines::number_at(line, 1)),
+        CallName::Invalidate => session_lent::invalidated(r),
     }
 }
 

@@ -13,17 +13,15 @@ use hours::OpenAnswer;
 use log_entries::LogAnswer;
 use lookup::SegmentAnswer;
 use packed::SLOT;
-use refusal::Refusal;
+use reply::Reply;
 use segment_key::KeyAnswer;
-use session::Answer;
-use session::Floor;
 use session::READERS;
-use session::SessionRecord;
+use session_reply::Record;
 
-// A refusal; of a broker's, the text too.
-fn show_refused(x: Refusal, line: &[u8], store: &[u8]) {
-    call_text::refused(x);
-    if let Refusal::Broker { code: _ } = x {
+// A refusal; of a broker's, 16, the text too.
+fn show_refused(r: Reply, line: &[u8], store: &[u8]) {
+    call_text::refused_reply(r);
+    if r.number == 16 {
         show_broker_text(line, store);
     }
 }
@@ -35,20 +33,28 @@ fn show_delta(out: &[u8]) {
 }
 
 // The same of a push of the queue, with its place.
-fn show_replay(place: usize, out: &[u8]) {
-    labelled(b"replay at ", place as u64);
+fn show_replay(place: u64, out: &[u8]) {
+    labelled(b"replay at ", place);
     space();
     list_text::delta_counts(out);
 }
 
 // The answer; a delta stands at the front of the output.
-pub fn show_answer(answer: Answer, line: &[u8], store: &[u8], out: &[u8]) {
-    match answer {
-        Answer::Refused(x) => show_refused(x, line, store),
-        Answer::Accepted => text(b"accepted"),
-        Answer::Unchanged => text(b"none"),
-        Answer::Delta(_) => show_delta(out),
-        Answer::Replay(place, _) => show_replay(place, out),
+pub fn show_answer(r: Reply, line: &[u8], store: &[u8], out: &[u8]) {
+    if r.answer == reply::REFUSED {
+        show_refused(r, line, store);
+    }
+    if r.answer == reply::ACCEPTED {
+        text(b"accepted");
+    }
+    if r.answer == reply::UNCHANGED {
+        text(b"none");
+    }
+    if r.answer == reply::DELTA {
+        show_delta(out);
+    }
+    if r.answer == reply::REPLAY {
+        show_replay(r.first, out);
     }
 }
 
@@ -130,15 +136,16 @@ fn show_flag(label: &[u8], b: bool) {
     show_yes(b);
 }
 
-fn show_floor(floor: Floor) {
-    match floor {
-        Floor::Unset => text(b"none"),
-        Floor::At(epoch) => decimal(epoch),
+fn show_floor(r: Record) {
+    if r.has_floor == 0 {
+        text(b"none");
+    } else {
+        decimal(r.epoch_floor);
     }
 }
 
 // How many pushes of the queue each reader has drained.
-fn show_drained(r: SessionRecord) {
+fn show_drained(r: Record) {
     let positions = r.drain_positions;
     text(b" drained");
     for reader in 0..READERS {
@@ -147,14 +154,12 @@ fn show_drained(r: SessionRecord) {
 }
 
 // The record of an open session, and the lost counts beside it.
-pub fn show_state(r: SessionRecord, window: &[u8]) {
-    let incarnation = r.incarnation;
-    let floor = r.epoch_floor;
-    labelled(b"  state incarnation ", incarnation.0);
+pub fn show_state(r: Record, window: &[u8]) {
+    labelled(b"  state incarnation ", r.incarnation);
     text(b" floor ");
-    show_floor(floor);
-    show_flag(b" registered ", r.registered);
-    show_flag(b" invalidated ", r.invalidated);
+    show_floor(r);
+    show_flag(b" registered ", r.registered != 0);
+    show_flag(b" invalidated ", r.invalidated != 0);
     labelled(b" queue ", r.queue_count as u64);
     show_drained(r);
     space();
@@ -163,11 +168,9 @@ pub fn show_state(r: SessionRecord, window: &[u8]) {
 }
 
 // What an answer's delta loses and gains.
-pub fn show_changes(answer: Answer, out: &[u8]) {
-    match answer {
-        Answer::Delta(_) => list_text::changes(out),
-        Answer::Replay(_, _) => list_text::changes(out),
-        _ => {}
+pub fn show_changes(r: Reply, out: &[u8]) {
+    if r.answer == reply::DELTA || r.answer == reply::REPLAY {
+        list_text::changes(out);
     }
 }
 

@@ -21,12 +21,10 @@ use hours::OpenAnswer;
 use libc::STDOUT_FILENO;
 use log_entries::LogAnswer;
 use lookup::SegmentAnswer;
+use reply::Reply;
 use segment_key::KeyAnswer;
-use session::Answer;
-use session::Changed;
-use session::Floor;
-use session::SessionRecord;
-use types::ControllerIncarnation;
+use session_reply::Record;
+use session_reply::SessionReply;
 
 // What a run has come to.
 pub struct Run {
@@ -34,7 +32,7 @@ pub struct Run {
     pub line: u64,
     pub is_open: bool,
     // The session's record, once one is open.
-    pub record: SessionRecord,
+    pub record: Record,
     pub accepted: u64,
     pub refused: u64,
     pub damaged: u64,
@@ -46,14 +44,15 @@ pub struct Run {
 }
 
 pub fn at_start() -> Run {
-    let record = SessionRecord {
+    let record = Record {
         consumer_id: 0,
-        incarnation: ControllerIncarnation(0),
-        registered: false,
-        invalidated: false,
-        epoch_floor: Floor::Unset,
+        incarnation: 0,
+        epoch_floor: 0,
         queue_count: 0,
         drain_positions: [0; 8],
+        has_floor: 0,
+        registered: 0,
+        invalidated: 0,
     };
     Run {
         line: 0,
@@ -84,12 +83,12 @@ fn counted(run: Run, is_refused: bool) -> Run {
 }
 
 // The run behind a call. An open that is refused before any was accepted leaves no session.
-fn settled(run: Run, changed: Changed) -> Run {
+fn settled(run: Run, changed: SessionReply) -> Run {
     let mut next = run;
-    let record = changed.next;
-    let answer = changed.answer;
+    let record = changed.state;
+    let told = changed.reply;
     next.record = record;
-    if let Answer::Refused(_) = answer {
+    if told.answer == reply::REFUSED {
         return counted(next, true);
     }
     next.is_open = true;
@@ -97,14 +96,7 @@ fn settled(run: Run, changed: Changed) -> Run {
 }
 
 // The rows below a call that the options ask for.
-fn show_details(
-    options: Options,
-    run: Run,
-    answer: Answer,
-    store: &[u8],
-    window: &[u8],
-    out: &[u8],
-) {
+fn show_details(options: Options, run: Run, told: Reply, store: &[u8], window: &[u8], out: &[u8]) {
     let record = run.record;
     if options.state {
         if run.is_open {
@@ -114,8 +106,8 @@ fn show_details(
         }
     }
     if options.lists {
-        report::show_changes(answer, out);
-        report::show_held(record.registered, store);
+        report::show_changes(told, out);
+        report::show_held(record.registered != 0, store);
     }
 }
 
@@ -128,9 +120,9 @@ fn show_name(at: u64, line: &[u8]) {
 }
 
 // Shows a call's name and its answer.
-fn show_call(at: u64, answer: Answer, line: &[u8], store: &[u8], out: &[u8]) {
+fn show_call(at: u64, told: Reply, line: &[u8], store: &[u8], out: &[u8]) {
     show_name(at, line);
-    report::show_answer(answer, line, store, out);
+    report::show_answer(told, line, store, out);
     newline();
 }
 
@@ -146,18 +138,18 @@ fn run_call(
     let mut out = [0u8; difference::LONGEST];
     let record = run.record;
     let changed = calls::call(record, name, line, store, &mut out);
-    let answer = changed.answer;
+    let told = changed.reply;
     window::after(name, record, changed, &out, window);
-    show_call(run.line, answer, line, store, &out);
+    show_call(run.line, told, line, store, &out);
     let next = settled(run, changed);
-    show_details(options, next, answer, store, window, &out);
+    show_details(options, next, told, store, window, &out);
     next
 }
 
 // Shows which segment of the list that is held takes the key of a line. Nothing is changed but the counts.
 fn run_segment(run: Run, line: &[u8], store: &[u8]) -> Run {
     let record = run.record;
-    let answer = segments::segment(record.registered, line, store);
+    let answer = segments::segment(record.registered != 0, line, store);
     show_name(run.line, line);
     report::show_segment(answer);
     newline();
@@ -171,7 +163,7 @@ fn run_segment(run: Run, line: &[u8], store: &[u8]) -> Run {
 // Shows a key that falls in the segment of a line. Nothing is changed but the counts.
 fn run_key(run: Run, line: &[u8], store: &[u8]) -> Run {
     let record = run.record;
-    let answer = segments::key(record.registered, line, store);
+    let answer = segments::key(record.registered != 0, line, store);
     show_name(run.line, line);
     report::show_key(answer);
     newline();

@@ -12,8 +12,8 @@ from-pb-i32-requires c κs = search needs
 open-requires : tie.Need-open-requires
 open-requires c κs = search needs
 
-session-reply-requires : tie.Need-session-reply-requires
-session-reply-requires c κs = search needs
+open-reply-requires : tie.Need-open-reply-requires
+open-reply-requires c κs = search needs
 
 same-length : tie.Need-same-length
 same-length c = search needs
@@ -21,9 +21,9 @@ same-length c = search needs
 returns : tie.Need-returns
 returns c =
     let s = c .before .before .before .before .before .before .before .before .before .before in
-    open-call (c .session-reply .ensures)
+    open-call (c .open-reply .ensures)
     (rw (c .before .before .before .before .before .from-pb-i32 .ensures, toZ-ofZ (s .fits .kind)) at (c .before .before .before .«open» .ensures))
 
 pub cuddrewyn-open-spec : {M : Type 1} → statement M
 cuddrewyn-open-spec =
-    tie.close (tie.spec from-pb-i32-requires open-requires session-reply-requires same-length returns)
+    tie.close (tie.spec from-pb-i32-requires open-requires open-reply-requires same-length returns)
