@@ -1,4 +1,4 @@
-/* The exported calls of the port, for C on x86-64 Linux. Link target/staticlib/libexport.a.
+/* The exported calls of the port, for C on x86-64 Linux. Link target/staticlib/libexport.a, or libcuddrewyn of a release (docs/RELEASE.md).
  *
  * Every call takes any bytes and any numbers. A refusal changes nothing: record, store and output stay, byte by byte. docs/EXPORTS.md has the tables of answers,
  * refusals and sizes. A record is lent by a pointer that is not NULL; the call writes it back.
@@ -22,6 +22,13 @@ extern "C" {
 uint32_t cuddrewyn_abi(void);
 /* Asks for that function in every file that includes this header. */
 __attribute__((used)) static uint32_t (*const cuddrewyn_abi_needed)(void) = cuddrewyn_abi;
+
+/* The release that this header is of. It is the header's word, not the library's: what has to fit is CUDDREWYN_ABI. */
+#define CUDDREWYN_VERSION "0.2.0"
+#define CUDDREWYN_VERSION_MAJOR 0
+#define CUDDREWYN_VERSION_MINOR 2
+#define CUDDREWYN_VERSION_PATCH 0
+static inline const char *cuddrewyn_version(void) { return CUDDREWYN_VERSION; }
 
 /* The sizes of the structs below. */
 #define CUDDREWYN_RECORD_SIZE 104

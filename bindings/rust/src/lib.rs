@@ -107,9 +107,10 @@
 //!
 //! # Building
 //!
-//! `libexport.a`, for x86-64 Linux, is looked for in the folder that the setting `CUDDREWYN_LIB` names, else in `target/staticlib` of the
-//! repository, where `rt staticlib export` puts it. The archive has to be of this crate's version, [`raw::ABI`]. Features: `std` (default) is what needs an allocator, names as `String`; `watch` (default)
-//! is the topics watch.
+//! The crate of a release has the archive, for x86-64 Linux, inside: it needs no setting. Where there is none beside `build.rs`, it is looked
+//! for in the folder that the setting `CUDDREWYN_LIB` names, else in `target/staticlib` of the repository, where `rt staticlib export` puts it.
+//! It is named `libcuddrewyn.a` in a release, `libexport.a` in the repository, and has to be of this crate's version, [`raw::ABI`].
+//! Features: `std` (default) is what needs an allocator, names as `String`; `watch` (default) is the topics watch.
 //!
 //! # What is proved, and what is not
 //!
@@ -155,6 +156,9 @@ pub use types::{
 pub use views::{AssignedSegment, AssignmentDelta, BucketRanges, ConsumerAssignment, Lost, Segments};
 #[cfg(feature = "watch")]
 pub use watch::{ScalableTopicsWatch, Topics, TopicsChange, TopicsWatchError};
+
+/// The release that this crate is of.
+pub const VERSION: &str = env!("CARGO_PKG_VERSION");
 
 /// The bytes of one slot of a store, and the most that a packed list has.
 pub const SLOT: usize = 2_048;
