@@ -29,7 +29,8 @@ use Rattle.watch.specs.Watch as watch
 use Rattle.reply.specs.declared.Reply.{Reply}
 use Rattle.session_reply.specs.declared.SessionReply.{SessionReply}
 use Rattle.session_reply.specs.Replies.{openReply}
-use Rattle.export.specs.Exports.{Output, Opening, writeReply, writeOf, nameReply, nameOf, openOf}
+use Rattle.session_reply.specs.Exported.{Opening, openOf}
+use Rattle.export.specs.Exports.{Output, writeReply, writeOf, nameReply, nameOf}
 use Rattle.export.specs.Exports.{Watched, watchReply, watchOf, earliestReply, EarliestReply, logReply, LogReply}
 use Rattle.export.specs.Exports.{Windowed, churnReply, windowOf}
 

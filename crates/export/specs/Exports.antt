@@ -36,14 +36,11 @@ use Rattle.log_entries.specs.declared.LogAnswer.the-variants as log
 use Rattle.log_entries.specs.Passes.{Checked}
 use Rattle.session.specs.declared.Match.{Match}
 use Rattle.session.specs.declared.Match.the-variants as match′
-use Rattle.session.specs.Calls.{OpenOutcome}
 use Rattle.watch.specs.declared.WatchAnswer.{WatchAnswer}
 use Rattle.watch.specs.declared.WatchAnswer.the-variants as change
 use Rattle.watch.specs.Watch as watch
 use Rattle.reply.specs.declared.Reply.{Reply}
 use Rattle.reply.specs.Replies.{written, yes, no, found, refusedReply, takenReply, testReply}
-use Rattle.session_reply.specs.declared.SessionReply.{SessionReply}
-use Rattle.session_reply.specs.Replies.{openReply}
 
 -- ---- answers in numbers
 
@@ -156,11 +153,3 @@ pub record Watched : Type 0 where
 
 abbrev pub watchOf : watch.Outcome → Watched
 watchOf o = record { reply = watchReply (o .answer); buffer = o .buffer; out = o .out }
-
--- reply and store
-pub record Opening : Type 0 where
-  pub call : SessionReply
-  pub store : List ℕ
-
-abbrev pub openOf : OpenOutcome → Opening
-openOf o = record { call = openReply (o .answer) (o .next); store = o .store }

@@ -4,12 +4,12 @@ ghost use mathlib.Core.List.{List};
 ghost use Prim.Native.Nat.{ℕ};
 ghost use Rattle.types.specs.ConsumerTypes.{fromWire};
 ghost use Rattle.readers.specs.Places.{responsePlace};
-ghost use Rattle.session.specs.Link.{beginOf, invalidateOf};
-ghost use Rattle.session.specs.Calls.{updateOutcome, responseOutcome, drainOutcome, openOutcome, matchOf};
+ghost use Rattle.session.specs.Calls.{matchOf};
 ghost use Rattle.values.specs.Places.{placeOf, PlaceIs};
-ghost use Rattle.session_reply.specs.Replies.{recordOf, answerReply, changedReply, lentOf};
+ghost use Rattle.session_reply.specs.Replies.{recordOf, answerReply};
+ghost use Rattle.session_reply.specs.Exported.{lentOpen, lentBegin, lentInvalidate, lentUpdate, lentResponse, lentDrain};
 ghost use Rattle.session_lent.specs.Check.{checkOf};
-ghost use Rattle.export.specs.Exports.{matchReply, openOf};
+ghost use Rattle.export.specs.Exports.{matchReply};
 use crate::Part;
 use reply::Reply;
 use session::Match;
@@ -30,14 +30,8 @@ pub extern "C" fn cuddrewyn_open(
     kind: i32,
     store: &mut [u8],
 ) -> SessionReply
-    ensures { λ x. ⌜ record { call = x; store = now (store .exit) } ≡ openOf
-        (openOutcome «consumer_id» (record { 0 = incarnation })
-        (record {
-          topic = now (topic .entry);
-          subscription = now (subscription .entry);
-          consumerName = now («consumer_name» .entry);
-          consumerType = fromWire kind;
-        }) (now (store .entry))) ⌝ }
+    ensures { λ x. ⌜ record { call = x; store = now (store .exit) }
+        ≡ lentOpen «consumer_id» incarnation (now (topic .entry)) (now (subscription .entry)) (now («consumer_name» .entry)) kind (now (store .entry)) ⌝ }
 {
     let kind = ScalableConsumerType::from_pb_i32(kind);
     let opened = session_open::open(
@@ -57,7 +51,7 @@ pub extern "C" fn cuddrewyn_open(
 #[no_mangle]
 pub extern "C" fn cuddrewyn_begin(r: &mut Record, incarnation: u64) -> Reply
     ensures { λ x. ⌜ record { state = now (r .exit); reply = x }
-        ≡ changedReply (now (r .entry)) (beginOf (recordOf (now (r .entry))) (record { 0 = incarnation })) ⌝ }
+        ≡ lentBegin (now (r .entry)) incarnation ⌝ }
 {
     let begun = session_lent::begun(*r, incarnation);
     *r = begun.state;
@@ -67,7 +61,7 @@ pub extern "C" fn cuddrewyn_begin(r: &mut Record, incarnation: u64) -> Reply
 // The controller is not to be trusted any more: `invalidate_authority`.
 #[no_mangle]
 pub extern "C" fn cuddrewyn_invalidate(r: &mut Record) -> Reply
-    ensures { λ x. ⌜ record { state = now (r .exit); reply = x } ≡ changedReply (now (r .entry)) (invalidateOf (recordOf (now (r .entry)))) ⌝ }
+    ensures { λ x. ⌜ record { state = now (r .exit); reply = x } ≡ lentInvalidate (now (r .entry)) ⌝ }
 {
     let invalidated = session_lent::invalidated(*r);
     *r = invalidated.state;
@@ -84,8 +78,7 @@ pub extern "C" fn cuddrewyn_update(
     out: &mut [u8],
 ) -> Reply
     ensures { λ x. ⌜ record { reply = x; state = now (r .exit); store = now (store .exit); out = now (out .exit) }
-        ≡ lentOf (now (r .entry)) (updateOutcome (recordOf (now (r .entry))) (now (store .entry)) (now (message .entry))
-        (record { 0 = incarnation }) (now (out .entry))) ⌝ }
+        ≡ lentUpdate (now (r .entry)) (now (store .entry)) (now (message .entry)) incarnation (now (out .entry)) ⌝ }
 {
     let updated = session_lent::updated(*r, store, message, incarnation, out);
     *r = updated.state;
@@ -101,8 +94,7 @@ pub extern "C" fn cuddrewyn_response(
     incarnation: u64,
 ) -> Reply
     ensures { λ x. ⌜ ((out : List ℕ) → record { reply = x; state = now (r .exit); store = now (store .exit); out = out }
-        ≡ lentOf (now (r .entry)) (responseOutcome (recordOf (now (r .entry))) (now (store .entry)) (now (message .entry))
-        (record { 0 = incarnation }) out)) ⌝ }
+        ≡ lentResponse (now (r .entry)) (now (store .entry)) (now (message .entry)) incarnation out) ⌝ }
 {
     let responded = session_lent::responded(*r, store, message, incarnation);
     *r = responded.state;
@@ -118,7 +110,7 @@ pub extern "C" fn cuddrewyn_drain_for(
     out: &mut [u8],
 ) -> Reply
     ensures { λ x. ⌜ record { reply = x; state = now (r .exit); store = now (store .entry); out = now (out .exit) }
-        ≡ lentOf (now (r .entry)) (drainOutcome (recordOf (now (r .entry))) (now (store .entry)) reader (now (out .entry))) ⌝ }
+        ≡ lentDrain (now (r .entry)) (now (store .entry)) reader (now (out .entry)) ⌝ }
 {
     let drained = session_lent::drained(*r, store, reader, out);
     *r = drained.state;

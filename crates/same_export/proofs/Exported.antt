@@ -25,7 +25,8 @@ use Rattle.reply.specs.Replies.{replyWith, refusedReply, accepted}
 use Rattle.session_reply.specs.declared.Record.{Record}
 use Rattle.session_reply.specs.Replies.{recordOf, exportRecord, answerReply}
 use Rattle.session_reply.proofs.RecordLaws.{record-returns}
-use Rattle.same_export.specs.Calls.{link, callsOf, exportRun, ExportEnd, exportFinal, exportTrace}
+use Rattle.session_reply.specs.Exported.{link}
+use Rattle.same_export.specs.Calls.{callsOf, exportRun, ExportEnd, exportFinal, exportTrace}
 use Rattle.same_export.specs.DemandTwo.{AllSeen, fed, rustNew, DemandTwoFedExported, DemandTwoExported}
 use Rattle.same_export.specs.DemandThree.{DemandThreeExported}
 use Rattle.same_export.proofs.StepLaws.{trace-is, endOf, ends-are, floor-is}

@@ -1,48 +1,31 @@
 -- Public: the exported calls of a session, one after the other, as a caller in C has them: numbers, a plain record, bytes.
 --
--- In order: open; the five calls, and what each leaves; a list of them, each with the record and the store as the last left them; what is read
--- from a record and from a reply. What a call leaves is the right side of its contract in crates/export/src/session_calls.rt.
+-- In order: the five calls, and what each leaves; a list of them, each with the record and the store as the last left them; what is read
+-- from a record and from a reply. What a call leaves is what its contract in crates/export/src/session_calls.rt says, by the same definitions.
 -- Assumes nothing.
 use Prim.Native.Nat.{ℕ}
 use mathlib.Core.Bool.{cond, not}
 use mathlib.Core.List.{List, [], _∷_, map}
 use mathlib.Core.Option.{Option, some, none}
-use lib.IntN.{ℤ}
 use lib.ListN.{take}
 use lib.Dec.{eqb}
-use Rattle.types.specs.declared.ControllerIncarnation.{ControllerIncarnation}
-use Rattle.types.specs.ConsumerTypes.{fromWire}
 use Rattle.packed.specs.Assignment.{ConsumerAssignment}
 use Rattle.delta.specs.Delta.{AssignmentDelta, deltaOf}
 use Rattle.session.specs.declared.Floor.{Floor}
 use Rattle.session.specs.declared.Floor.the-variants.{Unset, At}
 use Rattle.session.specs.Store.{baselineSlot, listSlot, listIn}
-use Rattle.session.specs.Identity.{Identity}
-use Rattle.session.specs.Link.{beginOf, invalidateOf}
-use Rattle.session.specs.Calls.{updateOutcome, responseOutcome, drainOutcome, openOutcome}
 use Rattle.session.specs.Trace as trace
 use Rattle.session.specs.Trace.{Call, Event}
 use Rattle.reply.specs.declared.Reply.{Reply}
 use Rattle.reply.specs.Replies.{refused, unchanged, delta, replay}
 use Rattle.session_reply.specs.declared.Record.{Record}
 use Rattle.session_reply.specs.declared.SessionReply.{SessionReply}
-use Rattle.session_reply.specs.Replies.{isSet, recordOf, changedReply, openReply, Lent, lentOf}
-
-abbrev pub link : ℕ → ControllerIncarnation
-link incarnation = record { 0 = incarnation }
+use Rattle.session_reply.specs.Replies.{isSet, Lent}
+use Rattle.session_reply.specs.Exported.{link, Opening, lentBegin, lentInvalidate, lentUpdate, lentResponse, lentDrain}
 
 -- a call that is lent no output
 abbrev pub noOutput : SessionReply → (store : List ℕ) → Lent
 noOutput x store = record { reply = x .reply; state = x .state; store = store; out = [] }
-
--- ---- `cuddrewyn_open`
-
--- the kind is the integer of the wire
-abbrev pub lentOpen : (consumer incarnation : ℕ) → (topic subscription consumerName : List ℕ) → (kind : ℤ) → (store : List ℕ) → Lent
-lentOpen consumer incarnation topic subscription consumerName kind store =
-    let i : Identity = record { topic = topic; subscription = subscription; consumerName = consumerName; consumerType = fromWire kind } in
-    let o = openOutcome consumer (link incarnation) i store in
-    noOutput (openReply (o .answer) (o .next)) (o .store)
 
 -- ---- `cuddrewyn_update`, `cuddrewyn_response`, `cuddrewyn_drain_for`, `cuddrewyn_begin`, `cuddrewyn_invalidate`
 
@@ -64,13 +47,16 @@ callOf invalidate = trace.invalidate
 abbrev pub callsOf : List ExportCall → List Call
 callsOf calls = map callOf calls
 
--- what a call leaves: reply, record, store, output; begin and invalidate are lent no store
+-- what a call leaves: reply, record, store, output; open, begin and invalidate are lent no output
+abbrev pub leftByOpen : Opening → Lent
+leftByOpen o = noOutput (o .call) (o .store)
+
 abbrev pub lentStep : Record → (store : List ℕ) → ExportCall → Lent
-lentStep r store (update message incarnation out) = lentOf r (updateOutcome (recordOf r) store message (link incarnation) out)
-lentStep r store (response message incarnation) = lentOf r (responseOutcome (recordOf r) store message (link incarnation) [])
-lentStep r store (drain reader out) = lentOf r (drainOutcome (recordOf r) store reader out)
-lentStep r store (begin incarnation) = noOutput (changedReply r (beginOf (recordOf r) (link incarnation))) store
-lentStep r store invalidate = noOutput (changedReply r (invalidateOf (recordOf r))) store
+lentStep r store (update message incarnation out) = lentUpdate r store message incarnation out
+lentStep r store (response message incarnation) = lentResponse r store message incarnation []
+lentStep r store (drain reader out) = lentDrain r store reader out
+lentStep r store (begin incarnation) = noOutput (lentBegin r incarnation) store
+lentStep r store invalidate = noOutput (lentInvalidate r) store
 
 -- ---- a list of calls: "each call gets both as the last left them"
 

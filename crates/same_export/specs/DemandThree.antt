@@ -10,12 +10,13 @@ use Rattle.session.specs.Session.{readers}
 use Rattle.session.specs.Observers.{unseen, watch, allDrained}
 use Rattle.session.specs.DemandThree.{AllOfBytes, Claim}
 use Rattle.reply.specs.Replies.{accepted}
-use Rattle.same_export.specs.Calls.{lentOpen, ExportCall, callsOf, exportFinal, exportHeld, exportFloor, exportTrace}
+use Rattle.session_reply.specs.Exported.{lentOpen}
+use Rattle.same_export.specs.Calls.{ExportCall, callsOf, exportFinal, exportHeld, exportFloor, exportTrace, leftByOpen}
 
 abbrev pub DemandThreeExported : Type 0
 DemandThreeExported =
     (consumer incarnation : ℕ) (topic subscription consumerName : List ℕ) (kind : ℤ) (store : List ℕ)
-    → let o = lentOpen consumer incarnation topic subscription consumerName kind store in
+    → let o = leftByOpen (lentOpen consumer incarnation topic subscription consumerName kind store) in
     o .reply .answer ≡ accepted → (reader : ℕ) → reader < readers → (calls : List ExportCall) → AllOfBytes (callsOf calls)
     → let events = exportTrace (o .state) (o .store) calls in let end = exportFinal (o .state) (o .store) calls in
     allDrained reader events ≡ true → Claim (exportHeld (end .state) (end .store)) (exportFloor (end .state)) (watch reader unseen events)

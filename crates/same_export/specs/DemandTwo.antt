@@ -28,7 +28,8 @@ use Rattle.same_session.specs.Demand.{Told, Shown, topicIn, sheetAt, Caller, ru
 use Rattle.reply.specs.declared.Reply.{Reply}
 use Rattle.reply.specs.Replies.{refused, accepted, unchanged, delta, replay, refusedReply}
 use Rattle.session_reply.specs.Replies.{isSet, Lent}
-use Rattle.same_export.specs.Calls.{link, lentOpen, ExportCall, update, response, drain, begin, invalidate, callOf, callsOf, Step, exportRun}
+use Rattle.session_reply.specs.Exported.{link, lentOpen}
+use Rattle.same_export.specs.Calls.{ExportCall, update, response, drain, begin, invalidate, callOf, callsOf, Step, exportRun, leftByOpen}
 use Rattle.same_export.specs.Calls.{exportHeld, exportFloor}
 
 -- ---- what a caller in C sees is what the Rust shows
@@ -93,7 +94,7 @@ rustNew consumer incarnation topic subscription consumerName kind =
 abbrev pub DemandTwoFedExported : Type 0
 DemandTwoFedExported =
     (consumer incarnation : ℕ) (topic subscription consumerName : List ℕ) (kind : ℤ) (store : List ℕ)
-    → let o = lentOpen consumer incarnation topic subscription consumerName kind store in
+    → let o = leftByOpen (lentOpen consumer incarnation topic subscription consumerName kind store) in
     o .reply .answer ≡ accepted → isMarked topic ≡ false
     → (calls : List ExportCall) → AllOfBytes (callsOf calls) → (reader : ℕ) → oneReader reader (callsOf calls) ≡ true
     → let steps = fed (exportRun (o .state) (o .store) calls) in
@@ -103,7 +104,7 @@ DemandTwoFedExported =
 abbrev pub DemandTwoExported : Type 0
 DemandTwoExported =
     (consumer incarnation : ℕ) (topic subscription consumerName : List ℕ) (kind : ℤ) (store : List ℕ)
-    → let o = lentOpen consumer incarnation topic subscription consumerName kind store in
+    → let o = leftByOpen (lentOpen consumer incarnation topic subscription consumerName kind store) in
     o .reply .answer ≡ accepted → isMarked topic ≡ false → (room : ℕ) → room ≤ slotSize → storeFor room ≤ length store
     → (calls : List ExportCall) → AllOfBytes (callsOf calls) → (reader : ℕ) → oneReader reader (callsOf calls) ≡ true
     → allRoomy room topic (callsOf calls) ≡ true
