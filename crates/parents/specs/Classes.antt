@@ -1,7 +1,10 @@
 -- The classes of a name's bytes (01, Names: "digit, a to f, `/`, `-`, `?`, `#`, other").
 -- Assumes nothing.
-use Prim.Native.Nat.{ℕ}
+use Prim.Native.Nat.{ℕ, _<_}
+use mathlib.Core.Path.{_≡_}
 use mathlib.Core.Bool.{Bool, cond, _&&_, _||_}
+use mathlib.Core.List.{List}
+use lib.ListN.{getD}
 use lib.Dec.{leb, eqb}
 
 -- b lies between low and high, both included
@@ -34,3 +37,9 @@ isDash b = eqb (classOf b) 4
 -- '?' or '#'
 abbrev pub isMark : ℕ → Bool
 isMark b = eqb (classOf b) 5 || eqb (classOf b) 6
+
+-- ---- what a helper of src/ is lent
+
+-- the table has the class of each byte at its place
+abbrev pub Sorts : List ℕ → Type 0
+Sorts table = (b : ℕ) → b < 256 → getD table b 0 ≡ classOf b

@@ -1,6 +1,6 @@
 // The classes of a name's bytes.
 ghost use mathlib.Core.Path.{_≡_};
-ghost use Rattle.parents.specs.Classes.{classOf};
+ghost use Rattle.parents.specs.Classes.{classOf, Sorts};
 
 pub const OTHER: u8 = 0;
 
@@ -290,6 +290,22 @@ const CLASSES: [u8; 256] = [
     0,
     0,
 ];
+
+// The table, for a walk that looks bytes up in it: a constant that is read at an index is built anew for each byte.
+pub fn classes() -> [u8; 256]
+    ensures { λ r. ⌜ Sorts r ⌝ }
+{
+    CLASSES
+}
+
+// The class of a byte, by the table that is lent.
+pub fn class_in(table: &[u8; 256], b: u8) -> u8
+    requires { ⌜ Sorts (now table) ⌝ }
+    ensures { λ r. ⌜ r ≡ classOf b ⌝ }
+{
+    let i = b as usize;
+    table[i]
+}
 
 // The class of a byte.
 pub fn class_of(b: u8) -> u8

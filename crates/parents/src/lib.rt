@@ -5,6 +5,7 @@ mod class;
 ghost use mathlib.Core.Path.{_≡_};
 ghost use Prim.Native.Nat.{_≤_};
 ghost use lib.ListN.{length, drop};
+ghost use Rattle.parents.specs.Classes.{Sorts};
 ghost use Rattle.parents.specs.Parents.{clean, isPath, isParent, SlashAt};
 pub use class::DASH;
 pub use class::DIGIT;
@@ -12,16 +13,19 @@ use class::HASH;
 pub use class::HEX_LETTER;
 use class::QUESTION;
 pub use class::SLASH;
+use class::class_in;
 pub use class::class_of;
+use class::classes;
 
 // The place of the first '/' from a place on, or the end.
-fn slash_from(s: &[u8], from: usize) -> usize
+fn slash_from(table: &[u8; 256], s: &[u8], from: usize) -> usize
     requires { ⌜ from ≤ length (now s) ⌝ }
+    requires { ⌜ Sorts (now table) ⌝ }
     ensures { λ r. ⌜ SlashAt (now (s .entry)) from r ⌝ }
 {
     let mut i = from;
     while i < s.len() {
-        if class_of(s[i]) == SLASH {
+        if class_in(table, s[i]) == SLASH {
             return i;
         }
         i = i + 1;
@@ -30,12 +34,13 @@ fn slash_from(s: &[u8], from: usize) -> usize
 }
 
 // No byte from a place on is '?' or '#'.
-fn is_clean(s: &[u8], from: usize) -> bool
+fn is_clean(table: &[u8; 256], s: &[u8], from: usize) -> bool
+    requires { ⌜ Sorts (now table) ⌝ }
     ensures { λ r. ⌜ r ≡ clean (drop from (now (s .entry))) ⌝ }
 {
     let mut i = from;
     while i < s.len() {
-        let class = class_of(s[i]);
+        let class = class_in(table, s[i]);
         if class == QUESTION {
             return false;
         }
@@ -53,24 +58,25 @@ pub fn is_path(p: &[u8]) -> bool
     ensures { λ r. ⌜ r ≡ isPath (now (p .entry)) ⌝ }
 {
     let end = p.len();
-    let a = slash_from(p, 0);
+    let table = classes();
+    let a = slash_from(&table, p, 0);
     if a == 0 {
         return false;
     }
     if end <= a {
         return false;
     }
-    let b = slash_from(p, a + 1);
+    let b = slash_from(&table, p, a + 1);
     if b == a + 1 {
         return false;
     }
     if end <= b + 1 {
         return false;
     }
-    if class_of(p[end - 1]) == SLASH {
+    if class_in(&table, p[end - 1]) == SLASH {
         return false;
     }
-    is_clean(p, 0)
+    is_clean(&table, p, 0)
 }
 
 // The text is a parent.

@@ -12,31 +12,31 @@ use Rattle.parents.proofs.is_clean.Statement.{statement}
 use Rattle.parents.proofs.is_clean.Tie as tie
 
 abbrev Inv-loop : tie.InvT-loop
-Inv-loop s from i₀ i = clean (drop from s) ≡ clean (drop i s)
+Inv-loop table s from i₀ i = clean (drop from s) ≡ clean (drop i s)
 
 abbrev μ-loop : tie.MeasureT-loop
-μ-loop s from i₀ i = length s - i
+μ-loop table s from i₀ i = length s - i
 
 loop-holds : tie.Need-loop-holds Inv-loop μ-loop
 loop-holds c = refl
 
-shared-slice-read-class-of : tie.Need-shared-slice-read-class-of Inv-loop μ-loop
-shared-slice-read-class-of c = search needs
+shared-slice-read-class-in : tie.Need-shared-slice-read-class-in Inv-loop μ-loop
+shared-slice-read-class-in c = search needs
 
-class-of-requires : tie.Need-class-of-requires Inv-loop μ-loop
-class-of-requires c κs = search needs
+class-in-requires : tie.Need-class-in-requires Inv-loop μ-loop
+class-in-requires c κs = search needs
 
 returns : tie.Need-returns Inv-loop μ-loop
 returns c =
     let s = c .before .before .before .before .before .before .args .s .now in
     let l = c .before .before .before .before .loop in
-    sym (l .inv ∙ clean-mark s (l .i) (omega arith) (inl (sym (c .before .class-of .ensures) ∙ c .if1 .taken)))
+    sym (l .inv ∙ clean-mark s (l .i) (omega arith) (inl (sym (c .before .class-in .ensures) ∙ c .if1 .taken)))
 
 returns-2 : tie.Need-returns-2 Inv-loop μ-loop
 returns-2 c =
     let s = c .before .before .before .before .before .before .before .args .s .now in
     let l = c .before .before .before .before .before .loop in
-    sym (l .inv ∙ clean-mark s (l .i) (omega arith) (inr (sym (c .before .before .class-of .ensures) ∙ c .if2 .taken)))
+    sym (l .inv ∙ clean-mark s (l .i) (omega arith) (inr (sym (c .before .before .class-in .ensures) ∙ c .if2 .taken)))
 
 add-i : tie.Need-add-i Inv-loop μ-loop
 add-i c = search needs
@@ -48,7 +48,7 @@ loop-again : tie.Need-loop-again Inv-loop μ-loop
 loop-again c =
     let s = c .before .before .before .before .before .before .before .args .s .now in
     let l = c .before .before .before .before .before .loop in
-    let class = c .before .before .class-of .ensures in
+    let class = c .before .before .class-in .ensures in
     l .inv ∙ clean-next s (l .i) (omega arith) (λ e. c .before .if1 .left (class ∙ e)) (λ e. c .if2 .left (class ∙ e))
 
 returns-3 : tie.Need-returns-3 Inv-loop μ-loop
@@ -64,8 +64,8 @@ is-clean-spec =
     Inv-loop
     μ-loop
     loop-holds
-    shared-slice-read-class-of
-    class-of-requires
+    shared-slice-read-class-in
+    class-in-requires
     returns
     returns-2
     add-i

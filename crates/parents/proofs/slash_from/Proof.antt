@@ -12,25 +12,25 @@ use Rattle.parents.proofs.slash_from.Statement.{statement}
 use Rattle.parents.proofs.slash_from.Tie as tie
 
 abbrev Inv-loop : tie.InvT-loop
-Inv-loop s from i₀ i = (from ≤ i) × (i ≤ length s) × ((r : ℕ) → SlashAt s i r → SlashAt s from r)
+Inv-loop table s from i₀ i = (from ≤ i) × (i ≤ length s) × ((r : ℕ) → SlashAt s i r → SlashAt s from r)
 
 abbrev μ-loop : tie.MeasureT-loop
-μ-loop s from i₀ i = length s - i
+μ-loop table s from i₀ i = length s - i
 
 loop-holds : tie.Need-loop-holds Inv-loop μ-loop
-loop-holds c = (omega arith, c .before .pre, λ r q. q)
+loop-holds c = (omega arith, c .before .pre .0, λ r q. q)
 
-shared-slice-read-class-of : tie.Need-shared-slice-read-class-of Inv-loop μ-loop
-shared-slice-read-class-of c = search needs
+shared-slice-read-class-in : tie.Need-shared-slice-read-class-in Inv-loop μ-loop
+shared-slice-read-class-in c = search needs
 
-class-of-requires : tie.Need-class-of-requires Inv-loop μ-loop
-class-of-requires c κs = search needs
+class-in-requires : tie.Need-class-in-requires Inv-loop μ-loop
+class-in-requires c κs = search needs
 
 returns : tie.Need-returns Inv-loop μ-loop
 returns c =
     let s = c .before .before .before .before .before .before .args .s .now in
     let l = c .before .before .before .before .loop in
-    l .inv .2 (l .i) (slash-here s (l .i) (omega arith) (sym (c .before .class-of .ensures) ∙ c .if1 .taken))
+    l .inv .2 (l .i) (slash-here s (l .i) (omega arith) (sym (c .before .class-in .ensures) ∙ c .if1 .taken))
 
 add-i : tie.Need-add-i Inv-loop μ-loop
 add-i c = search needs
@@ -42,7 +42,7 @@ loop-again : tie.Need-loop-again Inv-loop μ-loop
 loop-again c =
     let s = c .before .before .before .before .before .before .args .s .now in
     let l = c .before .before .before .before .loop in
-    let class = c .before .class-of .ensures in
+    let class = c .before .class-in .ensures in
     (omega arith, omega arith, λ r q. l .inv .2 r (slash-next s (l .i) (omega arith) r (λ e. c .if1 .left (class ∙ e)) q))
 
 returns-2 : tie.Need-returns-2 Inv-loop μ-loop
@@ -59,8 +59,8 @@ slash-from-spec =
     Inv-loop
     μ-loop
     loop-holds
-    shared-slice-read-class-of
-    class-of-requires
+    shared-slice-read-class-in
+    class-in-requires
     returns
     add-i
     loop-less
