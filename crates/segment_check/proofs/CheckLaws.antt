@@ -8,7 +8,7 @@ use native.Mathlib.Nat.{add-sub-cancel-left}
 use native.Mathlib.Omega.{arith}
 use mathlib.Core.Path.{_≡_, refl, sym, ap, subst, _∙_}
 use mathlib.Core.Bool.{Bool, true, false, cond}
-use mathlib.Core.List.{List, [], _∷_}
+use mathlib.Core.List.{List, [], _∷_, map}
 use mathlib.Core.Option.{Option, some, none}
 use lib.ListN.{length, take, drop}
 use borrow.Author.Tests.{leb-true}
@@ -36,10 +36,10 @@ use Rattle.readers.specs.Messages.{segmentOf}
 use Rattle.readers.specs.Places.{SegmentIs}
 use Rattle.content.specs.declared.Outside.{Outside}
 use Rattle.content.specs.declared.Outside.the-variants.{At, Nothing}
-use Rattle.content.specs.Content.{wireId, bucketFault, bucketsOf, overlapFault, firstOutside, outsideOf, outsideFault, nameFault, segmentFault}
+use Rattle.content.specs.Content.{wireId, bucketFault, bucketOf, bucketsOf, overlapFault, firstOutside, outsideOf, outsideFault, nameFault, segmentFault}
 use Rattle.content.proofs.OutsideLaws.{place-found, place-none}
 use Rattle.segment_scan.specs.declared.SegmentScan.{SegmentScan}
-use Rattle.segment_scan.proofs.RunLaws.{run-bad, run-good, run-ok, run-rising}
+use Rattle.segment_scan.proofs.RunLaws.{run-bad, run-good, run-count, run-ok, run-rising}
 use Rattle.bucket_rows.specs.Rows.{bucketsFrom}
 use Rattle.segment_check.specs.declared.Verdict.{Verdict}
 use Rattle.segment_check.specs.declared.Verdict.the-variants.{Good, Refused}
@@ -111,6 +111,10 @@ all-good (r ∷ rs) o f =
     let e = f .0 .end in
     more (record { in-order = leb-true (r .start) (r .end) (p .0); small = omega arith }) (all-good rs (p .1) (f .1))
 
+none-left : {A : Type 0} (xs : List A) → length xs ≡ 0 → xs ≡ []
+none-left [] e = refl
+none-left (x ∷ xs) e = absurd (omega arith)
+
 -- what is left of the tests behind the range
 abbrev pub bucketsFault : List ℕ → List ℕ → Option Refusal
 bucketsFault parent p =
@@ -138,6 +142,18 @@ module _ (parent : List ℕ) {p : List ℕ} {scan : SegmentScan} (S : ScanOf p s
     apart : anyOverlap (bucketsOf (segmentOf p)) ≡ false → {r : Verdict} → r ≡ verdictOf (insideFault parent p)
         → r ≡ verdictOf (bucketsFault parent p)
     apart a e = rw (good (wireId (segmentOf p)), a) e
+
+    -- there are none
+    pub buckets-none : scan .run .count ≡ 0 → {r : Verdict} → r ≡ verdictOf (nameFault parent (segmentOf p))
+        → r ≡ verdictOf (bucketsFault parent p)
+    unfolding anyOverlap firstOutside
+    buckets-none h e =
+        let w = segmentOf p in
+        let n : length (w .bucketRanges) ≡ 0 = sym (run-count (w .bucketRanges) (rw (S .run) at g)) ∙ (rw (S .run) at h) in
+        let b : bucketsOf w ≡ [] = ap (map bucketOf) (none-left (w .bucketRanges) n) in
+        let o : firstOutside (keyRange (w .hashStart) (w .hashEnd)) 0 (bucketsOf w) ≡ none =
+        ap (firstOutside (keyRange (w .hashStart) (w .hashEnd)) 0) b in
+        apart (ap anyOverlap b) (rw o e)
 
     pub buckets-rise : scan .run .rising ≡ true → {r : Verdict} → r ≡ verdictOf (insideFault parent p)
         → r ≡ verdictOf (bucketsFault parent p)

@@ -63,7 +63,7 @@ fn check_inside(p: &[u8], parent: &[u8], good: bool, head: SegmentHead) -> Verdi
     }
 }
 
-// Each bucket (10), then all of them (11), unless they rise; then the segment's range (34) and the name.
+// Each bucket (10), then all of them (11), unless they rise; then the segment's range (34) and the name. Without buckets the name alone.
 fn check_buckets(p: &[u8], parent: &[u8], good: bool, scan: SegmentScan) -> Verdict
     requires { ⌜ good ≡ isParent (now parent) ⌝ }
     requires { ⌜ ScanOf (now p) scan ⌝ }
@@ -82,6 +82,9 @@ fn check_buckets(p: &[u8], parent: &[u8], good: bool, scan: SegmentScan) -> Verd
             start: last.start,
             end: last.end,
         });
+    }
+    if run.count == 0 {
+        return check_name(p, parent, good, head);
     }
     if run.rising {
         return check_inside(p, parent, good, head);
