@@ -215,7 +215,7 @@ fn answered(
     }
 }
 
-// A response in any form: its message is scanned, 3, 4, 7, 6, and read.
+// A response in any form: its message is scanned, 3, 4, 7, 6, and read. Only over this link, 23, its assignment is taken in.
 fn scanned(
     r: SessionRecord,
     store: &mut [u8],
@@ -231,6 +231,16 @@ fn scanned(
     match messages::first_fault(MessageKind::CommandScalableTopicSubscribeResponse, message) {
         Checked::Refused(x) => session_record::refuse(r, x),
         Checked::Valid => {
+            let expected = r.incarnation;
+            if incarnation.0 != expected.0 {
+                return session_record::refuse(
+                    r,
+                    Refusal::IncarnationMismatch {
+                        got: incarnation,
+                        expected,
+                    },
+                );
+            }
             let intake = take_response(store, message, b);
             answered(r, store, incarnation, intake, b)
         }

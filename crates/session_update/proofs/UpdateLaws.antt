@@ -2,15 +2,16 @@
 --
 -- In order: epochs and the list where they lie (`buffer-epoch` to `list-starts`); a store that is not damaged (`identity-good` to
 -- `list-good`); an unregistered session (`epoch-low`, `queue-full`, `no-room`, `queue-joined`); a registered one (`list-same`, `epoch-stale`,
--- `list-held`); what the assignment comes to (`content-refuses` to `content-joins`); link and consumer (`other-link`, `other-consumer`,
--- `addressed`); the message (`update-epoch` to `message-valid`); the call (`store-short` to `call-sound`).
+-- `list-held`); what the assignment comes to (`content-refuses` to `content-joins`); link and consumer
+-- (`address-link` to `let-in`); the message (`update-epoch` to `message-valid`); the call (`store-short` to `call-sound`).
 -- Assumes nothing.
 use Prim.Native.Nat.{ℕ, _+_, _-_, _≤_, _<_}
 use native.Mathlib.Omega.{arith}
-use mathlib.Core.Path.{_≡_, sym, ap, _∙_}
-use mathlib.Core.Bool.{Bool, true, false, not}
+use mathlib.Core.Path.{_≡_, refl, sym, ap, _∙_}
+use mathlib.Core.Bool.{Bool, true, false, not, cond}
 use mathlib.Core.List.{List}
 use lib.ListN.{length, take, drop}
+use lib.Dec.{eqb}
 use lib.Seq.{take-take}
 use borrow.Author.Tests.{lt-ltb, le-ltb, eq-eqb, ne-eqb}
 use Rattle.types.specs.declared.ControllerIncarnation.{ControllerIncarnation}
@@ -37,7 +38,7 @@ use Rattle.session.specs.declared.Floor.{Floor}
 use Rattle.session.specs.declared.Answer.the-variants.{Refused, Unchanged, Delta}
 use Rattle.session.specs.Store.{slot, listIn, queueIn, queueEnd, writeOne}
 use Rattle.session.specs.Identity.{topicOf, isIdentity}
-use Rattle.session.specs.Session.{view, damaged, raise}
+use Rattle.session.specs.Session.{view, damaged, raise, Result, refuse}
 use Rattle.session.specs.Update.{withQueueCount, withFloor, updateUnregistered, updateRegistered}
 use Rattle.session.specs.Tails.{updateContent, updateValid, updateChecked}
 use Rattle.session.specs.Update.{updateCall}
@@ -47,6 +48,9 @@ use Rattle.session_record.proofs.FloorLaws.{floor-below, floor-met}
 use Rattle.session_store.proofs.StoreLaws.{slot-at, count-most, lists-start}
 use Rattle.session_store.proofs.StoreLaws as store
 use Rattle.session_intake.specs.Taken.{contentIn, PlainMessageTaken}
+use Rattle.session_update.specs.declared.Address.{Address}
+use Rattle.session_update.specs.declared.Address.the-variants as address
+use Rattle.session_update.specs.Address.{addressOf, byAddress}
 
 -- what is answered, with the record, is the outcome
 pub told : (st out : List ℕ) {z : Outcome} {x y : Changed} → x ≡ y → outcome (y .answer) (y .next) st out ≡ z
@@ -170,26 +174,57 @@ module _ (r : SessionRecord) (st out : List ℕ) (c : Content) where
 
 -- ---- link and consumer
 
-module _ (r : SessionRecord) (st out : List ℕ) (incarnation : ControllerIncarnation) (u : WireUpdate) where
-  pub other-link : (incarnation .0 ≡ r .incarnation .0 → ⊥)
-      → outcome (Refused (refusal.IncarnationMismatch incarnation (r .incarnation))) r st out
-      ≡ effectOf (updateValid (view r st) incarnation u) st out
+module _ (r : SessionRecord) (incarnation : ControllerIncarnation) (id : ℕ) where
+  pub address-link : (incarnation .0 ≡ r .incarnation .0 → ⊥)
+      → address.Refused (refusal.IncarnationMismatch incarnation (r .incarnation)) ≡ addressOf r incarnation id
+  address-link h = rw (ne-eqb (incarnation .0) (r .incarnation .0) h)
+
+  module _ (h : incarnation .0 ≡ r .incarnation .0) where
+    pub address-consumer : (id ≡ r .«consumer_id» → ⊥)
+        → address.Refused (refusal.ConsumerMismatch id (r .«consumer_id»)) ≡ addressOf r incarnation id
+    address-consumer k = rw (eq-eqb (incarnation .0) (r .incarnation .0) h, ne-eqb id (r .«consumer_id») k)
+
+    pub address-here : id ≡ r .«consumer_id» → address.Here ≡ addressOf r incarnation id
+    address-here k = rw (eq-eqb (incarnation .0) (r .incarnation .0) h, eq-eqb id (r .«consumer_id») k)
+
+module _ (r : SessionRecord) (st out : List ℕ) (incarnation : ControllerIncarnation) (u : WireUpdate) (a : Address)
+    (e : a ≡ addressOf r incarnation (u .consumerId)) where
+  -- the cascade by its first two tests
+  valid-by : updateValid (view r st) incarnation u ≡ byAddress a (view r st) (contentOf (topicOf (slot st 0)) (u .assignment))
   unfolding updateValid view
-  other-link h = rw (ne-eqb (incarnation .0) (r .incarnation .0) h)
+  valid-by =
+      go (eqb (incarnation .0) (r .incarnation .0)) (eqb (u .consumerId) (r .«consumer_id»))
+      ∙ sym (ap (λ (x : Address). byAddress x (view r st) (contentOf (topicOf (slot st 0)) (u .assignment))) e)
+    where
+      link : Refusal
+      link = refusal.IncarnationMismatch incarnation (r .incarnation)
 
-  module _ (h : incarnation .0 ≡ r .incarnation .0) (id : ℕ) (e : id ≡ u .consumerId) where
-    pub other-consumer : (id ≡ r .«consumer_id» → ⊥)
-        → outcome (Refused (refusal.ConsumerMismatch id (r .«consumer_id»))) r st out
-        ≡ effectOf (updateValid (view r st) incarnation u) st out
-    unfolding updateValid view
-    other-consumer k = rw (eq-eqb (incarnation .0) (r .incarnation .0) h, ← e, ne-eqb id (r .«consumer_id») k)
+      consumer : Refusal
+      consumer = refusal.ConsumerMismatch (u .consumerId) (r .«consumer_id»)
 
-    pub addressed : id ≡ r .«consumer_id»
-        → {z : Outcome} → z ≡ effectOf (updateContent (view r st) (contentOf (topicOf (slot st 0)) (u .assignment))) st out
-        → z ≡ effectOf (updateValid (view r st) incarnation u) st out
-    unfolding updateValid view
-    addressed k w =
-        w ∙ rw (eq-eqb (incarnation .0) (r .incarnation .0) h, eq-eqb (u .consumerId) (r .«consumer_id») (sym e ∙ k))
+      content : Content
+      content = contentOf (topicOf (slot st 0)) (u .assignment)
+
+      go : (s t : Bool)
+          → cond (not s) (refuse link (view r st)) (cond (not t) (refuse consumer (view r st)) (updateContent (view r st) content))
+          ≡ byAddress (cond (not s) (address.Refused link) (cond (not t) (address.Refused consumer) address.Here)) (view r st) content
+      go true true = refl
+      go true false = refl
+      go false t = refl
+
+  pub turned-away : (x : Refusal) → a ≡ address.Refused x
+      → outcome (Refused x) r st out ≡ effectOf (updateValid (view r st) incarnation u) st out
+  unfolding view
+  turned-away x h =
+      sym (ap (λ (q : Result). effectOf q st out)
+      (valid-by ∙ ap (λ (y : Address). byAddress y (view r st) (contentOf (topicOf (slot st 0)) (u .assignment))) h))
+
+  pub let-in : a ≡ address.Here → {z : Outcome}
+      → z ≡ effectOf (updateContent (view r st) (contentOf (topicOf (slot st 0)) (u .assignment))) st out
+      → z ≡ effectOf (updateValid (view r st) incarnation u) st out
+  let-in h w =
+      w ∙ sym (ap (λ (q : Result). effectOf q st out)
+      (valid-by ∙ ap (λ (y : Address). byAddress y (view r st) (contentOf (topicOf (slot st 0)) (u .assignment))) h))
 
 -- ---- the message
 

@@ -1,7 +1,7 @@
 // Update: a push of the controller, `handle_assignment_update_for`.
 //
-// The message's assignment is taken into a buffer of one slot before link and consumer are tested; what is refused before the last test has written nothing to store
-// or output.
+// The message's assignment is taken into a buffer of one slot: in its usual form by the walk that tests the message, else behind link and consumer. What is refused
+// before the last test has written nothing to store or output.
 ghost use mathlib.Core.Path.{_≡_};
 ghost use mathlib.Core.Bool.{true};
 ghost use mathlib.Core.List.{List};
@@ -11,17 +11,18 @@ ghost use Rattle.schema.specs.FirstFault.{firstFault};
 ghost use Rattle.readers.specs.Messages.{WireUpdate};
 ghost use Rattle.packed.specs.Assignment.{startsAssignment};
 ghost use Rattle.packed.specs.Assignment as packed-form;
-ghost use Rattle.content.specs.Content.{contentOf};
+ghost use Rattle.content.specs.Content.{taken, contentOf};
 ghost use Rattle.session.specs.Store.{slot};
 ghost use Rattle.session.specs.Identity.{topicOf};
 ghost use Rattle.session.specs.Session.{view};
 ghost use Rattle.session.specs.Update.{updateUnregistered, updateRegistered};
-ghost use Rattle.session.specs.Tails.{updateValid, updateChecked};
+ghost use Rattle.session.specs.Tails.{updateContent, updateValid, updateChecked};
 ghost use Rattle.session.specs.Calls.{outcome, effectOf, updateOutcome};
 ghost use Rattle.session_store.specs.Scratch.{Scratch};
 ghost use Rattle.session_store.specs.Places.{QueueEnds};
 ghost use Rattle.session_store.specs.Tests.{StoreTested};
 ghost use Rattle.session_intake.specs.Taken.{contentFrom, Ready};
+ghost use Rattle.session_update.specs.Address.{addressOf};
 use intake::Intake;
 use messages::Checked;
 use messages::MessageKind;
@@ -98,13 +99,39 @@ fn held(r: SessionRecord, store: &mut [u8], b: &[u8], n: usize, out: &mut [u8]) 
     }
 }
 
-// A valid update of a consumer, whose assignment the intake took into the buffer, or refused. Refused in order: 23, 24, 9 to 11, 34, 12 to 15, then 26, 28 or 27.
-fn addressed(
+// Whom an update is for.
+enum Address {
+    // This session.
+    Here,
+    // Another link (23) or another consumer (24).
+    Refused(Refusal),
+}
+
+// Link and consumer of a valid update: 23, then 24.
+fn address_of(r: SessionRecord, consumer_id: u64, incarnation: ControllerIncarnation) -> Address
+    ensures { λ x. ⌜ x ≡ addressOf r incarnation «consumer_id» ⌝ }
+{
+    let expected = r.incarnation;
+    if incarnation.0 != expected.0 {
+        return Address::Refused(Refusal::IncarnationMismatch {
+            got: incarnation,
+            expected,
+        });
+    }
+    if consumer_id != r.consumer_id {
+        return Address::Refused(Refusal::ConsumerMismatch {
+            got: consumer_id,
+            expected: r.consumer_id,
+        });
+    }
+    Address::Here
+}
+
+// An update for this session, whose assignment the intake took into the buffer, or refused (9 to 11, 34, 12 to 15); then 26, 28 or 27.
+fn received(
     r: SessionRecord,
     store: &mut [u8],
     end: usize,
-    consumer_id: u64,
-    incarnation: ControllerIncarnation,
     intake: Intake,
     b: &[u8],
     out: &mut [u8],
@@ -112,30 +139,9 @@ fn addressed(
     requires { ⌜ (6144 ≤ length (now store)) × (3210 ≤ length (now out)) ⌝ }
     requires { ⌜ StoreTested r (now store) (Tested.Sound end) ⌝ }
     requires { ⌜ Ready intake (now b) ⌝ }
-    ensures { λ x. ⌜ ((u : WireUpdate) → «consumer_id» ≡ u .consumerId
-        → contentOf (topicOf (slot (now (store .entry)) 0)) (u .assignment) ≡ contentFrom intake (now (b .entry))
-        → outcome (x .answer) (x .next) (now (store .exit)) (now (out .exit))
-        ≡ effectOf (updateValid (view r (now (store .entry))) incarnation u) (now (store .entry)) (now (out .entry))) ⌝ }
+    ensures { λ x. ⌜ outcome (x .answer) (x .next) (now (store .exit)) (now (out .exit))
+        ≡ effectOf (updateContent (view r (now (store .entry))) (contentFrom intake (now (b .entry)))) (now (store .entry)) (now (out .entry)) ⌝ }
 {
-    let expected = r.incarnation;
-    if incarnation.0 != expected.0 {
-        return session_record::refuse(
-            r,
-            Refusal::IncarnationMismatch {
-                got: incarnation,
-                expected,
-            },
-        );
-    }
-    if consumer_id != r.consumer_id {
-        return session_record::refuse(
-            r,
-            Refusal::ConsumerMismatch {
-                got: consumer_id,
-                expected: r.consumer_id,
-            },
-        );
-    }
     match intake {
         Intake::Refused(x) => session_record::refuse(r, x),
         Intake::Taken(n) => {
@@ -147,7 +153,32 @@ fn addressed(
     }
 }
 
-// An update in any form: its message is scanned, 3, 4, 7, 6, and read.
+// A valid update of a consumer, whose assignment of n bytes stands in the buffer: 23, 24, then 26, 28 or 27.
+fn addressed(
+    r: SessionRecord,
+    store: &mut [u8],
+    end: usize,
+    consumer_id: u64,
+    incarnation: ControllerIncarnation,
+    b: &[u8],
+    n: usize,
+    out: &mut [u8],
+) -> Changed
+    requires { ⌜ (6144 ≤ length (now store)) × (3210 ≤ length (now out)) ⌝ }
+    requires { ⌜ StoreTested r (now store) (Tested.Sound end) ⌝ }
+    requires { ⌜ Scratch (now b) n ⌝ }
+    ensures { λ x. ⌜ ((u : WireUpdate) → «consumer_id» ≡ u .consumerId
+        → contentOf (topicOf (slot (now (store .entry)) 0)) (u .assignment) ≡ taken (packed-form.assignmentOf (now (b .entry)))
+        → outcome (x .answer) (x .next) (now (store .exit)) (now (out .exit))
+        ≡ effectOf (updateValid (view r (now (store .entry))) incarnation u) (now (store .entry)) (now (out .entry))) ⌝ }
+{
+    match address_of(r, consumer_id, incarnation) {
+        Address::Refused(x) => session_record::refuse(r, x),
+        Address::Here => received(r, store, end, Intake::Taken(n), b, out),
+    }
+}
+
+// An update in any form: its message is scanned, 3, 4, 7, 6, and read. Only where it is for this session its assignment is taken in.
 fn scanned(
     r: SessionRecord,
     store: &mut [u8],
@@ -167,8 +198,19 @@ fn scanned(
         Checked::Refused(x) => session_record::refuse(r, x),
         Checked::Valid => {
             let head = readers::read_update(message);
-            let intake = session_intake::take_assignment(store, message, 2, head.layout_epoch, b);
-            addressed(r, store, end, head.consumer_id, incarnation, intake, b, out)
+            match address_of(r, head.consumer_id, incarnation) {
+                Address::Refused(x) => session_record::refuse(r, x),
+                Address::Here => {
+                    let intake = session_intake::take_assignment(
+                        store,
+                        message,
+                        2,
+                        head.layout_epoch,
+                        b,
+                    );
+                    received(r, store, end, intake, b, out)
+                }
+            }
         }
     }
 }
@@ -195,9 +237,7 @@ pub fn updated(
     };
     let mut b = [0u8; 2048];
     match session_intake::take_plain_message(store, message, 2, &mut b) {
-        PlainMessage::Taken(id, n) => {
-            addressed(r, store, end, id, incarnation, Intake::Taken(n), &b, out)
-        }
+        PlainMessage::Taken(id, n) => { addressed(r, store, end, id, incarnation, &b, n, out) }
         PlainMessage::Other => scanned(r, store, end, message, incarnation, &mut b, out),
     }
 }
