@@ -3,3 +3,4 @@ pub mod OrderLaws
 pub mod OutsideLaws
 pub mod SoundLaws
 pub mod WideLaws
+pub mod ContentOrder

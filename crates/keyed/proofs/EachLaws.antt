@@ -1,8 +1,10 @@
--- A fact of each entry of a list (`Each` of `keyed`): of lists joined (`each-append`), the first of them (`each-take`), an entry inserted (`each-insert`), a list mapped (`each-map`).
+-- A fact of each entry of a list (`Each` of `keyed`): of lists joined (`each-append`), the first of them (`each-take`), an entry inserted (`each-insert`), a list mapped (`each-map`);
+-- of the entry at a place (`each-at`).
 -- Assumes nothing.
-use Prim.Native.Nat.{ℕ, zero, suc}
+use Prim.Native.Nat.{ℕ, zero, suc, _<_}
+use native.Mathlib.Omega.{arith}
 use mathlib.Core.List.{List, [], _∷_, _++_, map}
-use lib.ListN.{take}
+use lib.ListN.{length, take, getD}
 use lib.Dec.{ltb, eqb}
 use Rattle.keyed.specs.Keyed.{insert}
 use Rattle.keyed.proofs.KeyedLaws.{choose}
@@ -17,6 +19,11 @@ module _ {A : Type 0} (P : A → Type 0) where
   each-take zero xs f = tt
   each-take (suc n) [] f = tt
   each-take (suc n) (x ∷ xs) f = (f .0, each-take n xs (f .1))
+
+  pub each-at : (d : A) (xs : List A) (i : ℕ) → i < length xs → Each P xs → P (getD xs i d)
+  each-at d [] i h f = absurd (omega arith)
+  each-at d (x ∷ xs) zero h f = f .0
+  each-at d (x ∷ xs) (suc i) h f = each-at d xs i (omega arith) (f .1)
 
   pub each-insert : (key : A → ℕ) (x : A) (ys : List A) → P x → Each P ys → Each P (insert key x ys)
   each-insert key x [] p f = (p, tt)

@@ -1,2 +1,3 @@
 pub mod KeyedLaws
 pub mod EachLaws
+pub mod ShuffleLaws

@@ -29,11 +29,11 @@ use Rattle.session.specs.Tails.{updateContent, updateValid, updateChecked, resp
 use Rattle.session.specs.Response.{responseCall}
 use Rattle.session.specs.Calls.{effectOf, updateOutcome, responseOutcome}
 use Rattle.segment_order.specs.SegmentOrder.{Reordered, Rearranged, SameUpdate, SameResponse, Alike, AnyOrder}
-use Rattle.segment_order.proofs.ShuffleLaws.{shuffled-map}
+use Rattle.keyed.proofs.ShuffleLaws.{shuffled-map}
 use Rattle.segment_order.proofs.RowLaws.{numbers-reordered, parts-reordered}
 use Rattle.segment_order.proofs.RowLaws.{numbers-rearranged, present-rearranged, merged-rearranged}
 use Rattle.segment_order.proofs.FaultOrder.{ok, ok-update, ok-response}
-use Rattle.segment_order.proofs.ContentOrder.{AlikeContent, content-shuffled}
+use Rattle.content.proofs.ContentOrder.{AlikeContent, content-shuffled}
 
 -- ---- results
 

@@ -25,7 +25,7 @@ use Rattle.schema.specs.Schema.{valueFor, levels}
 use Rattle.schema.specs.Required.{allComplete, completeWithin, isComplete}
 use Rattle.schema.specs.FirstFault.{first, checkField, checkFields, faultWithin, missingField, firstFault}
 use Rattle.schema.proofs.RequiredLaws.{assignment-is, update-is, response-is}
-use Rattle.segment_order.specs.Shuffled.{Shuffled, nil, cons, swap, trans}
+use Rattle.keyed.specs.Shuffled.{Shuffled, nil, cons, swap, trans}
 use Rattle.segment_order.specs.SegmentOrder.{segment, Reordered, Rearranged, SameUpdate, SameResponse}
 use Rattle.segment_order.proofs.RowLaws.{numbers-reordered, numbers-rearranged, parts-reordered}
 use Rattle.segment_order.proofs.RowLaws.{present-rearranged, merged-rearranged}

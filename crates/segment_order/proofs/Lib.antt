@@ -1,6 +1,4 @@
-mod ShuffleLaws
 mod RowLaws
 mod FaultOrder
-mod ContentOrder
 pub mod AnyOrderLaws
 pub mod WrittenLaws

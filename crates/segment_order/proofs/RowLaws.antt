@@ -12,9 +12,9 @@ use borrow.Author.Tests.{eq-eqb}
 use Rattle.wire.specs.Fields.{Field, fieldsOf}
 use Rattle.values.specs.Values.{numbersOf, partsOf, present, joinFields, mergedFields}
 use Rattle.values.proofs.ValueLaws.{numbers-append, parts-append}
-use Rattle.segment_order.specs.Shuffled.{Shuffled, nil, trans}
+use Rattle.keyed.specs.Shuffled.{Shuffled, nil, trans}
 use Rattle.segment_order.specs.SegmentOrder.{segment, Reordered, Rearranged}
-use Rattle.segment_order.proofs.ShuffleLaws.{shuffled-sym, shuffled-behind, shuffled-past}
+use Rattle.keyed.proofs.ShuffleLaws.{shuffled-sym, shuffled-behind, shuffled-past}
 
 abbrev Parts : Type 0
 Parts = List (List ℕ)

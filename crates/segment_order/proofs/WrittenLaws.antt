@@ -8,10 +8,10 @@ use Rattle.wire_writer.specs.Encode.{numberField, partField}
 use Rattle.packed.specs.Assignment.{ConsumerAssignment}
 use Rattle.assignment_message.specs.Message.{segmentMessage, assignmentMessage, updateMessage, responseMessage}
 use Rattle.assignment_message.proofs.RowLaws.{numbered, partRow, carrier-row, assignment-row}
-use Rattle.segment_order.specs.Shuffled.{Shuffled, nil, cons, swap, trans}
+use Rattle.keyed.specs.Shuffled.{Shuffled, nil, cons, swap, trans}
 use Rattle.segment_order.specs.SegmentOrder.{segment, Reordered, Rearranged}
 use Rattle.segment_order.specs.Written.{Twins, AnyOrderWritten}
-use Rattle.segment_order.proofs.ShuffleLaws.{shuffled-map}
+use Rattle.keyed.proofs.ShuffleLaws.{shuffled-map}
 
 row-shuffled : {ps qs : List (List ℕ)} → Shuffled ps qs → Reordered (partRow 2 ps) (partRow 2 qs)
 row-shuffled nil = Reordered.end

@@ -11,7 +11,7 @@ use mathlib.Core.List.{List}
 use lib.ListN.{length}
 use Rattle.packed.specs.Assignment.{ConsumerAssignment}
 use Rattle.assignment_message.specs.Message.{assignmentMessage, updateMessage, responseMessage}
-use Rattle.segment_order.specs.Shuffled.{Shuffled}
+use Rattle.keyed.specs.Shuffled.{Shuffled}
 use Rattle.segment_order.specs.SegmentOrder.{SameUpdate, SameResponse}
 
 -- a and b have the same epoch, and the same segments in any order; their messages under a path are slices

@@ -1,9 +1,10 @@
--- `take_segments` meets its contract: segments alone, each of an id above the one before it.
+-- `take_segments` meets its contract: segments alone, in whatever order.
 -- The invariant: what is told of the segments from `at` on, written from `used` on, tells those from the first on. The measure is the bytes
 -- left. Assumes nothing.
 use Prim.Native.Nat.{ℕ, _+_, _-_, _*_, _≤_}
 use native.Mathlib.Omega.{arith}
 use mathlib.Core.Path.{_≡_, subst, _∙_}
+use mathlib.Core.Bool.{Bool, true}
 use mathlib.Core.List.{List}
 use lib.ListN.{length, take, drop}
 use borrow.Author.Needs.{needs}
@@ -16,15 +17,16 @@ use Rattle.plain_intake.proofs.take_segments.Reads as reads
 use Rattle.plain_intake.proofs.take_segments.Lts as lts
 use Rattle.plain.proofs.part_at.Reads as part-at-reads
 use Rattle.plain_intake.proofs.take_segment.Reads as take-segment-reads
+use Rattle.plain_intake.proofs.and.Reads as and-reads
 
 abbrev Inv-loop : tie.InvT-loop
-Inv-loop s first parent b₀ at₀ low₀ used₀ count₀ b at low used count =
+Inv-loop s first parent b₀ at₀ low₀ used₀ count₀ rising₀ b at low used count rising =
     (length b ≡ 2048) × (used ≤ 2048) × (10 + 14 * count ≤ used)
-    × ((n to : ℕ) (b′ : List ℕ) → SegmentsFrom parent s at low b used n to b′
-    → SegmentsFrom parent s first 0 b₀ 10 (count + n) to b′)
+    × ((n to : ℕ) (after : Bool) (b′ : List ℕ) → SegmentsFrom parent s at low rising b used n to after b′
+    → SegmentsFrom parent s first 0 true b₀ 10 (count + n) to after b′)
 
 abbrev μ-loop : tie.MeasureT-loop
-μ-loop s first parent b₀ at₀ low₀ used₀ count₀ b at low used count = length s - at
+μ-loop s first parent b₀ at₀ low₀ used₀ count₀ rising₀ b at low used count rising = length s - at
 
 -- field 2 is there
 abbrev Found : Type 0
@@ -33,6 +35,8 @@ Found = lts.After-known-told (
   part-at-reads.Learnt,
   take-segment-reads.Asked,
   take-segment-reads.Learnt,
+  and-reads.Asked,
+  and-reads.Learnt,
 ) reads.Pre reads.Post Inv-loop μ-loop
 
 found : (c : Found)
@@ -47,6 +51,8 @@ Taken = lts.After-known-told2 (
   part-at-reads.Learnt,
   take-segment-reads.Asked,
   take-segment-reads.Learnt,
+  and-reads.Asked,
+  and-reads.Learnt,
 ) reads.Pre reads.Post Inv-loop μ-loop
 
 taken : (c : Taken)
@@ -59,7 +65,7 @@ taken : (c : Taken)
 taken c = subst (SegmentSays _ _ _ _ _) (c .before .id .given .1) (c .before .before .before .before .before .take-segment .ensures)
 
 loop-holds : tie.Need-loop-holds Inv-loop μ-loop
-loop-holds c = (c .before .before .before .pre .1, omega arith, omega arith, λ n to b′ k. segments-count (omega arith) k)
+loop-holds c = (c .before .before .before .pre .1, omega arith, omega arith, λ n to after b′ k. segments-count (omega arith) k)
 
 loop-again : tie.Need-loop-again Inv-loop μ-loop
 loop-again c =
@@ -70,13 +76,13 @@ loop-again c =
       segment-kept q ∙ i .0,
       omega (arith, q .room, i .0),
       omega (arith, i .2, segment-long q),
-      λ n to b′ k. segments-count (omega arith) (i .3 (n + 1) to b′ (segments-next _ _ _ _ f q (omega arith) k)),
+      λ n to after b′ k. segments-count (omega arith) (i .3 (n + 1) to after b′ (segments-next _ _ _ _ _ f q (c .and .ensures) k)),
     )
 
-returns-5 : tie.Need-returns-5 Inv-loop μ-loop
-returns-5 c =
+returns-4 : tie.Need-returns-4 Inv-loop μ-loop
+returns-4 c =
     let i = c .before .loop .inv in
-    segments-count (omega arith) (i .3 0 _ _ (segments-end _ _ _ _ _ _ (c .loop-test .left) (omega (arith, i .0, i .1))))
+    segments-count (omega arith) (i .3 0 _ _ _ (segments-end _ _ _ _ _ _ _ (c .loop-test .left) (omega (arith, i .0, i .1))))
 
 pub take-segments-spec : {M : Type 1} → statement M
 take-segments-spec =
@@ -86,8 +92,8 @@ take-segments-spec =
     μ-loop
     loop-holds
     -- part-at-requires, enum-known-from, enum-told, same-length, returns, sub-take-segment, part-take-segment-start, part-take-segment-end,
-    -- take-segment-requires, enum-known-id, enum-told-2, same-length-2, returns-2, same-length-3, returns-3, same-length-4, returns-4,
-    -- add-low, add-count
+    -- take-segment-requires, enum-known-id, enum-told-2, same-length-2, returns-2, same-length-3, returns-3, and-requires, add-low,
+    -- add-count
     (λ c κs. search needs)
     (λ c. search needs)
     (λ c. search needs)
@@ -103,13 +109,12 @@ take-segments-spec =
     (λ c. search needs)
     (λ c. search needs)
     (λ c. search needs)
-    (λ c. search needs)
-    (λ c. search needs)
+    (λ c κs. search needs)
     (λ c. search needs)
     (λ c. search needs)
     -- loop-less
     (λ c. let h = found (c .before .before .before .before .before .before .before .before .before .before) in omega arith)
     loop-again
-    -- same-length-5
+    -- same-length-4
     (λ c. search needs)
-    returns-5)
+    returns-4)

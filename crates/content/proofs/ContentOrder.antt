@@ -3,7 +3,7 @@
 --
 -- In order: the first refusal looks at the ids that were seen, not at their order (`seen-same`); none in one order,
 -- none in another (`none-shuffled`); two segments with other ids put in their places (`insert-swap`), and all of them
--- (`order-shuffled`).
+-- (`order-shuffled`); what they come to (`content-shuffled`, `taken-shuffled`).
 -- Assumes nothing.
 use Prim.Native.Nat.{ℕ}
 use mathlib.Core.Path.{_≡_, refl, sym, ap, _∙_}
@@ -16,13 +16,13 @@ use Rattle.refusal.specs.declared.Refusal.{Refusal}
 use Rattle.readers.specs.Messages.{WireSegment, WireAssignment}
 use Rattle.keyed.specs.Keyed.{isSome, self, Rising, find, holds, insert}
 use Rattle.keyed.proofs.KeyedLaws.{find-insert, rising-insert, extensional}
-use Rattle.packed.specs.Assignment.{AssignedSegment, idOf}
+use Rattle.packed.specs.Assignment.{AssignedSegment, ConsumerAssignment, idOf}
 use Rattle.content.specs.Content.{duplicateFault, firstRefusal, assignedSegment, inIdOrder, consumerAssignment}
-use Rattle.content.specs.Content.{Content, refused, contentOf}
+use Rattle.content.specs.Content.{Content, refused, taken, contentOf}
 use Rattle.content.proofs.OrderLaws.{First, refusal-next, refusal-none}
 use Rattle.content.proofs.ContentLaws.{content-refused}
-use Rattle.segment_order.specs.Shuffled.{Shuffled, nil, cons, swap, trans}
-use Rattle.segment_order.proofs.ShuffleLaws.{shuffled-sym}
+use Rattle.keyed.specs.Shuffled.{Shuffled, nil, cons, swap, trans}
+use Rattle.keyed.proofs.ShuffleLaws.{shuffled-sym}
 
 -- ---- the ids that were seen
 
@@ -158,3 +158,15 @@ module _ (parent : List ℕ) (a b : WireAssignment) (e : a .layoutEpoch ≡ b .l
       go none p (some y) q = absurd (Option·some-ne-none y (sym q ∙ none-shuffled parent s [] p))
       go (some x) p none q = absurd (Option·some-ne-none x (sym p ∙ none-shuffled parent (shuffled-sym s) [] q))
       go (some x) p (some y) q = refusals x y (content-refused parent a x p) (content-refused parent b y q)
+
+  -- what is taken in one order is taken in another
+  pub taken-shuffled : (y : ConsumerAssignment) → contentOf parent b ≡ taken y → contentOf parent a ≡ taken y
+  taken-shuffled y h = go content-shuffled
+    where
+      isTaken : Content → Bool
+      isTaken (refused x) = false
+      isTaken (taken z) = true
+
+      go : AlikeContent (contentOf parent a) (contentOf parent b) → contentOf parent a ≡ taken y
+      go (equal p) = p ∙ h
+      go (refusals x z p q) = absurd (true≢false (ap isTaken (sym h ∙ q)))
