@@ -1,17 +1,18 @@
 -- Laws of byte order: it turns around (`order-flip`), is equal for equal lists alone (`order-refl`, `order-equal`, `same-order`), and goes on
--- (`order-trans`, `before-trans`); what a loop over both lists asks at the index i, by bytes and by words (`order-word`, `order-word-less`), and how a word is read (`word-..`).
+-- (`order-trans`, `before-trans`); what a loop over both lists asks at the index i, by bytes and by words (`order-word`,
+-- `order-word-less`, `end-..`), and how a word is read (`word-..`).
 -- Assumes nothing.
-use Prim.Native.Nat.{ℕ, suc, _+_, _*_, _^_, _≤_, _<_}
+use Prim.Native.Nat.{ℕ, suc, _+_, _-_, _*_, _^_, _≤_, _<_}
 use native.Mathlib.Nat.{mul-le-mul-right, suc-mul}
 use native.Mathlib.Decide.{decLe}
 use native.Mathlib.Numerals.{add-one}
 use native.Mathlib.Omega.{arith}
 use mathlib.Core.Path.{_≡_, refl, sym, ap, ap₂, _∙_}
 use mathlib.Core.Bool.{Bool, true, false, cond, false≢true}
-use mathlib.Core.Logic.{_⊎_, inl, inr}
+use mathlib.Core.Logic.{_⊎_, inl, inr, ⊎-elim}
 use mathlib.Core.List.{List, [], _∷_, _++_}
 use lib.ListN.{length, take, drop, getD, length-take, length-drop, take-append-drop, drop-of-length-le}
-use lib.Seq.{drop-cons, drop-drop, length-take-le}
+use lib.Seq.{drop-cons, drop-drop, length-take-le, take-add, take-take}
 use lib.Dec.{ltb}
 use borrow.Author.Tests.{lt-ltb, le-ltb, ltb-true, ltb-false}
 use Rattle.parts.specs.Same.{sameBytes}
@@ -22,6 +23,7 @@ use Rattle.packed_int.proofs.BeLaws.{be-nil, be-append, be-snoc, be-at-one, be-
 use Rattle.topics.specs.declared.Order.{Order}
 use Rattle.topics.specs.declared.Order.the-variants.{Less, Equal, Greater}
 use Rattle.topics.specs.Topics.{order, byOrder, before}
+use Rattle.topics.specs.Alike.{Shorter}
 
 -- ---- the three answers
 
@@ -195,6 +197,12 @@ order-append : (p a b : List ℕ) → order (p ++ a) (p ++ b) ≡ order a b
 order-append [] a b = refl
 order-append (x ∷ p) a b = first-alike x x (p ++ a) (p ++ b) refl ∙ order-append p a b
 
+-- what stands behind a front that both have decides
+pub order-behind : (a b : List ℕ) (i : ℕ) → take i a ≡ take i b → order a b ≡ order (drop i a) (drop i b)
+order-behind a b i e =
+    ap₂ order (sym (take-append-drop i a)) (sym (take-append-drop i b) ∙ ap (λ (l : List ℕ). l ++ drop i b) (sym e))
+    ∙ order-append (take i a) (drop i a) (drop i b)
+
 -- the bytes of one word are those of the other
 same-word : (w : ℕ) (a b : List ℕ) (i : ℕ) → Bytes a → Bytes b → i + w ≤ length a → i + w ≤ length b → beAt w a i ≡ beAt w b i
     → take w (drop i a) ≡ take w (drop i b)
@@ -203,6 +211,16 @@ same-word w a b i ba bb h k e =
     sym (bytesOf-front w (drop i a) (rw length-drop (omega arith)) (Bytes-drop i a ba))
     ∙ ap (bytesOf w) e
     ∙ bytesOf-front w (drop i b) (rw length-drop (omega arith)) (Bytes-drop i b bb)
+
+-- a front that both have, and a word behind it
+pub front-word : (w : ℕ) (a b : List ℕ) (i : ℕ) → Bytes a → Bytes b → i + w ≤ length a → i + w ≤ length b → take i a ≡ take i b
+    → beAt w a i ≡ beAt w b i → take (i + w) a ≡ take (i + w) b
+front-word w a b i ba bb h k e f =
+    take-add i w a ∙ ap₂ (λ (x y : List ℕ). x ++ y) e (same-word w a b i ba bb h k f) ∙ sym (take-add i w b)
+
+-- a part of such a front
+pub front-part : (a b : List ℕ) (i j : ℕ) → j ≤ i → take i a ≡ take i b → take j a ≡ take j b
+front-part a b i j h e = sym (take-take j i a h) ∙ ap (take j) e ∙ take-take j i b h
 
 pub order-word : (w : ℕ) (a b : List ℕ) (i : ℕ) → Bytes a → Bytes b → i + w ≤ length a → i + w ≤ length b → beAt w a i ≡ beAt w b i
     → order (drop i a) (drop i b) ≡ order (drop (i + w) a) (drop (i + w) b)
@@ -261,6 +279,46 @@ order-word-less w a b i ba bb h k e =
     ap₂ order (sym (take-append-drop w (drop i a))) (sym (take-append-drop w (drop i b)))
     ∙ word-less x y (drop w (drop i a)) (drop w (drop i b)) (lx ∙ sym ly) (Bytes-take w (drop i a) (Bytes-drop i a ba))
     (Bytes-take w (drop i b) (Bytes-drop i b bb)) e
+
+-- ---- the last word of the shorter one, whose n bytes before it are alike
+
+module _ (a b : List ℕ) (n : ℕ) (h : 8 ≤ n) (s : Shorter (length a) (length b) n) (e : take (n - 8) a ≡ take (n - 8) b) (ba : Bytes a) (bb : Bytes b)
+    (x y : ℕ) (f : x ≡ beAt 8 a (n - 8)) (g : y ≡ beAt 8 b (n - 8)) where
+  at-end : n - 8 + 8 ≡ n
+  at-end = omega arith
+
+  pub end-less : x < y → order a b ≡ Less
+  end-less l =
+      order-behind a b (n - 8) e
+      ∙ order-word-less 8 a b (n - 8) ba bb (omega (arith, s .first)) (omega (arith, s .second)) (omega (arith, f, g))
+
+  pub end-greater : y < x → order a b ≡ Greater
+  end-greater l =
+      order-behind a b (n - 8) e
+      ∙ less-flip (drop (n - 8) b) (drop (n - 8) a)
+      (order-word-less 8 b a (n - 8) bb ba (omega (arith, s .second)) (omega (arith, s .first)) (omega (arith, f, g)))
+
+  module _ (l : x ≤ y) (m : y ≤ x) where
+    behind-end : order a b ≡ order (drop n a) (drop n b)
+    behind-end =
+        order-behind a b (n - 8) e
+        ∙ order-word 8 a b (n - 8) ba bb (omega (arith, s .first)) (omega (arith, s .second)) (omega (arith, f, g))
+        ∙ ap (λ (k : ℕ). order (drop k a) (drop k b)) at-end
+
+    first-ends : length a ≤ length b → length a ≤ n
+    first-ends q = ⊎-elim (λ z. omega arith) (λ z. omega arith) (s .is-one)
+
+    second-ends : length b ≤ length a → length b ≤ n
+    second-ends q = ⊎-elim (λ z. omega arith) (λ z. omega arith) (s .is-one)
+
+    pub end-shorter : length a < length b → order a b ≡ Less
+    end-shorter q = let d = first-ends (omega arith) in behind-end ∙ order-shorter a b n d (omega (arith, s .first, d))
+
+    pub end-longer : length b < length a → order a b ≡ Greater
+    end-longer q = let d = second-ends (omega arith) in behind-end ∙ order-longer a b n (omega (arith, s .second, d)) d
+
+    pub end-equal : length a ≤ length b → length b ≤ length a → order a b ≡ Equal
+    end-equal q r = behind-end ∙ order-end a b n (first-ends q) (second-ends r)
 
 -- ---- a word read byte by byte
 

@@ -1,13 +1,11 @@
--- Two topics gone through together.
+-- Two topics gone through together. Internal: cited by the contracts of helpers alone.
 -- Assumes nothing.
 use Prim.Native.Nat.{ℕ, _≤_}
 use mathlib.Core.Path.{_≡_}
-use mathlib.Core.List.{List}
-use lib.ListN.{length, drop}
-use Rattle.topics.specs.Topics.{order}
+use mathlib.Core.Logic.{_⊎_}
 
--- both have i bytes, and what is behind them decides their order
-pub record Alike (a b : List ℕ) (i : ℕ) : Type 0 where
-  pub first : i ≤ length a
-  pub second : i ≤ length b
-  pub order-is : order a b ≡ order (drop i a) (drop i b)
+-- the shorter of two lengths
+pub record Shorter (a b n : ℕ) : Type 0 where
+  pub first : n ≤ a
+  pub second : n ≤ b
+  pub is-one : (n ≡ a) ⊎ (n ≡ b)

@@ -1,8 +1,10 @@
 // Topics in byte order, and a packed set of them: each topic a length of 16 bits and its bytes.
 ghost use mathlib.Core.Path.{_≡_};
 ghost use mathlib.Core.Bool.{true, _&&_};
+ghost use Prim.Native.Nat.{_-_, _≤_};
+ghost use lib.ListN.{length, take};
 ghost use Rattle.topics.specs.Topics.{order, before, rising};
-ghost use Rattle.topics.specs.Alike.{Alike};
+ghost use Rattle.topics.specs.Alike.{Shorter};
 ghost use Rattle.topics.specs.Packed.{topicsOf, isWhole, allUtf8, isSet, placeOf};
 
 // How one topic stands to another.
@@ -18,29 +20,11 @@ pub struct Place {
     pub present: bool,
 }
 
-// How many bytes at the front of both are alike, by words of 8 bytes: topics of one namespace begin alike.
-fn same_words(a: &[u8], b: &[u8]) -> usize
-    ensures { λ r. ⌜ Alike (now (a .entry)) (now (b .entry)) r ⌝ }
-{
-    let mut i: usize = 0;
-    while 8 <= a.len() - i {
-        if b.len() - i < 8 {
-            return i;
-        }
-        if packed_int::read_u64(a, i) != packed_int::read_u64(b, i) {
-            return i;
-        }
-        i += 8;
-    }
-    i
-}
-
-// How a stands to b in byte order, by their bytes from index from on.
-fn compare_from(a: &[u8], b: &[u8], from: usize) -> Order
-    requires { ⌜ Alike (now a) (now b) from ⌝ }
+// How a stands to b in byte order, byte by byte.
+fn compare_bytes(a: &[u8], b: &[u8]) -> Order
     ensures { λ r. ⌜ r ≡ order (now (a .entry)) (now (b .entry)) ⌝ }
 {
-    let mut i = from;
+    let mut i: usize = 0;
     while i < a.len() {
         if b.len() <= i {
             return Order::Greater;
@@ -62,26 +46,58 @@ fn compare_from(a: &[u8], b: &[u8], from: usize) -> Order
     }
 }
 
-// How a stands to b in byte order. Of two words, most significant byte first, the lower one stands first.
+// The shorter of two lengths.
+fn shorter(a: usize, b: usize) -> usize
+    ensures { λ r. ⌜ Shorter a b r ⌝ }
+{
+    if a < b { a } else { b }
+}
+
+// How a stands to b in byte order, by the last word of the shorter one, whose n bytes are alike before it, and by the lengths.
+fn compare_end(a: &[u8], b: &[u8], n: usize) -> Order
+    requires { ⌜ (8 ≤ n) × Shorter (length (now a)) (length (now b)) n ⌝ }
+    requires { ⌜ take (n - 8) (now a) ≡ take (n - 8) (now b) ⌝ }
+    ensures { λ r. ⌜ r ≡ order (now (a .entry)) (now (b .entry)) ⌝ }
+{
+    let x = packed_int::read_u64(a, n - 8);
+    let y = packed_int::read_u64(b, n - 8);
+    if x < y {
+        return Order::Less;
+    }
+    if y < x {
+        return Order::Greater;
+    }
+    if a.len() < b.len() {
+        return Order::Less;
+    }
+    if b.len() < a.len() {
+        return Order::Greater;
+    }
+    Order::Equal
+}
+
+// How a stands to b in byte order. Of two words, most significant byte first, the lower one stands first; bytes that do not fill a word are
+// compared with those before them, which are alike.
 pub fn compare(a: &[u8], b: &[u8]) -> Order
     ensures { λ r. ⌜ r ≡ order (now (a .entry)) (now (b .entry)) ⌝ }
 {
-    let mut i = same_words(a, b);
-    while 4 <= a.len() - i {
-        if b.len() - i < 4 {
-            return compare_from(a, b, i);
-        }
-        let x = packed_int::read_u32(a, i);
-        let y = packed_int::read_u32(b, i);
+    let n = shorter(a.len(), b.len());
+    if n < 8 {
+        return compare_bytes(a, b);
+    }
+    let mut i: usize = 0;
+    while 8 <= n - i {
+        let x = packed_int::read_u64(a, i);
+        let y = packed_int::read_u64(b, i);
         if x < y {
             return Order::Less;
         }
         if y < x {
             return Order::Greater;
         }
-        i += 4;
+        i += 8;
     }
-    compare_from(a, b, i)
+    compare_end(a, b, n)
 }
 
 // Whether a stands before b.

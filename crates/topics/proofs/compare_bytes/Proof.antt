@@ -1,23 +1,30 @@
--- `topics::compare_from` meets its contract: the bytes before i are alike, so what is behind them decides. The measure is what is left of a.
+-- `topics::compare_bytes` meets its contract: the bytes before i are alike, so what is behind them decides. The measure is what is left of a.
 -- Assumes nothing.
-use Prim.Native.Nat.{_-_}
+use Prim.Native.Nat.{ℕ, _-_, _≤_}
 use native.Mathlib.Omega.{arith}
 use borrow.Author.Needs.{needs}
-use mathlib.Core.Path.{sym, _∙_}
-use lib.ListN.{length}
-use Rattle.topics.specs.Alike.{Alike}
+use mathlib.Core.Path.{_≡_, refl, sym, _∙_}
+use mathlib.Core.List.{List}
+use lib.ListN.{length, drop}
+use Rattle.topics.specs.Topics.{order}
 use Rattle.topics.proofs.OrderLaws.{order-less, order-greater, order-next, order-longer, order-shorter, order-end}
-use Rattle.topics.proofs.compare_from.Statement.{statement}
-use Rattle.topics.proofs.compare_from.Tie as tie
+use Rattle.topics.proofs.compare_bytes.Statement.{statement}
+use Rattle.topics.proofs.compare_bytes.Tie as tie
+
+-- both have i bytes, and what is behind them decides their order
+record Behind (a b : List ℕ) (i : ℕ) : Type 0 where
+  first : i ≤ length a
+  second : i ≤ length b
+  order-is : order a b ≡ order (drop i a) (drop i b)
 
 abbrev Inv-loop : tie.InvT-loop
-Inv-loop a b from i₀ i = Alike a b i
+Inv-loop a b i₀ i = Behind a b i
 
 abbrev μ-loop : tie.MeasureT-loop
-μ-loop a b from i₀ i = length a - i
+μ-loop a b i₀ i = length a - i
 
 loop-holds : tie.Need-loop-holds Inv-loop μ-loop
-loop-holds c = c .pre
+loop-holds c = record { first = omega arith; second = omega arith; order-is = refl }
 
 returns : tie.Need-returns Inv-loop μ-loop
 returns c =
@@ -73,8 +80,8 @@ returns-5 c =
     let a = l .before .args in
     sym (l .loop .inv .order-is ∙ order-end (a .a .now) (a .b .now) (l .loop .i) (omega arith) (omega arith))
 
-pub compare-from-spec : {M : Type 1} → statement M
-compare-from-spec =
+pub compare-bytes-spec : {M : Type 1} → statement M
+compare-bytes-spec =
     tie.close
     (tie.spec
     Inv-loop
