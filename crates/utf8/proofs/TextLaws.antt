@@ -2,9 +2,11 @@
 --
 -- In order: a text is its first sequence and the rest (`text-step`); the end of a slice (`text-end`); at the place `at`
 -- of a slice: no sequence (`sequence-stops`), a sequence (`sequence-passes`), a byte of the first row (`plain-passes`,
--- `plain-next`); bytes that may be passed over (`passes-none`, `passes-more`).
+-- `plain-next`); bytes that may be passed over (`passes-none`, `passes-more`); bytes of the first row alone (`plain-one`,
+-- `plain-join`, `plain-text`).
 -- Assumes nothing.
 use Prim.Native.Nat.{ℕ, zero, suc, _+_, _-_, _≤_, _<_}
+use native.Mathlib.Decide.{decLe}
 use native.Mathlib.Omega.{arith}
 use mathlib.Core.Path.{_≡_, refl, sym, _∙_}
 use mathlib.Core.Bool.{true, false, cond}
@@ -14,7 +16,7 @@ use lib.Seq.{drop-drop}
 use lib.Dec.{eqb}
 use borrow.Author.Tests.{eq-eqb, ne-eqb}
 use Rattle.utf8.specs.Table.{sequenceOf, textAfter, isUtf8}
-use Rattle.utf8.specs.Passes.{Passes}
+use Rattle.utf8.specs.Passes.{Passes, Plain}
 use Rattle.utf8.proofs.RowLaws.{first-row, sequence-le}
 
 text-skip : (n : ℕ) (l : List ℕ) → textAfter n l ≡ textAfter 0 (drop n l)
@@ -71,3 +73,43 @@ module _ (s : List ℕ) (from : ℕ) where
   pub passes-more : (at k : ℕ) → Passes s from at → at + k ≤ length s → isUtf8 (drop at s) ≡ isUtf8 (drop (at + k) s)
       → Passes s from (at + k)
   passes-more at k p h e = record { onward = omega (arith, p .onward); inside = h; same = p .same ∙ e }
+
+-- ---- bytes of the first row alone
+
+module _ (s : List ℕ) where
+  pub plain-none : (at : ℕ) → Plain s at at
+  plain-none at i h k = absurd (let z : ⊥ = omega arith in z)
+
+  -- one more, and those up to a place with those from an earlier one on
+  pub plain-one : (from to : ℕ) → Plain s from to → getD s to 0 ≤ 127 → Plain s from (to + 1)
+  plain-one from to p b i h k = go (decLe (suc i) to)
+    where
+      go : Dec (suc i ≤ to) → getD s i 0 ≤ 127
+      go (yes l) = p i h l
+      go (no l) = let e : i ≡ to = omega arith in rw e b
+
+  pub plain-join : (from mid at to : ℕ) → at ≤ mid → Plain s from mid → Plain s at to → Plain s from to
+  plain-join from mid at to m p q i h k = go (decLe (suc i) mid)
+    where
+      go : Dec (suc i ≤ mid) → getD s i 0 ≤ 127
+      go (yes l) = p i h l
+      go (no l) = q i (omega arith) k
+
+  plain-from : Plain s 0 (length s) → (d at : ℕ) → at + d ≡ length s → isUtf8 (drop at s) ≡ true
+  plain-from p zero at e = text-end s at (omega arith)
+  plain-from p (suc d) at e = plain-passes s at (omega arith) (p at (omega arith) (omega arith)) ∙ plain-from p d (at + 1) (omega arith)
+
+  pub plain-text : Plain s 0 (length s) → isUtf8 s ≡ true
+  plain-text p = plain-from p (length s) 0 (omega arith)
+
+  -- the bytes of a block up to i are no larger than the largest of them
+  module _ (at i most : ℕ) (h : (k : ℕ) → at ≤ k → k < at + i → getD s k 0 ≤ most) where
+    pub most-one : (r : ℕ) → most ≤ r → getD s (at + i) 0 ≤ r → (k : ℕ) → at ≤ k → k < at + (i + 1) → getD s k 0 ≤ r
+    most-one r l m k a b = go (decLe (suc k) (at + i))
+      where
+        go : Dec (suc k ≤ at + i) → getD s k 0 ≤ r
+        go (yes j) = omega (arith, h k a j)
+        go (no j) = let e : k ≡ at + i = omega arith in rw e m
+
+    pub most-plain : 16 ≤ i → most < 128 → Plain s at (at + 16)
+    most-plain l m k a b = omega (arith, h k a (omega arith))

@@ -1,9 +1,9 @@
--- What `eights_end` and `plain_end` answer. Internal: cited by the contracts of these helpers alone.
+-- What `eights_end`, `plain_end` and `block_plain` answer. Internal: cited by the contracts of these helpers alone.
 -- Assumes nothing.
-use Prim.Native.Nat.{ℕ, _≤_}
+use Prim.Native.Nat.{ℕ, _≤_, _<_}
 use mathlib.Core.Path.{_≡_}
 use mathlib.Core.List.{List}
-use lib.ListN.{length, drop}
+use lib.ListN.{length, drop, getD}
 use Rattle.utf8.specs.Table.{isUtf8}
 
 -- the bytes between two places may be passed over: what is behind them decides
@@ -11,3 +11,7 @@ pub record Passes (s : List ℕ) (from to : ℕ) : Type 0 where
   pub onward : from ≤ to
   pub inside : to ≤ length s
   pub same : isUtf8 (drop from s) ≡ isUtf8 (drop to s)
+
+-- the bytes between two places are all of the first row
+abbrev pub Plain : List ℕ → ℕ → ℕ → Type 0
+Plain s from to = (i : ℕ) → from ≤ i → i < to → getD s i 0 ≤ 127

@@ -9,7 +9,7 @@ ghost use mathlib.Core.List.{[], _∷_};
 ghost use Prim.Native.Nat.{_+_, _≤_};
 ghost use lib.ListN.{length, drop};
 ghost use Rattle.utf8.specs.Table.{span, fits, sequenceOf, isUtf8};
-ghost use Rattle.utf8.specs.Passes.{Passes};
+ghost use Rattle.utf8.specs.Passes.{Passes, Plain};
 
 // The byte values from the first to the second.
 struct Span(u8, u8);
@@ -133,8 +133,47 @@ fn plain_end(s: &[u8], from: usize) -> usize
     at
 }
 
-// The part is UTF-8.
-pub fn is_utf8(s: &[u8]) -> bool
+fn larger(a: u8, b: u8) -> u8
+    ensures { λ r. ⌜ (a ≤ r) × (b ≤ r) ⌝ }
+{
+    if a < b { b } else { a }
+}
+
+// The 16 bytes from a place on are all of the first row: their largest is. There is no way out of the loop, so that a machine may compare
+// them at once.
+fn block_plain(s: &[u8], at: usize) -> bool
+    requires { ⌜ at + 16 ≤ length (now s) ⌝ }
+    ensures { λ r. ⌜ (r ≡ true → Plain (now (s .entry)) at (at + 16)) ⌝ }
+{
+    let mut most: u8 = 0;
+    let mut i: usize = 0;
+    while i < 16 {
+        most = larger(most, s[at + i]);
+        i = i + 1;
+    }
+    most < 0x80
+}
+
+// The part has 16 bytes or more, and all are of the first row. The last ones, which may not fill a block, are compared with those before them
+// once more.
+fn all_plain(s: &[u8]) -> bool
+    ensures { λ r. ⌜ (r ≡ true → isUtf8 (now (s .entry)) ≡ true) ⌝ }
+{
+    if s.len() < 16 {
+        return false;
+    }
+    let mut at: usize = 0;
+    while 16 <= s.len() - at {
+        if !block_plain(s, at) {
+            return false;
+        }
+        at = at + 16;
+    }
+    block_plain(s, s.len() - 16)
+}
+
+// The part is UTF-8, sequence by sequence.
+fn is_text(s: &[u8]) -> bool
     ensures { λ r. ⌜ r ≡ isUtf8 (now (s .entry)) ⌝ }
 {
     let mut at: usize = 0;
@@ -149,4 +188,11 @@ pub fn is_utf8(s: &[u8]) -> bool
         }
     }
     true
+}
+
+// The part is UTF-8. Most have nothing but bytes of the first row.
+pub fn is_utf8(s: &[u8]) -> bool
+    ensures { λ r. ⌜ r ≡ isUtf8 (now (s .entry)) ⌝ }
+{
+    if all_plain(s) { true } else { is_text(s) }
 }

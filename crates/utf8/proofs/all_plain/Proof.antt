@@ -1,0 +1,80 @@
+-- `all_plain` meets its contract. The invariant: the bytes before the place are of the first row. The measure is what is left.
+-- Assumes nothing.
+use Prim.Native.Nat.{_+_, _-_, _≤_}
+use native.Mathlib.Omega.{arith}
+use mathlib.Core.Path.{_≡_}
+use mathlib.Core.Bool.{false≢true}
+use borrow.Author.Needs.{needs}
+use borrow.Author.Tests.{not-false}
+use lib.ListN.{length}
+use Rattle.utf8.specs.Passes.{Plain}
+use Rattle.utf8.proofs.TextLaws.{plain-none, plain-join, plain-text}
+use Rattle.utf8.proofs.all_plain.Statement.{statement}
+use Rattle.utf8.proofs.all_plain.Tie as tie
+
+abbrev Inv-loop : tie.InvT-loop
+Inv-loop s at₀ at = (at ≤ length s) × Plain s 0 at
+
+abbrev μ-loop : tie.MeasureT-loop
+μ-loop s at₀ at = length s - at
+
+returns : tie.Need-returns Inv-loop μ-loop
+returns c = λ e. absurd (false≢true e)
+
+loop-holds : tie.Need-loop-holds Inv-loop μ-loop
+loop-holds c = (omega arith, plain-none (c .before .before .args .s .now) 0)
+
+sub-loop : tie.Need-sub-loop Inv-loop μ-loop
+sub-loop c = omega (arith, c .loop .inv .0)
+
+block-plain-requires : tie.Need-block-plain-requires Inv-loop μ-loop
+block-plain-requires c κs = omega (arith, c .before .loop .inv .0)
+
+returns-2 : tie.Need-returns-2 Inv-loop μ-loop
+returns-2 c = λ e. absurd (false≢true e)
+
+add-at : tie.Need-add-at Inv-loop μ-loop
+add-at c = omega (arith, c .before .before .before .loop .inv .0)
+
+loop-less : tie.Need-loop-less Inv-loop μ-loop
+loop-less c = omega (arith, c .before .before .before .loop .inv .0)
+
+loop-again : tie.Need-loop-again Inv-loop μ-loop
+loop-again c =
+    let l = c .before .before .before in
+    let s = l .before .before .before .args .s .now in
+    let at = l .loop .at in (
+      omega (arith, l .loop .inv .0),
+      plain-join s 0 at at (at + 16) (omega arith) (l .loop .inv .1) (c .before .block-plain .ensures (not-false _ (c .if2 .left))),
+    )
+
+sub-block-plain : tie.Need-sub-block-plain Inv-loop μ-loop
+sub-block-plain c = omega arith
+
+block-plain-requires-2 : tie.Need-block-plain-requires-2 Inv-loop μ-loop
+block-plain-requires-2 c κs = omega arith
+
+returns-3 : tie.Need-returns-3 Inv-loop μ-loop
+returns-3 c = λ e.
+    let l = c .before .before in
+    let s = l .before .before .before .args .s .now in
+    let n : length s - 16 + 16 ≡ length s = omega arith in
+    plain-text s (plain-join s 0 (l .loop .at) (length s - 16) (length s) (omega arith) (l .loop .inv .1) (rw n at (c .block-plain2 .ensures e)))
+
+pub all-plain-spec : {M : Type 1} → statement M
+all-plain-spec =
+    tie.close
+    (tie.spec
+    Inv-loop
+    μ-loop
+    returns
+    loop-holds
+    sub-loop
+    block-plain-requires
+    returns-2
+    add-at
+    loop-less
+    loop-again
+    sub-block-plain
+    block-plain-requires-2
+    returns-3)
