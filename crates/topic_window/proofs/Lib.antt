@@ -1,10 +1,10 @@
 mod SeatLaws
 mod PlacedLaws
-mod LowestLaws
-mod WindowLaws
+pub mod LowestLaws
+pub mod WindowLaws
 mod OfferLaws
 mod BoundLaws
-mod ReadLaws
+pub mod ReadLaws
 mod FillLaws
 mod MarkLaws
 mod SiftLaws

@@ -3,9 +3,10 @@
 // Everything is said of the message's row of fields and asks nothing of an earlier pass: on a message that no reader would take, the answers are those of
 // the fields before its first broken one.
 ghost use mathlib.Core.Path.{_≡_};
+ghost use lib.ListN.{drop};
 ghost use Rattle.wire.specs.Fields.{fieldsOf};
 ghost use Rattle.values.specs.Integers.{uint32Of, int32Of};
-ghost use Rattle.values.specs.Places.{frontOf, placeOf, NextPart, PlaceIs, Inside, NextInner};
+ghost use Rattle.values.specs.Places.{frontOf, placeOf, NextPart, PlaceIs, Inside, innerFrom, NextInner};
 ghost use Rattle.values.specs.Values.{numbersOf, partsOf, present, lastAfter, lastOf, lastPart, mergedFields, orZero, numberIn};
 use wire::Body;
 use wire::Key;
@@ -251,6 +252,63 @@ pub fn next_inner(m: &[u8], n: u64, k: u64, c: Cursor) -> InnerStep
                     outer = next;
                 }
             },
+        }
+    }
+}
+
+// The place of the next part of field n from a place on: what lies between holds no part of it.
+fn seek_part(s: &[u8], from: usize, n: u64) -> usize
+    ensures { λ r. ⌜ partsOf n (fieldsOf (drop from (now (s .entry)))) ≡ partsOf n (fieldsOf (drop r (now (s .entry)))) ⌝ }
+{
+    let mut at = from;
+    while at < s.len() {
+        match read_front(&s[at..]) {
+            Front::Broken => {
+                return at;
+            }
+            Front::Number(_, _, size) => {
+                at = at + size;
+            }
+            Front::Part(f, start, len) => {
+                if f == n {
+                    return at;
+                }
+                at = at + (start + len);
+            }
+            Front::Fixed(size) => {
+                at = at + size;
+            }
+        }
+    }
+    at
+}
+
+// The cursor directly before the next part of field k in the singular message of field n: what lies between is not passed again.
+pub fn seek_inner(m: &[u8], n: u64, k: u64, c: Cursor) -> Cursor
+    requires { ⌜ Inside (now m) c ⌝ }
+    ensures { λ r. ⌜ Inside (now (m .entry)) r × (innerFrom n k (now (m .entry)) r ≡ innerFrom n k (now (m .entry)) c) ⌝ }
+{
+    let mut outer = c.outer;
+    let mut at = c.at;
+    let mut end = c.end;
+    loop {
+        let found = seek_part(&m[..end], at, k);
+        if found < end {
+            return Cursor {
+                outer,
+                at: found,
+                end,
+            };
+        }
+        match next_part(m, outer, n) {
+            PartStep::Absent => {
+                return Cursor { outer, at, end };
+            }
+            PartStep::Found(start, len, next) => {
+                at = start;
+                end = start + len;
+                outer = next;
+            }
         }
     }
 }

@@ -1,0 +1,133 @@
+-- `seek_part` meets its contract: the invariant is what it ensures. The measure is what is left of the message; each front stands inside it.
+-- Assumes nothing.
+use Prim.Native.Nat.{ℕ, _+_, _-_}
+use native.Mathlib.Omega.{arith}
+use mathlib.Core.Path.{_≡_, refl, sym, ap, _∙_}
+use lib.ListN.{length}
+use borrow.Author.Needs.{needs}
+use Rattle.values.specs.declared.Front.{Front}
+use Rattle.values.proofs.FrontLaws.{partsFrom, FrontAt, front-at, part-other}
+use Rattle.values.proofs.seek_part.Statement.{statement}
+use Rattle.values.proofs.seek_part.Tie as tie
+use Rattle.values.proofs.seek_part.Reads as reads
+use Rattle.values.proofs.seek_part.Lts as lts
+use Rattle.values.proofs.read_front.Reads as read-front-reads
+
+abbrev Inv-loop : tie.InvT-loop
+Inv-loop s from n at₀ at = partsFrom n s from ≡ partsFrom n s at
+
+abbrev μ-loop : tie.MeasureT-loop
+μ-loop s from n at₀ at = length s - at
+
+-- the place where the front is read
+abbrev Read : Type 0
+Read = lts.After-read-front (read-front-reads.Asked, read-front-reads.Learnt) reads.Pre reads.Post Inv-loop μ-loop
+
+front : (c : Read) (q : Front) → c .read-front .result ≡ q
+    → FrontAt (c .before .before .before .before .before .args .s .now) (c .before .before .before .loop .at) q
+front c q e = front-at _ _ (c .before .before .loop-test .taken) q (sym (c .read-front .ensures) ∙ e)
+
+loop-holds : tie.Need-loop-holds Inv-loop μ-loop
+loop-holds c = refl
+
+sub-read-front : tie.Need-sub-read-front Inv-loop μ-loop
+sub-read-front c = search needs
+
+part-read-front-start : tie.Need-part-read-front-start Inv-loop μ-loop
+part-read-front-start c = search needs
+
+part-read-front-end : tie.Need-part-read-front-end Inv-loop μ-loop
+part-read-front-end c = search needs
+
+read-front-requires : tie.Need-read-front-requires Inv-loop μ-loop
+read-front-requires c κs = search needs
+
+enum-told : tie.Need-enum-told Inv-loop μ-loop
+enum-told c = search needs
+
+returns : tie.Need-returns Inv-loop μ-loop
+returns c = c .before .before .before .before .before .loop .inv
+
+enum-known-size : tie.Need-enum-known-size Inv-loop μ-loop
+enum-known-size c = search needs
+
+add-at : tie.Need-add-at Inv-loop μ-loop
+add-at c = let q = front (c .before .before .before) _ (c .before .size .given .1) in omega arith
+
+loop-less : tie.Need-loop-less Inv-loop μ-loop
+loop-less c = let q = front (c .before .before .before) _ (c .before .size .given .1) in omega arith
+
+loop-again : tie.Need-loop-again Inv-loop μ-loop
+loop-again c =
+    let q = front (c .before .before .before) _ (c .before .size .given .1) in
+    c .before .before .before .before .before .before .loop .inv ∙ q .parts _
+
+enum-known-f : tie.Need-enum-known-f Inv-loop μ-loop
+enum-known-f c = search needs
+
+returns-2 : tie.Need-returns-2 Inv-loop μ-loop
+returns-2 c = c .before .before .before .before .before .before .before .loop .inv
+
+add-at-2 : tie.Need-add-at-2 Inv-loop μ-loop
+add-at-2 c = let q = front (c .before .before .before .before) _ (c .before .before .f .given .1) in omega arith
+
+add-at-3 : tie.Need-add-at-3 Inv-loop μ-loop
+add-at-3 c = let q = front (c .before .before .before .before) _ (c .before .before .f .given .1) in omega arith
+
+loop-less-2 : tie.Need-loop-less-2 Inv-loop μ-loop
+loop-less-2 c = let q = front (c .before .before .before .before) _ (c .before .before .f .given .1) in omega arith
+
+loop-again-2 : tie.Need-loop-again-2 Inv-loop μ-loop
+loop-again-2 c =
+    let q = front (c .before .before .before .before) _ (c .before .before .f .given .1) in
+    let a = c .before .before .before .before .before .before .before .before .before .args in
+    let l = c .before .before .before .before .before .before .before .loop in
+    let g = c .before .before .f .given .0 in
+    let e : l .at + g .1 .0 + g .1 .1 .0 ≡ l .at + (g .1 .0 + g .1 .1 .0) = omega arith in
+    l .inv ∙ part-other q _ (c .if1 .left) ∙ ap (λ (i : ℕ). partsFrom (a .n) (a .s .now) i) e
+
+enum-known-size-2 : tie.Need-enum-known-size-2 Inv-loop μ-loop
+enum-known-size-2 c = search needs
+
+add-at-4 : tie.Need-add-at-4 Inv-loop μ-loop
+add-at-4 c = let q = front (c .before .before .before) _ (c .before .size2 .given .1) in omega arith
+
+loop-less-3 : tie.Need-loop-less-3 Inv-loop μ-loop
+loop-less-3 c = let q = front (c .before .before .before) _ (c .before .size2 .given .1) in omega arith
+
+loop-again-3 : tie.Need-loop-again-3 Inv-loop μ-loop
+loop-again-3 c =
+    let q = front (c .before .before .before) _ (c .before .size2 .given .1) in
+    c .before .before .before .before .before .before .loop .inv ∙ q .parts _
+
+returns-3 : tie.Need-returns-3 Inv-loop μ-loop
+returns-3 c = c .before .loop .inv
+
+pub seek-part-spec : {M : Type 1} → statement M
+seek-part-spec =
+    tie.close
+    (tie.spec
+    Inv-loop
+    μ-loop
+    loop-holds
+    sub-read-front
+    part-read-front-start
+    part-read-front-end
+    read-front-requires
+    enum-told
+    returns
+    enum-known-size
+    add-at
+    loop-less
+    loop-again
+    enum-known-f
+    returns-2
+    add-at-2
+    add-at-3
+    loop-less-2
+    loop-again-2
+    enum-known-size-2
+    add-at-4
+    loop-less-3
+    loop-again-3
+    returns-3)
