@@ -2,8 +2,8 @@
 //! and reads how many topics the watch's windows hold, and which refusals are ours.
 use std::{env, fs, path::Path, path::PathBuf};
 
-/// The watch's windows: crate and constant. One that is not there is an error: name here what took its place.
-const WINDOWS: [(&str, &str); 2] = [("topic_lists", "FEW"), ("topic_lists", "WINDOW")];
+/// The watch's windows and chunks: crate and constant. One that is not there is an error: name here what took its place.
+const WINDOWS: [(&str, &str); 3] = [("topic_lists", "FEW"), ("topic_lists", "WINDOW"), ("topic_sort", "CHUNK")];
 
 /// The lengths of a message at which the watch takes another window.
 const LENGTHS: [(&str, &str); 1] = [("topic_lists", "FEW_BYTES")];
@@ -31,9 +31,12 @@ fn constant(library: &str, name: &str) -> usize {
     number.unwrap_or_else(|| panic!("crates/{library}/src has no line `{start}N;`: compare/build.rs names the constants of the watch's windows"))
 }
 
-/// A row of constants with their names.
+/// A row of constants with their names; of those with one number the first.
 fn row(name: &str, constants: &[(&str, &str)]) -> String {
-    let pairs: Vec<String> = constants.iter().map(|(library, name)| format!("({name:?}, {})", constant(library, name))).collect();
+    let mut numbers: Vec<(&str, usize)> = constants.iter().map(|(library, name)| (*name, constant(library, name))).collect();
+    let mut seen = std::collections::BTreeSet::new();
+    numbers.retain(|(_, number)| seen.insert(*number));
+    let pairs: Vec<String> = numbers.iter().map(|(name, number)| format!("({name:?}, {number})")).collect();
     format!("pub const {name}: &[(&str, usize)] = &[{}];\n", pairs.join(", "))
 }
 

@@ -1,2 +1,3 @@
 pub mod TakeLaws
 pub mod MergeLaws
+pub mod SizeLaws

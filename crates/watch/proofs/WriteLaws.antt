@@ -1,6 +1,6 @@
 -- What the writes come to, over plain bytes: a snapshot's output, a diff's lists in the output, and its set in the buffer.
 --
--- In order: a part that is written whole (`put-mid`, `put-prefix`); a snapshot (`snapshot-written`); the four writes of a diff's output
+-- In order: a part that is written whole (`put-rest`, `put-prefix`); a snapshot (`snapshot-written`); the four writes of a diff's output
 -- (`lists-..`), and the lists read back from it (`output-..`).
 -- Assumes nothing.
 use Prim.Native.Nat.{ℕ, _+_, _-_, _≤_}
@@ -8,7 +8,7 @@ use native.Mathlib.Omega.{arith}
 use mathlib.Core.Path.{_≡_, sym, ap, ap₂, _∙_}
 use mathlib.Core.List.{List, [], _∷_, _++_, append-assoc, append-nil}
 use lib.ListN.{length, take, drop, set, length-append, length-take, length-drop, take-append-drop, drop-of-length-le}
-use lib.Seq.{length-take-le, take-at, drop-at, drop-drop, drop-append-le}
+use lib.Seq.{length-take-le, take-all, take-at, drop-at, drop-drop, drop-append-le}
 use borrow.Rule.Slice.PartMut.{putMid}
 use Rattle.packed_int.specs.Be.{bytesOf}
 use Rattle.packed_int.specs.Put.{put}
@@ -17,15 +17,18 @@ use Rattle.packed_int.proofs.PutLaws.{length-put, put-one, put-after, put-befor
 
 -- ---- a part of a slice
 
--- the n elements from a on, written whole
-pub put-mid : (s : List ℕ) (a n : ℕ) (vs w : List ℕ) → a + n ≤ length s → length vs ≡ n → w ≡ put (take n (drop a s)) 0 vs
-    → putMid a n s w ≡ put s a vs
+-- the elements from a on, written from the first of them on
+pub put-rest : (s : List ℕ) (a : ℕ) (vs w : List ℕ) → a + length vs ≤ length s → w ≡ put (take (length s - a) (drop a s)) 0 vs
+    → putMid a (length s - a) s w ≡ put s a vs
 unfolding put
-put-mid s a n vs w h e ew =
-    let l : length (take n (drop a s)) ≡ n = length-take-le n (drop a s) (rw length-drop (omega arith)) in
-    let x : drop (0 + length vs) (take n (drop a s)) ≡ [] = drop-of-length-le (take n (drop a s)) {i = 0 + length vs} (omega arith) in
-    let y : w ≡ vs = ew ∙ ap (λ (r : List ℕ). vs ++ r) x ∙ append-nil vs in
-    ap₂ (λ (u r : List ℕ). take a s ++ (u ++ r)) y (drop-drop n a s ∙ ap (λ (i : ℕ). drop (a + i) s) (sym e))
+put-rest s a vs w h ew =
+    let t : take (length s - a) (drop a s) ≡ drop a s = take-all (length s - a) (drop a s) (rw length-drop (omega arith)) in
+    let n : a + (0 + length vs) ≡ a + length vs = omega arith in
+    let x : w ≡ vs ++ drop (a + length vs) s =
+    ew ∙ ap (λ (l : List ℕ). vs ++ drop (0 + length vs) l) t
+    ∙ ap (λ (l : List ℕ). vs ++ l) (drop-drop (0 + length vs) a s ∙ ap (λ (i : ℕ). drop i s) n) in
+    let z : drop (length s - a) (drop a s) ≡ [] = drop-of-length-le (drop a s) {i = length s - a} (rw length-drop (omega arith)) in
+    ap₂ (λ (u r : List ℕ). take a s ++ (u ++ r)) x z ∙ ap (λ (l : List ℕ). take a s ++ l) (append-nil (vs ++ drop (a + length vs) s))
 
 -- the front of a slice is written, up to n elements of it
 pub put-prefix : (b : List ℕ) (n : ℕ) (vs r : List ℕ) → length vs ≤ n → n ≤ length b → r ≡ put (take n b) 0 vs → r ++ drop n b ≡ put b 0 vs
@@ -49,10 +52,21 @@ front-byte o E b h =
     let k : length (put o 1 E) ≡ length o = length-put o 1 E h in
     put-one (put o 1 E) 0 b (omega arith) ∙ put-before o 0 1 (b ∷ []) E (omega arith) h
 
-pub snapshot-written : (buffer out E b w : List ℕ) (n : ℕ) → n ≡ length E → 1 + n ≤ length out → b ≡ put buffer 0 E
-    → w ≡ put out 1 (take n b) → set w 0 0 ≡ put out 0 (0 ∷ E)
-snapshot-written buffer out E b w n en h eb ew =
-    ap (λ (s : List ℕ). set s 0 0) (ew ∙ ap (put out 1) (ap (take n) eb ∙ take-front buffer E n en)) ∙ front-byte out E 0 (omega arith)
+-- bytes that are written over do not matter
+over : (o s X : List ℕ) (n : ℕ) → n ≤ length X → drop n s ≡ drop n o → put s 0 X ≡ put o 0 X
+unfolding put
+over o s X n h e =
+    let k : ℕ = length X - n in
+    let d : n + k ≡ 0 + length X = omega arith in
+    let on : (l : List ℕ) → drop (0 + length X) l ≡ drop k (drop n l) = λ l. ap (λ (i : ℕ). drop i l) (sym d) ∙ sym (drop-drop k n l) in
+    ap (λ (r : List ℕ). X ++ r) (on s ∙ ap (drop k) e ∙ sym (on o))
+
+-- the set is copied behind the kind, to an output whose first n bytes may have changed
+pub snapshot-written : (buffer out spare E b w : List ℕ) (n : ℕ) → n ≡ length E → 1 + n ≤ length spare → drop n spare ≡ drop n out
+    → b ≡ put buffer 0 E → w ≡ put spare 1 (take n b) → set w 0 0 ≡ put out 0 (0 ∷ E)
+snapshot-written buffer out spare E b w n en h es eb ew =
+    ap (λ (s : List ℕ). set s 0 0) (ew ∙ ap (put spare 1) (ap (take n) eb ∙ take-front buffer E n en)) ∙ front-byte spare E 0 (omega arith)
+    ∙ over out spare (0 ∷ E) n (omega arith) es
 
 -- ---- the output of a diff
 
@@ -60,44 +74,50 @@ module _ (o A R : List ℕ) (z g : ℕ) (ez : z ≡ length A) (eg : g ≡ length
   abbrev at : ℕ
   at = 5 + z
 
-  pub lists-room : z ≤ length (take (at - 5) (drop 5 o))
+  pub lists-room : z ≤ length (take (length o - 5) (drop 5 o))
   lists-room = rw (length-take, length-drop) (omega arith)
 
-  module _ (x : List ℕ) (ex : x ≡ put (take (at - 5) (drop 5 o)) 0 A) where
+  module _ (x : List ℕ) (ex : x ≡ put (take (length o - 5) (drop 5 o)) 0 A) where
     abbrev o1 : List ℕ
-    o1 = putMid 5 (at - 5) o x
+    o1 = putMid 5 (length o - 5) o x
 
     first-is : o1 ≡ put o 5 A
-    first-is = put-mid o 5 (at - 5) A x (omega arith) (omega arith) ex
+    first-is = put-rest o 5 A x (omega arith) ex
 
-    first-long : length o1 ≡ length o
+    pub first-long : length o1 ≡ length o
     first-long = ap length first-is ∙ length-put o 5 A (omega arith)
 
-    pub lists-room-removed : g ≤ length (take (at + g - at) (drop at o1))
+    pub lists-room-removed : g ≤ length (take (length o1 - at) (drop at o1))
     lists-room-removed = rw (length-take, length-drop, first-long) (omega arith)
 
-    module _ (y : List ℕ) (ey : y ≡ put (take (at + g - at) (drop at o1)) 0 R) (w : List ℕ)
-        (ew : w ≡ put (putMid at (at + g - at) o1 y) 1 (bytesOf 4 z)) where
-      second-is : putMid at (at + g - at) o1 y ≡ put o 5 (A ++ R)
+    module _ (y : List ℕ) (ey : y ≡ put (take (length o1 - at) (drop at o1)) 0 R) where
+      abbrev o2 : List ℕ
+      o2 = putMid at (length o1 - at) o1 y
+
+      second-is : o2 ≡ put o 5 (A ++ R)
       second-is =
-          put-mid o1 at (at + g - at) R y (omega (arith, first-long)) (omega arith) ey
+          put-rest o1 at R y (omega (arith, first-long)) ey
           ∙ ap₂ (λ (s : List ℕ) (i : ℕ). put s (5 + i) R) first-is ez ∙ put-after o 5 A R (omega arith)
 
-      pub lists-written : set w 0 1 ≡ put o 0 (1 ∷ (bytesOf 4 z ++ (A ++ R)))
-      lists-written =
-          let B : List ℕ = bytesOf 4 z in
-          let lb : length B ≡ 4 = length-bytesOf 4 z in
-          let la : length (A ++ R) ≡ length A + length R = length-append A R in
-          let lc : length (B ++ (A ++ R)) ≡ length B + length (A ++ R) = length-append B (A ++ R) in
-          ap (λ (s : List ℕ). set s 0 1)
-          (ew ∙ ap (λ (s : List ℕ). put s 1 B) second-is ∙ put-before o 1 5 B (A ++ R) (omega arith) (omega arith))
-          ∙ front-byte o (B ++ (A ++ R)) 1 (omega arith)
+      pub second-long : length o2 ≡ length o
+      second-long = ap length second-is ∙ length-put o 5 (A ++ R) (omega (arith, length-append A R))
 
-      pub lists-long : length (set w 0 1) ≡ length o
-      lists-long =
-          let B : List ℕ = bytesOf 4 z in
-          ap length lists-written
-          ∙ length-put o 0 (1 ∷ (B ++ (A ++ R))) (omega (arith, length-bytesOf 4 z, length-append A R, length-append B (A ++ R)))
+      module _ (w : List ℕ) (ew : w ≡ put o2 1 (bytesOf 4 z)) where
+        pub lists-written : set w 0 1 ≡ put o 0 (1 ∷ (bytesOf 4 z ++ (A ++ R)))
+        lists-written =
+            let B : List ℕ = bytesOf 4 z in
+            let lb : length B ≡ 4 = length-bytesOf 4 z in
+            let la : length (A ++ R) ≡ length A + length R = length-append A R in
+            let lc : length (B ++ (A ++ R)) ≡ length B + length (A ++ R) = length-append B (A ++ R) in
+            ap (λ (s : List ℕ). set s 0 1)
+            (ew ∙ ap (λ (s : List ℕ). put s 1 B) second-is ∙ put-before o 1 5 B (A ++ R) (omega arith) (omega arith))
+            ∙ front-byte o (B ++ (A ++ R)) 1 (omega arith)
+
+        pub lists-long : length (set w 0 1) ≡ length o
+        lists-long =
+            let B : List ℕ = bytesOf 4 z in
+            ap length lists-written
+            ∙ length-put o 0 (1 ∷ (B ++ (A ++ R))) (omega (arith, length-bytesOf 4 z, length-append A R, length-append B (A ++ R)))
 
   -- the lists, read back from the output
   module _ (w : List ℕ) (ew : w ≡ put o 0 (1 ∷ (bytesOf 4 z ++ (A ++ R)))) where

@@ -8,11 +8,12 @@ ghost use Rattle.packed_int.specs.Put.{put};
 ghost use Rattle.readers.specs.Messages.{watchUpdateOf};
 ghost use Rattle.topics.specs.Topics.{insertAll, sorted, allShort};
 ghost use Rattle.topics.specs.Packed.{topicsOf, encodeTopics, sizeTopics, isSet};
-ghost use Rattle.topic_window.specs.Lists.{namedIn, addedOf, removedOf};
+ghost use Rattle.topic_window.specs.Lists.{namedIn};
 ghost use Rattle.topic_window.specs.Window.{OrdersOf};
 ghost use Rattle.topic_merge.specs.Merge.{Apart, Rises};
+ghost use Rattle.topic_sort.specs.Chunks.{SortedTo};
 ghost use Rattle.watch.specs.Watch.{snapshotIn, diffIn, done, settle, noEvent, forWatch, handleUpdate};
-ghost use Rattle.watch.specs.Steps.{rest, DiffFits};
+ghost use Rattle.watch.specs.Steps.{rest, addedIn, removedIn, OutFits, DiffFits, RoomIs};
 use readers::ErrorCode;
 use readers::Event;
 use refusal::Refusal;
@@ -21,11 +22,46 @@ use schema::MessageKind;
 use topic_window::Listing;
 use topic_window::Orders;
 
+// A snapshot of fewer bytes has few topics: they are sorted in one window.
+const FEW_BYTES: usize = 4096;
+
 pub enum WatchAnswer {
     // The byte lengths of the new set and of the output.
     Changed(usize, usize),
     // Nothing was changed.
     Refused(Refusal),
+}
+
+// The lengths of a diff's lists, packed.
+struct Lists {
+    added: usize,
+    removed: usize,
+}
+
+// Whether there is room for a diff's set and output.
+enum Room {
+    Fits,
+    // The set is longer than its buffer.
+    NoSet,
+    // The set fits, but not the output.
+    NoOutput,
+}
+
+// The topics of a snapshot as the set at the front of buffer. Answers its length. The bytes of spare up to that length may change.
+fn write_topics(orders: Orders, buffer: &mut [u8], p: &[u8], spare: &mut [u8]) -> usize
+    requires { ⌜ OrdersOf 2 (now p) orders ⌝ }
+    requires { ⌜ allShort (namedIn 2 1 (now p)) ≡ true ⌝ }
+    requires { ⌜ sizeTopics (sorted (namedIn 2 1 (now p))) ≤ length (now buffer) ⌝ }
+    requires { ⌜ sizeTopics (sorted (namedIn 2 1 (now p))) ≤ length (now spare) ⌝ }
+    ensures { λ r. ⌜ SortedTo (namedIn 2 1 (now (p .entry))) (now (buffer .entry)) (now (spare .entry)) (now (buffer .exit)) (now (spare .exit)) r ⌝ }
+{
+    if orders.added {
+        return topic_sort::write_all(p, 2, 1, buffer);
+    }
+    if p.len() < FEW_BYTES {
+        return topic_lists::write_list(Listing::Added, orders, &p[..0], p, 2, buffer);
+    }
+    topic_sort::write_sorted(p, 2, 1, buffer, spare)
 }
 
 // The topics of a snapshot, as the set at the front of buffer and as the output. Answers the length of the set.
@@ -38,7 +74,7 @@ fn write_snapshot(buffer: &mut [u8], orders: Orders, p: &[u8], out: &mut [u8]) -
         × (now (out .exit) ≡ put (now (out .entry)) 0 (snapshotIn (now (p .entry)) .output))
         × (r ≡ sizeTopics (sorted (namedIn 2 1 (now (p .entry))))) ⌝ }
 {
-    let n = topic_lists::write_list(Listing::Added, orders, &p[..0], p, 2, buffer);
+    let n = write_topics(orders, buffer, p, out);
     packed_int::put_bytes(out, 1, &buffer[..n]);
     out[0] = 0;
     n
@@ -79,21 +115,25 @@ fn snapshot(buffer: &mut [u8], p: &[u8], out: &mut [u8]) -> WatchAnswer
     WatchAnswer::Changed(z, 1 + z)
 }
 
-// The output of a diff whose added list has z bytes and whose removed list has gone.
-fn write_lists(set: &[u8], orders: Orders, p: &[u8], z: usize, gone: usize, out: &mut [u8])
+// The output of a diff, which fits. Answers the lengths of its lists.
+fn write_lists(set: &[u8], orders: Orders, p: &[u8], out: &mut [u8]) -> Lists
     requires { ⌜ isSet (now set) ≡ true ⌝ }
     requires { ⌜ OrdersOf 3 (now p) orders ⌝ }
     requires { ⌜ (allShort (namedIn 3 1 (now p)) ≡ true) × (allShort (namedIn 3 2 (now p)) ≡ true) ⌝ }
-    requires { ⌜ z ≡ sizeTopics (addedOf (topicsOf (now set)) (namedIn 3 2 (now p)) (namedIn 3 1 (now p))) ⌝ }
-    requires { ⌜ gone ≡ sizeTopics (removedOf (topicsOf (now set)) (namedIn 3 2 (now p))) ⌝ }
-    requires { ⌜ (z < 4294967296) × (5 + z + gone ≤ length (now out)) ⌝ }
-    ensures { λ _. ⌜ now (out .exit) ≡ put (now (out .entry)) 0 (diffIn (topicsOf (now (set .entry))) (now (p .entry)) .output) ⌝ }
+    requires { ⌜ OutFits (topicsOf (now set)) (now p) (length (now out)) ⌝ }
+    ensures { λ r. ⌜ (r .added ≡ sizeTopics (addedIn (topicsOf (now (set .entry))) (now (p .entry))))
+        × (r .removed ≡ sizeTopics (removedIn (topicsOf (now (set .entry))) (now (p .entry))))
+        × (now (out .exit) ≡ put (now (out .entry)) 0 (diffIn (topicsOf (now (set .entry))) (now (p .entry)) .output)) ⌝ }
 {
+    let z = topic_lists::write_list(Listing::Added, orders, set, p, 3, &mut out[5..]);
     let at = 5 + z;
-    topic_lists::write_list(Listing::Added, orders, set, p, 3, &mut out[5..at]);
-    topic_lists::write_list(Listing::Removed, orders, set, p, 3, &mut out[at..at + gone]);
+    let gone = topic_lists::write_list(Listing::Removed, orders, set, p, 3, &mut out[at..]);
     packed_int::write_u32(out, 1, z as u32);
     out[0] = 1;
+    Lists {
+        added: z,
+        removed: gone,
+    }
 }
 
 // The set at the front of buffer after a diff, whose lists stand packed in `added` and `removed`. Answers its length.
@@ -133,21 +173,62 @@ fn write_diff(
     used: usize,
     orders: Orders,
     p: &[u8],
-    z: usize,
-    gone: usize,
     out: &mut [u8],
 ) -> WatchAnswer
     requires { ⌜ used ≤ length (now buffer) ⌝ }
     requires { ⌜ isSet (take used (now buffer)) ≡ true ⌝ }
-    requires { ⌜ DiffFits (topicsOf (take used (now buffer))) (now p) orders z gone (length (now buffer)) (length (now out)) ⌝ }
+    requires { ⌜ OrdersOf 3 (now p) orders ⌝ }
+    requires { ⌜ (allShort (namedIn 3 1 (now p)) ≡ true) × (allShort (namedIn 3 2 (now p)) ≡ true) ⌝ }
+    requires { ⌜ DiffFits (topicsOf (take used (now buffer))) (now p) (length (now buffer)) (length (now out)) ⌝ }
     ensures { λ r. ⌜ (r ≡ done (now (buffer .entry)) (now (out .entry)) (diffIn (topicsOf (take used (now (buffer .entry)))) (now (p .entry))) .answer)
         × (now (buffer .exit) ≡ done (now (buffer .entry)) (now (out .entry)) (diffIn (topicsOf (take used (now (buffer .entry)))) (now (p .entry))) .buffer)
         × (now (out .exit) ≡ done (now (buffer .entry)) (now (out .entry)) (diffIn (topicsOf (take used (now (buffer .entry)))) (now (p .entry))) .out) ⌝ }
 {
-    write_lists(&buffer[..used], orders, p, z, gone, out);
-    let at = 5 + z;
-    let n = write_set(buffer, used, &out[5..at], &out[at..at + gone]);
-    WatchAnswer::Changed(n, at + gone)
+    let l = write_lists(&buffer[..used], orders, p, out);
+    let at = 5 + l.added;
+    let end = at + l.removed;
+    let n = write_set(buffer, used, &out[5..at], &out[at..end]);
+    WatchAnswer::Changed(n, end)
+}
+
+// Each list of a diff that is packed is no longer than the n bytes of the message: so the set and the output fit without being measured.
+fn fits_lists(n: usize, set: usize, out: usize) -> bool
+    ensures { λ r. ⌜ (r ≡ true → (n ≤ set) × (n < 2 ^ 32) × (5 + n + n ≤ out)) ⌝ }
+{
+    if set < n {
+        return false;
+    }
+    if 4294967295 < n {
+        return false;
+    }
+    if out < 5 {
+        return false;
+    }
+    if out - 5 < n {
+        return false;
+    }
+    n <= out - 5 - n
+}
+
+// Whether the set after a diff and its output fit rooms of so many bytes.
+fn room_for(set: &[u8], orders: Orders, p: &[u8], room: usize, out: usize) -> Room
+    requires { ⌜ length (now set) ≤ room ⌝ }
+    requires { ⌜ isSet (now set) ≡ true ⌝ }
+    requires { ⌜ OrdersOf 3 (now p) orders ⌝ }
+    ensures { λ r. ⌜ RoomIs (topicsOf (now (set .entry))) (now (p .entry)) room out r ⌝ }
+{
+    if fits_lists(p.len(), room - set.len(), out) {
+        return Room::Fits;
+    }
+    let gone = topic_lists::measure(Listing::Removed, orders, set, p, 3);
+    let z = topic_lists::measure(Listing::Added, orders, set, p, 3);
+    if room - (set.len() - gone) < z {
+        return Room::NoSet;
+    }
+    if !fits(z, gone, out) {
+        return Room::NoOutput;
+    }
+    Room::Fits
 }
 
 fn diff(buffer: &mut [u8], used: usize, p: &[u8], out: &mut [u8]) -> WatchAnswer
@@ -169,15 +250,12 @@ fn diff(buffer: &mut [u8], used: usize, p: &[u8], out: &mut [u8]) -> WatchAnswer
         added: a.rises,
         removed: r.rises,
     };
-    let gone = topic_lists::measure(Listing::Removed, orders, &buffer[..used], p, 3);
-    let z = topic_lists::measure(Listing::Added, orders, &buffer[..used], p, 3);
-    if buffer.len() - (used - gone) < z {
-        return WatchAnswer::Refused(Refusal::SetTooLong);
+    let room = buffer.len();
+    match room_for(&buffer[..used], orders, p, room, out.len()) {
+        Room::Fits => write_diff(buffer, used, orders, p, out),
+        Room::NoSet => WatchAnswer::Refused(Refusal::SetTooLong),
+        Room::NoOutput => WatchAnswer::Refused(Refusal::ResultTooLong),
     }
-    if !fits(z, gone, out.len()) {
-        return WatchAnswer::Refused(Refusal::ResultTooLong);
-    }
-    write_diff(buffer, used, orders, p, z, gone, out)
 }
 
 fn no_event(id: u64, error: ErrorCode) -> Refusal

@@ -1,0 +1,4 @@
+mod FreshLaws
+mod GatherLaws
+mod SortLaws
+mod WriteLaws
