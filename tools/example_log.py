@@ -217,9 +217,27 @@ def line(step):
     return step if isinstance(step, str) else " ".join(map(shown, step))
 
 
+def connection():
+    push = update(10, NORTH)
+    carried = part_field(75, push)
+    yield "# What comes over the connection: a push, the answer to a registration, an update of the topics watch, each in its command."
+    yield "command", number_field(1, 75) + carried
+    yield "command", number_field(1, 74) + part_field(74, error(2, 6, b"later"))
+    yield "command", number_field(1, 77) + part_field(77, number_field(1, 4))
+    yield "# Another command, a ping; an unknown type; a push without its message, and one that a relay has split in two."
+    yield "command", number_field(1, 18) + part_field(18, b"")
+    yield "command", number_field(1, (1 << 64) - 1)
+    yield "command", number_field(1, 75)
+    yield "command", number_field(1, 75) + part_field(75, push[:2]) + part_field(75, push[2:])
+    yield "# Hostile commands: cut short; the type as a text; no type."
+    yield "command", (number_field(1, 75) + carried)[:-1]
+    yield "command", part_field(1, b"75") + carried
+    yield "command", carried
+
+
 def made():
     head = "# A pass of the station svalbard-2 as a log of calls, written by tools/example_log.py. The answers stand in stdout."
-    parts = [[head], first_link(), pushes(), second_link(), damage(), questions(), charges(), hours(), uploads()]
+    parts = [[head], first_link(), pushes(), second_link(), damage(), questions(), charges(), hours(), uploads(), connection()]
     text = "\n\n".join("\n".join(map(line, part)) for part in parts)
     return {CRATES / "station" / "stdin": text + "\n"}
 

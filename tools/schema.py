@@ -1,5 +1,6 @@
 #!/usr/bin/env python3
-"""Check: holds the table of crates/schema/specs/Schema.antt to the Rust's pulsar.proto.rs: field, number, label and type of all eight messages.
+"""Check: holds the table of crates/schema/specs/Schema.antt to the Rust's pulsar.proto.rs: field, number, label and type of all eight messages; and the
+fields of a command that crates/command/specs/Shell.antt has, each message's number being that of its type too.
 
     python3 tools/schema.py [--rust DIR]      DIR: the folder of the Rust's sources; by default CUDDREWYN_RUST, or ../shared/docs/src beside the repository
 
@@ -14,14 +15,18 @@ import usage
 
 ROOT = Path(__file__).resolve().parent.parent
 TABLE = ROOT / "crates/schema/specs/Schema.antt"
+COMMAND = ROOT / "crates/command/specs/Shell.antt"
 SOURCE = "crates/magnetar-proto/src/pb/pulsar.proto.rs"
+
+
+ROW = r"has (\d+) (\(oneof \d+\)|\w+) (\(message \w+\)|\w+) +-- (\w+)"
 
 
 def table_rows(text):
     """The rows of the table: (message, field) -> (number, label, type), where the members of a oneof have the label 'oneof'."""
     rows = {}
     for kind, body in re.findall(r"^schema (\w+) =\n((?: .*\n)+)", text, re.M):
-        for number, label, of, name in re.findall(r"has (\d+) (\(oneof \d+\)|\w+) (\(message \w+\)|\w+) +-- (\w+)", body):
+        for number, label, of, name in re.findall(ROW, body):
             rows[kind, name] = int(number), label.strip("()").split()[0], of.strip("()")
     return rows
 
@@ -55,6 +60,19 @@ def oneof_rows(kind, path, text):
     }
 
 
+def command_faults(table, text):
+    """The rows of a command's table that are not the Rust's, and messages whose type has another number than their field."""
+    body = re.search(r"^baseCommand =\n((?: .*\n)+)", table, re.M)[1]
+    rust = struct_rows("BaseCommand", text.replace("r#type", "type"))
+    types = re.search(r"^pub mod base_command \{.*?pub enum Type \{\n(.*?)^    \}", text, re.M | re.S)[1]
+    for number, label, of, name in re.findall(ROW, body):
+        row = int(number), label, of.strip("()")
+        if rust.get(("BaseCommand", name)) != row:
+            yield f"BaseCommand.{name}: the table has {row}, the Rust {rust.get(('BaseCommand', name), 'nothing')}"
+        if row[2] != "enumeration" and f" {name.title().replace('_', '')} = {number}," not in types:
+            yield f"BaseCommand.{name}: its type has another number than {number}"
+
+
 def main():
     parser = usage.Parser(__doc__)
     parser.add_argument("--rust", type=Path, default=Path(os.environ.get("CUDDREWYN_RUST", ROOT / "../shared/docs/src")), help="folder of the Rust's sources")
@@ -69,7 +87,8 @@ def main():
     faults = [f"{'.'.join(key)}: the table has {table.get(key, 'nothing')}, the Rust {rust.get(key, 'nothing')}" for key in sorted(table.keys() | rust.keys()) if table.get(key) != rust.get(key)]
     if len({kind for kind, _ in table}) != 8:
         faults.append("the table has not eight messages")
-    for line in faults or [f"{len(table)} fields of 8 messages are those of {Path(SOURCE).name}"]:
+    faults += command_faults(COMMAND.read_text(encoding="utf-8"), text)
+    for line in faults or [f"{len(table)} fields of 8 messages and those of a command are those of {Path(SOURCE).name}"]:
         print("schema: " + line)
     return 1 if faults else 0
 

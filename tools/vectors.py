@@ -5,7 +5,8 @@ the same of the logs of `station` in vectors/ (tools/logs.py).
 The vectors are the lines of their files stdin. Each subject has its judge: tools/name_vectors.py (texts, names, ranges), tools/wire_vectors.py,
 tools/assignment_vectors.py (packed assignments, deltas, the calls with an output, the intake), tools/watch_vectors.py and tools/key_vectors.py (hashes, the
 segment of a key, test keys); each log has one too: tools/charge_vectors.py (what holdings cost), tools/churn_vectors.py (lost counts), tools/hours_vectors.py
-(pass hours), tools/attach_log_vectors.py (uploaders' logs), tools/reader_vectors.py (the readers of replays). `--write` writes anew what is compared. The ends of every row of Unicode's Table 3-7
+(pass hours), tools/attach_log_vectors.py (uploaders' logs), tools/reader_vectors.py (the readers of replays), tools/command_vectors.py
+(the outer messages of a connection). `--write` writes anew what is compared. The ends of every row of Unicode's Table 3-7
 (tools/text_vectors.py) have to be among those of `vectors`, answered as their row says.
 """
 import pathlib
@@ -16,6 +17,7 @@ import assignment_vectors
 import attach_log_vectors
 import charge_vectors
 import churn_vectors
+import command_vectors
 import hours_vectors
 import key_vectors
 import logs
@@ -39,6 +41,7 @@ LOGS = {
     "attach_log": attach_log_vectors.COMMANDS,
     "charge": charge_vectors.COMMANDS,
     "churn": churn_vectors.COMMANDS,
+    "command": command_vectors.COMMANDS,
     "hours": hours_vectors.COMMANDS,
     "readers": reader_vectors.COMMANDS,
 }

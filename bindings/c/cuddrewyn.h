@@ -54,6 +54,10 @@ static inline const char *cuddrewyn_version(void) { return CUDDREWYN_VERSION; }
 #define CUDDREWYN_MAX_TERMS 64
 #define CUDDREWYN_MAX_WINDOWS 28
 #define CUDDREWYN_WEEK 604800
+/* The types of the commands whose messages are taken (BaseCommand.Type). */
+#define CUDDREWYN_SUBSCRIBE_RESPONSE 74
+#define CUDDREWYN_ASSIGNMENT_UPDATE 75
+#define CUDDREWYN_TOPICS_UPDATE 77
 /* The bytes of an entry of an uploader's log. */
 #define CUDDREWYN_LOG_ENTRY 9
 /* The readers of the replays, from 0 on. */
@@ -241,6 +245,13 @@ cuddrewyn_reply cuddrewyn_matches_registration(const uint8_t *store, size_t stor
 
 /* Where the broker's text stands in a response that was refused with 16; length 0 where there is none. */
 cuddrewyn_part cuddrewyn_response_text(const uint8_t *message, size_t message_len);
+
+/* The outer message of a connection, BaseCommand: which of the three messages it carries, and where. FOUND: first is its type (one of
+ * CUDDREWYN_SUBSCRIBE_RESPONSE, CUDDREWYN_ASSIGNMENT_UPDATE and CUDDREWYN_TOPICS_UPDATE), second the message's start in bytes, third its length,
+ * fourth the number by which it is routed: request id, consumer id or watch id, 0 where it is absent. NO: first is the type; with two values it is
+ * one of the three, whose message stands in so many parts: in none, or in more than one. The message itself is not tested: the call that it is handed
+ * to does that. Refuses 3, 4, 6, of the outer message alone. */
+cuddrewyn_reply cuddrewyn_command(const uint8_t *bytes, size_t bytes_len);
 
 /* The list that a delta makes of a list. WRITTEN: first is its length in out. Refuses 20 (list or delta malformed), 15 (above 2,048 bytes), 21 (out too short). */
 cuddrewyn_reply cuddrewyn_apply(const uint8_t *assignment, size_t assignment_len, const uint8_t *delta, size_t delta_len, uint8_t *out, size_t out_len);

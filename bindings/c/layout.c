@@ -332,6 +332,32 @@ static void logs(void) {
     check_reply(cuddrewyn_check_log(deltas, 72, log, 27), refused(37, 0, 0, 0, 0, 0));
 }
 
+static void commands(void) {
+    uint8_t *bytes = lend(14);
+    static const uint8_t update[] = {0x08, 75, 0xda, 0x04, 0x02, 0x08, 0x07, 0xda, 0x04, 0x00};
+    memcpy(bytes, update, 10);
+    cuddrewyn_reply found = {.answer = CUDDREWYN_FOUND, .count = 4, .first = CUDDREWYN_ASSIGNMENT_UPDATE, .second = 5, .third = 2, .fourth = 7};
+    check_reply(cuddrewyn_command(bytes, 7), found);
+    check_reply(cuddrewyn_command(bytes, 10), two(CUDDREWYN_NO, CUDDREWYN_ASSIGNMENT_UPDATE, 2));
+    check_reply(cuddrewyn_command(bytes, 2), two(CUDDREWYN_NO, CUDDREWYN_ASSIGNMENT_UPDATE, 0));
+    check_reply(cuddrewyn_command(bytes, 9), refused(CUDDREWYN_INVALID_WIRE_FORMAT, 0, 0, 0, 0, 0));
+    check_reply(cuddrewyn_command(bytes + 2, 5), refused(CUDDREWYN_MISSING_FIELD, 0, 0, 0, 0, 0));
+    bytes[1] = 74;
+    bytes[2] = 0xd2;
+    found.first = CUDDREWYN_SUBSCRIBE_RESPONSE;
+    check_reply(cuddrewyn_command(bytes, 7), found);
+    bytes[1] = 77;
+    bytes[2] = 0xea;
+    found.first = CUDDREWYN_TOPICS_UPDATE;
+    check_reply(cuddrewyn_command(bytes, 7), found);
+    bytes[2] = 0xe8;
+    check_reply(cuddrewyn_command(bytes, 7), refused(CUDDREWYN_WRONG_WIRE_TYPE, 0, 0, 0, 0, 0));
+    memset(bytes + 1, 0xff, 9);
+    bytes[10] = 0x01;
+    check_reply(cuddrewyn_command(bytes, 11), one(CUDDREWYN_NO, (uint64_t)-1));
+    free(bytes);
+}
+
 static void names(void) {
     static const uint8_t name[] = "segment://a/b/c/0010-00ff-12";
     size_t length = sizeof name - 1;
@@ -377,6 +403,7 @@ int main(void) {
     churn();
     hours();
     logs();
+    commands();
     names();
     ranges();
     free(store);

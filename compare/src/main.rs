@@ -14,6 +14,7 @@ mod raw;
 mod attach_logs;
 mod charges;
 mod churns;
+mod commands;
 mod either_order;
 mod generate;
 mod hours;

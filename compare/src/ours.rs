@@ -102,6 +102,11 @@ pub fn to_pb(sheet: &mut [u8], parent: &mut [u8], out: &mut [u8]) -> Reply {
     merge(Call::ToPb, raw::cuddrewyn_to_pb, sheet, parent, out)
 }
 
+pub fn command(bytes: &mut [u8]) -> Reply {
+    let reply = unsafe { raw::cuddrewyn_command(bytes.as_ptr(), bytes.len()) };
+    spoiled_reply(Call::Command, reply, &mut [bytes])
+}
+
 pub fn segment_for_key(key: &mut [u8], sheet: &mut [u8]) -> Reply {
     let reply = unsafe { raw::cuddrewyn_segment_for_key(key.as_ptr(), key.len(), sheet.as_ptr(), sheet.len()) };
     spoiled_reply(Call::SegmentForKey, reply, &mut [key, sheet])

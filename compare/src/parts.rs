@@ -2,6 +2,7 @@
 use crate::attach_logs::{self, AttachLogs};
 use crate::charges::{self, Charges};
 use crate::churns::{self, Churns};
+use crate::commands::{self, Commands};
 use crate::either_order::{self, EitherOrder};
 use crate::hours::{self, Hours};
 use crate::keys::{self, Keys};
@@ -27,6 +28,7 @@ pub const DIRECTED: &[(&str, fn(&mut Tally, u64))] = &[
     ("counts, written down", |tally, _| churns::directed(tally)),
     ("contracts, written down", |tally, _| hours::directed(tally)),
     ("logs, written down", |tally, _| attach_logs::directed(tally)),
+    ("commands, written down", |tally, _| commands::directed(tally)),
     #[cfg(feature = "watch")]
     ("long topics", crate::watch::directed),
     #[cfg(feature = "watch")]
@@ -52,6 +54,7 @@ enum Work {
     Churns(Churns),
     Hours(Hours),
     AttachLogs(AttachLogs),
+    Commands(Commands),
     Short(Short),
     #[cfg(feature = "watch")]
     Watch(crate::watch::Watch),
@@ -71,6 +74,7 @@ impl Work {
             Self::Churns(churns) => churns.step(tally),
             Self::Hours(hours) => hours.step(tally),
             Self::AttachLogs(attach_logs) => attach_logs.step(tally),
+            Self::Commands(commands) => commands.step(tally),
             Self::Short(short) => return short.step(tally),
             #[cfg(feature = "watch")]
             Self::Watch(watch) => watch.step(tally),
@@ -114,6 +118,7 @@ pub const CHARGES: &str = "charges of holdings";
 pub const CHURN: &str = "windows of lost counts";
 pub const HOURS: &str = "pass hours";
 pub const ATTACH_LOGS: &str = "uploaders' logs";
+pub const COMMANDS: &str = "commands";
 pub const WATCH: &str = "topics watch";
 
 impl Parts {
@@ -134,6 +139,7 @@ impl Parts {
             (CHURN, 1, Work::Churns(Churns::new(seed))),
             (HOURS, 1, Work::Hours(Hours::new(seed))),
             (ATTACH_LOGS, 1, Work::AttachLogs(AttachLogs::new(seed))),
+            (COMMANDS, 1, Work::Commands(Commands::new(seed))),
             #[cfg(feature = "watch")]
             (WATCH, 5, Work::Watch(crate::watch::Watch::new(seed))),
         ];

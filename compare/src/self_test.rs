@@ -1,6 +1,6 @@
 //! Whether the comparison notices a wrong bit: for each call and each place of what it gives, in every part of a run, by each judge alone.
 use crate::model::session::{LIST, SLOT};
-use crate::parts::{ATTACH_LOGS, CHARGES, CHURN, DIRECTED, EITHER_ORDER, HOURS, KEYS, LISTS, NAMES, ORDERS, Parts, SMALL_STORES, WATCH};
+use crate::parts::{ATTACH_LOGS, CHARGES, CHURN, COMMANDS, DIRECTED, EITHER_ORDER, HOURS, KEYS, LISTS, NAMES, ORDERS, Parts, SMALL_STORES, WATCH};
 use crate::spoil::{FIELDS, Judge, Place, arm, armed, disarm, forget, leave_to, was_made};
 use crate::tally::{Call, Stopped, Tally, reach};
 use std::panic::{AssertUnwindSafe, catch_unwind, resume_unwind};
@@ -25,7 +25,7 @@ fn gives(call: Call) -> Gives {
         Call::Update => Gives::Reply(true, 3),
         Call::KeyForHash | Call::RangeLen | Call::RangeContains | Call::RangeContainsRange | Call::RangeAdjacent => Gives::Reply(false, 0),
         Call::Matches | Call::Check | Call::KeyInSegment | Call::Charge | Call::SegmentSource | Call::IsOpen | Call::EarliestOpen => Gives::Reply(false, 1),
-        Call::ChurnPush | Call::ChurnClear | Call::ChurnCurrent => Gives::Reply(false, 1),
+        Call::ChurnPush | Call::ChurnClear | Call::ChurnCurrent | Call::Command => Gives::Reply(false, 1),
         Call::SegmentForKey | Call::CheckLog | Call::SegmentTopic | Call::ParentTopic => Gives::Reply(false, 2),
         Call::Apply | Call::Join | Call::ApplyEitherOrder | Call::JoinEitherOrder | Call::ToPb | Call::Watch => Gives::Reply(false, 3),
         Call::ResponseText | Call::WatchText => Gives::Text,
@@ -71,7 +71,7 @@ fn places_of_the_rust(call: Call) -> Vec<Place> {
         Call::Drain => with(&[&states[..], &[Place::Byte(1, 0)]].concat()),
         Call::SegmentTopic | Call::ParentTopic => with(&[Place::Byte(1, 0)]),
         Call::Watch => with(&[Place::Byte(0, 0), Place::Byte(2, 0)]),
-        Call::Matches | Call::SegmentSource => with(&[]),
+        Call::Matches | Call::SegmentSource | Call::Command => with(&[]),
         call if call.is_of_the_rust() => all_places(call),
         _ => Vec::new(),
     }
@@ -99,6 +99,7 @@ fn home(call: Call) -> &'static str {
         Call::ChurnPush | Call::ChurnClear | Call::ChurnCurrent => CHURN,
         Call::IsOpen | Call::EarliestOpen => HOURS,
         Call::CheckLog => ATTACH_LOGS,
+        Call::Command => COMMANDS,
         Call::Watch | Call::WatchText => WATCH,
         Call::SegmentTopic | Call::SegmentSource | Call::ParentTopic | Call::ConsumerType => NAMES,
         Call::RangeLen | Call::RangeContains | Call::RangeContainsRange | Call::RangeAdjacent => NAMES,

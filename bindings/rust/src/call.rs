@@ -105,6 +105,11 @@ pub(crate) fn response_text(message: &[u8]) -> Part {
     unsafe { raw::cuddrewyn_response_text(message.as_ptr(), message.len()) }
 }
 
+pub(crate) fn command(bytes: &[u8]) -> Reply {
+    // SAFETY: one slice as pointer and length of a live reference; it is not written.
+    unsafe { raw::cuddrewyn_command(bytes.as_ptr(), bytes.len()) }
+}
+
 pub(crate) fn apply(assignment: &[u8], delta: &[u8], out: &mut [u8]) -> Reply {
     // SAFETY: three slices as pointer and length of live references; `out`, the only one written, is exclusive.
     unsafe {

@@ -77,6 +77,7 @@
 //! | `ScalableTopicsWatch::handle_update(&upd)` | `handle_update(message, &mut out)` |
 //! | `topics()` and the lists of a `TopicsChange`, each a `Vec<String>` | iterators of `&str` |
 //! | `AssignmentError`, `SegmentTopicError`, `TopicsWatchError` | the same variants without texts, the broker's excepted, and the port's own; [`number`](AssignmentError::number)`()` is the specification's |
+//! | `BaseCommand::decode(bytes)`, then a `match` on its type | [`Command::read`]`(bytes)?`: the three messages as parts of the bytes, with the number to route them by |
 //! | | [`apply`] and [`join`] of deltas |
 //! | | [`segment_for_key`]: the segment that takes a key |
 //! | | [`key_for_hash`], [`key_in_segment`]: the key that has a hash, a key that falls in a segment |
@@ -129,6 +130,7 @@ mod attach_log;
 mod call;
 mod charge;
 mod churn;
+mod command;
 mod error;
 mod hours;
 mod lists;
@@ -144,6 +146,7 @@ mod watch;
 pub use attach_log::{Entry, check_log};
 pub use charge::{Charge, DIVISOR, charge};
 pub use churn::{CHURN_WINDOW, Churn, ChurnTotals};
+pub use command::Command;
 pub use error::{AssignmentError, SegmentTopicError};
 pub use hours::{Contract, MAX_TERMS, MAX_WINDOWS, Span, WEEK, contract_len, earliest_open, is_open};
 pub use lists::{apply, join, key_for_hash, key_in_segment, segment_for_key, to_pb};

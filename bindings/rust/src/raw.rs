@@ -119,6 +119,7 @@ unsafe extern "C" {
         kind: i32,
     ) -> Reply;
     pub fn cuddrewyn_response_text(message: *const u8, message_len: usize) -> Part;
+    pub fn cuddrewyn_command(bytes: *const u8, bytes_len: usize) -> Reply;
     pub fn cuddrewyn_apply(
         assignment: *const u8,
         assignment_len: usize,

@@ -5,6 +5,7 @@
 pub mod attach_log;
 pub mod charge;
 pub mod churn;
+pub mod command;
 pub mod delta;
 pub mod hours;
 pub mod identity;

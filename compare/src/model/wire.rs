@@ -101,7 +101,7 @@ fn lacks(table: &[Row], message: &Fields) -> bool {
 }
 
 /// A varint at `at`, before `end`: its value and the place behind it.
-fn varint(bytes: &[u8], at: usize, end: usize) -> Result<(u64, usize), u8> {
+pub fn varint(bytes: &[u8], at: usize, end: usize) -> Result<(u64, usize), u8> {
     let mut value = 0u128;
     for (k, byte) in bytes[at..end].iter().take(10).enumerate() {
         value |= u128::from(byte & 0x7f) << (7 * k);
@@ -190,7 +190,7 @@ fn value(holds: Holds, bytes: &[u8], at: usize, end: usize) -> Result<(Value, us
 }
 
 /// The place behind an unknown field's value.
-fn skipped(kind: u64, bytes: &[u8], at: usize, end: usize) -> Result<usize, u8> {
+pub fn skipped(kind: u64, bytes: &[u8], at: usize, end: usize) -> Result<usize, u8> {
     match kind {
         0 => varint(bytes, at, end).map(|(_, behind)| behind),
         1 => stretch(at, 8, end).map(|part| part.end),

@@ -37,6 +37,8 @@ pub enum Line {
     EarliestOpen,
     // Whether an uploader's log is what deltas ask for.
     CheckLog,
+    // What the outer message of a connection carries.
+    Command,
     // It is no call, and why was written.
     Damaged,
 }
@@ -140,6 +142,7 @@ fn line_at(place: usize) -> Line {
         10 => Line::IsOpen,
         11 => Line::EarliestOpen,
         12 => Line::CheckLog,
+        13 => Line::Command,
         _ => Line::Damaged,
     }
 }
@@ -148,10 +151,13 @@ fn line_at(place: usize) -> Line {
 pub fn tested(at: u64, line: &[u8]) -> Line {
     let name = lines::word(line, 0);
     let place = lines::place_of(
-        b"open update response drain begin invalidate segment key charge churn is_open earliest_open check_log",
+        b"open update response drain begin invalidate segment key charge churn is_open earliest_open check_log command",
         name,
     );
-    let form = lines::word(b"cnnbbbk cnb cnb cn cn c cb cn cbnnn c cbn cbn cbb", place);
+    let form = lines::word(
+        b"cnnbbbk cnb cnb cn cn c cb cn cbnnn c cbn cbn cbb cb",
+        place,
+    );
     if form.len() == 0 {
         damaged_word(at, b"unknown call ", name);
         return Line::Damaged;

@@ -13,6 +13,7 @@ pub use print::newline;
 pub use print::quoted;
 pub use print::space;
 pub use print::text;
+pub use refusals::attached_as;
 pub use refusals::refused;
 pub use refusals::refused_reply;
 pub use refusals::values;

@@ -21,7 +21,7 @@ fn named(number: usize) {
 }
 
 // A space, then a number; where it may be negative it is a word of 64 bits in two's complement.
-fn attached_as(is_signed: bool, v: u64) {
+pub fn attached_as(is_signed: bool, v: u64) {
     if is_signed && 9223372036854775807 < v {
         labelled(b" -", std::num::wrapping_sub_u64(0, v));
     } else {

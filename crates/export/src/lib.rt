@@ -7,6 +7,7 @@ ghost use mathlib.Core.Path.{_≡_};
 
 mod charge_calls;
 mod churn_calls;
+mod command_calls;
 mod hours_calls;
 mod key_calls;
 mod list_calls;

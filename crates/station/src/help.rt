@@ -29,13 +29,14 @@ with # are passed over, but counted.
   is_open CONTRACT SECOND                                   whether a second is open; likewise
   earliest_open CONTRACT SECOND                             the earliest open second from it on
   check_log DELTAS LOG                                      whether a log passes; needs no session
+  command BYTES                                             what an outer message carries; likewise
 
 CONSUMER, INCARNATION, READER, ID, SECONDS, RATE, REMAINDER and SECOND are decimal numbers below
 2^64; a READER is one of 0 to 7, each of which is handed every push of the queue.
-TOPIC, SUBSCRIPTION, NAME, MESSAGE, KEY, SEGMENT, CONTRACT, DELTAS and LOG are bytes, at most 65536:
-in hexadecimal behind 0x, or as they stand. A MESSAGE is what the controller sends, in Protocol
-Buffers; a SEGMENT is one record, packed as in a list. RATE is in millionths of a euro per full key
-space and hour; REMAINDER is that of the segment's last charge, 0 before the first. A SECOND is
+TOPIC, SUBSCRIPTION, NAME, MESSAGE, KEY, SEGMENT, CONTRACT, DELTAS, LOG and BYTES are bytes, at most
+65536: in hexadecimal behind 0x, or as they stand. A MESSAGE is what the controller sends, in
+Protocol Buffers; BYTES are those of a BaseCommand, in which such a message stands; a SEGMENT is one
+record, packed as in a list. RATE is in millionths of a euro per full key space and hour; REMAINDER is that of the segment's last charge, 0 before the first. A SECOND is
 counted from 2000-01-01 00:00 UTC, a Saturday. A CONTRACT is the count of terms and that of weekly
 windows, 16 bits each, then start and end of each, 64 bits each, most significant bit first; those
 of windows are in seconds from Saturday 00:00. DELTAS are packed one behind another; an entry of the
@@ -55,6 +56,11 @@ For each call a line LINE CALL ANSWER, where LINE is its number in the log and A
                                              sum of their lost counts, and the largest
   yes, no                                    whether the second is open; whether the log passes
   SECOND                                     the earliest open second
+  update at START length N consumer ID       what a command carries, where, and the number to route
+  response at START length N request ID      it by; the message itself is not tested
+  watch at START length N watch ID
+  parts TYPE COUNT                           its message is in no part, or in several
+  other TYPE                                 another command
   delta epoch E lost L gained G              what the push changed, in numbers
   replay at PLACE epoch E lost L gained G    the same of a push of the queue, and its place
   refused N NAME V1 V2 ..                    the specification's number, the name, its numbers

@@ -1,5 +1,6 @@
 // Questions that need no session: a line holds all that is asked about.
 use charge::ChargeAnswer;
+use command::Command;
 use hours::EarliestAnswer;
 use hours::OpenAnswer;
 use log_entries::LogAnswer;
@@ -37,4 +38,11 @@ pub fn check_log(line: &[u8]) -> LogAnswer {
     let n = lines::bytes_at(line, 1, &mut deltas);
     let m = lines::bytes_at(line, 2, &mut log);
     attach_log::check(&deltas[..n], &log[..m])
+}
+
+// command BYTES
+pub fn carried(line: &[u8]) -> Command {
+    let mut bytes = io::large_buffer();
+    let n = lines::bytes_at(line, 1, &mut bytes);
+    command::read_command(&bytes[..n])
 }

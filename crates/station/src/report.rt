@@ -8,6 +8,7 @@ use call_text::space;
 use call_text::text;
 use charge::ChargeAnswer;
 use churn::ChurnAnswer;
+use command::Command;
 use hours::EarliestAnswer;
 use hours::OpenAnswer;
 use log_entries::LogAnswer;
@@ -128,6 +129,42 @@ pub fn show_log(answer: LogAnswer) {
     match answer {
         LogAnswer::Told(b) => show_yes(b),
         LogAnswer::Refused(x) => call_text::refused(x),
+    }
+}
+
+// A message that a command carries: its name and place, and the number by which it is routed.
+fn show_message(name: &[u8], start: usize, len: usize, label: &[u8], id: u64) {
+    text(name);
+    labelled(b" at ", start as u64);
+    labelled(b" length ", len as u64);
+    labelled(label, id);
+}
+
+// A command that carries none: its type, and of one of the three the parts of its message.
+fn show_type(label: &[u8], c: Command) {
+    let r = command::command_reply(c);
+    text(label);
+    call_text::attached_as(true, r.first);
+    if r.count == 2 {
+        labelled(b" ", r.second);
+    }
+}
+
+// What a command carries.
+pub fn show_command(c: Command) {
+    match c {
+        Command::Update(start, len, id) => show_message(b"update", start, len, b" consumer ", id),
+        Command::Response(start, len, id) => show_message(
+            b"response",
+            start,
+            len,
+            b" request ",
+            id,
+        ),
+        Command::Watch(start, len, id) => show_message(b"watch", start, len, b" watch ", id),
+        Command::Parts(_, _) => show_type(b"parts", c),
+        Command::Other(_) => show_type(b"other", c),
+        Command::Refused(x) => call_text::refused(x),
     }
 }
 

@@ -16,6 +16,7 @@ use call_text::space;
 use call_text::text;
 use charge::ChargeAnswer;
 use churn::ChurnAnswer;
+use command::Command;
 use hours::EarliestAnswer;
 use hours::OpenAnswer;
 use libc::STDOUT_FILENO;
@@ -239,6 +240,19 @@ fn run_check_log(run: Run, line: &[u8]) -> Run {
     }
 }
 
+// Shows what the command of a line carries. Nothing is changed but the counts.
+fn run_command(run: Run, line: &[u8]) -> Run {
+    let answer = questions::carried(line);
+    show_name(run.line, line);
+    report::show_command(answer);
+    newline();
+    if let Command::Refused(_) = answer {
+        counted(run, true)
+    } else {
+        counted(run, false)
+    }
+}
+
 // The run behind a damaged line.
 fn with_damaged(options: Options, run: Run) -> Run {
     let mut next = run;
@@ -299,6 +313,7 @@ fn run_tested(
         Line::IsOpen => run_is_open(run, line),
         Line::EarliestOpen => run_earliest_open(run, line),
         Line::CheckLog => run_check_log(run, line),
+        Line::Command => run_command(run, line),
         Line::Call(name) => run_call(options, run, name, line, store, window),
     }
 }

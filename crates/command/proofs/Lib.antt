@@ -1,0 +1,3 @@
+pub mod ShellLaws
+pub mod PlaceLaws
+pub mod CommandLaws

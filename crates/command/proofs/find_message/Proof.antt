@@ -1,0 +1,58 @@
+-- `find_message` meets its contract: one part is the message, and lies inside the bytes; any other number of them is told. Assumes nothing.
+use native.Mathlib.Omega.{arith}
+use Rattle.command.specs.Places.{placesOf}
+use Rattle.command.proofs.CommandLaws.{One, one-part, one-message, other-parts}
+use borrow.Author.Needs.{needs}
+use Rattle.command.proofs.find_message.Statement.{statement}
+use Rattle.command.proofs.find_message.Tie as tie
+use Rattle.command.proofs.find_message.Reads as reads
+use Rattle.command.proofs.find_message.Lts as lts
+use Rattle.command.proofs.find_parts.Reads as find-parts-reads
+use Rattle.values.proofs.number.Reads as number-reads
+
+-- there is one part
+abbrev Then : Type 0
+Then = lts.Then1 (find-parts-reads.Asked, find-parts-reads.Learnt, number-reads.Asked, number-reads.Learnt) reads.Pre reads.Post
+
+one : (c : Then) → let p = c .before .before in
+    One (p .before .before .args .s .now) (p .find-parts .result) (placesOf (p .before .before .args .n) (p .before .before .args .s .now))
+one c = one-part _ _ _ (c .before .before .find-parts .ensures) (c .if1 .taken)
+
+find-parts-requires : tie.Need-find-parts-requires
+find-parts-requires c κs = search needs
+
+add-end : tie.Need-add-end
+add-end c = let o = one (c .before) in omega (arith, o .inside)
+
+sub-number : tie.Need-sub-number
+sub-number c = search needs
+
+part-number-start : tie.Need-part-number-start
+part-number-start c = search needs
+
+part-number-end : tie.Need-part-number-end
+part-number-end c = let o = one (c .before) in omega (arith, o .inside)
+
+number-requires : tie.Need-number-requires
+number-requires c κs = search needs
+
+returns : tie.Need-returns
+returns c =
+    let t = c .before .before .before in
+    one-message _ _ _ (t .before .before .find-parts .ensures) (t .if1 .taken) _ (c .number .ensures)
+
+returns-2 : tie.Need-returns-2
+returns-2 c = other-parts _ _ _ (c .before .before .find-parts .ensures) (c .if1 .left)
+
+pub find-message-spec : {M : Type 1} → statement M
+find-message-spec =
+    tie.close
+    (tie.spec
+    find-parts-requires
+    add-end
+    sub-number
+    part-number-start
+    part-number-end
+    number-requires
+    returns
+    returns-2)

@@ -1,0 +1,69 @@
+-- `read_command` meets its contract: the first 3 or 4, then the type or 6, then what stands in the type's field. Assumes nothing.
+use mathlib.Core.Path.{sym, _∙_}
+use mir.Syntax.{w32}
+use mir.Facts.{toZ-ofZ}
+use Rattle.command.proofs.CommandLaws.{command-broken, command-typed, command-untyped}
+use borrow.Author.Needs.{needs}
+use Rattle.command.proofs.read_command.Statement.{statement}
+use Rattle.command.proofs.read_command.Tie as tie
+use Rattle.command.proofs.read_command.Reads as reads
+use Rattle.command.proofs.read_command.Lts as lts
+use Rattle.command.proofs.by_type.Reads as by-type-reads
+use Rattle.command.proofs.check_fields.Reads as check-fields-reads
+use Rattle.values.proofs.int32.Reads as int32-reads
+use Rattle.values.proofs.last_number.Reads as last-number-reads
+
+check-fields-requires : tie.Need-check-fields-requires
+check-fields-requires c κs = search needs
+
+enum-known-x : tie.Need-enum-known-x
+enum-known-x c = search needs
+
+returns : tie.Need-returns
+returns c = command-broken _ _ (sym (c .before .before .before .check-fields .ensures) ∙ c .before .x .given .1)
+
+enum-told : tie.Need-enum-told
+enum-told c = search needs
+
+last-number-requires : tie.Need-last-number-requires
+last-number-requires c κs = search needs
+
+enum-known-v : tie.Need-enum-known-v
+enum-known-v c = search needs
+
+int32-requires : tie.Need-int32-requires
+int32-requires c κs = search needs
+
+by-type-requires : tie.Need-by-type-requires
+by-type-requires c κs = search needs
+
+enum-told-2 : tie.Need-enum-told-2
+enum-told-2 c = search needs
+
+returns-2 : tie.Need-returns-2
+returns-2 c =
+    let t = c .before .before .before .before .before .before in
+    let valid = sym (t .before .before .check-fields .ensures) ∙ t .enum-told .given .1 in
+    let number = sym (c .before .before .before .v .given .1) ∙ c .before .before .before .before .before .last-number .ensures in
+    c .by-type .ensures ∙ command-typed _ valid _ number _ (toZ-ofZ {w = w32} (record { sfits = c .before .int32 .ok }) ∙ c .before .int32 .ensures)
+
+returns-3 : tie.Need-returns-3
+returns-3 c =
+    let valid = sym (c .before .before .before .before .before .check-fields .ensures) ∙ c .before .before .before .enum-told .given .1 in
+    command-untyped _ valid (sym (c .enum-told2 .given .1) ∙ c .before .before .last-number .ensures)
+
+pub read-command-spec : {M : Type 1} → statement M
+read-command-spec =
+    tie.close
+    (tie.spec
+    check-fields-requires
+    enum-known-x
+    returns
+    enum-told
+    last-number-requires
+    enum-known-v
+    int32-requires
+    by-type-requires
+    enum-told-2
+    returns-2
+    returns-3)
