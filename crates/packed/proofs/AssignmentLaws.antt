@@ -2,7 +2,7 @@
 --
 -- In order: the range and the ranges at a place (`range-at`, `ranges-at`), the record and the records there (`segment-at`, `segments-at`),
 -- and how many there are; a row by its first range (`overlaps-found` to `ok-pass`), and a row that rises (`rising-ok`); segments by their
--- first (`ok-good`, `ok-head`, `ok-tail`, `ok-weaken`); what `record_at` reads (`Seen`) and answers (`record-short` to `record-good`), and
+-- first (`ok-good`, `ok-head`, `ok-tail`, `ok-weaken`); what `record_at` reads (`Seen`) and answers (`record-short` to `record-bare`), and
 -- what its answer says (`Got`, `got`); one turn of reading segments (`size-turn`, `cut`, `stale`, `onward`); a walk over a packed
 -- assignment (specs/Rest): `rest-start`, `rest-head`, `rest-next`.
 --
@@ -220,6 +220,14 @@ module _ (s : List ℕ) (at i : ℕ) (r : KeyRange) (n : ℕ) (x : Seen s at i r
           let q : leb (at + (14 + 4 * n)) end ≡ true = le-leb (at + (14 + 4 * n)) end (omega arith) in
           let d : segmentOf (drop at s) .segmentId ≡ i = ap (λ (g : AssignedSegment). g .segmentId) seen-segment in
           simp (q, o, seen-size, d)
+
+    -- without buckets
+    pub record-bare : r .start ≤ r .end → n ≡ 0 → at + 14 ≤ end → Record i 14 ≡ recordRead s at end
+    unfolding okBuckets rangesOf allInOrder anyOverlap
+    record-bare h z k =
+        let e : true ≡ okBuckets (rangesOf n (drop (at + 14) s)) = rw z in
+        let w : 14 ≡ 14 + 4 * n = omega (arith, z) in
+        ap (Record i) w ∙ record-good h true e refl (omega (arith, z, k))
 
 -- ---- what the answer of `record_at` says
 

@@ -164,6 +164,26 @@ pub fn record_at(s: &[u8], at: usize, end: usize) -> RecordRead
     }
 }
 
+// The same, at once where the record has no buckets.
+fn read_record(s: &[u8], at: usize, end: usize) -> RecordRead
+    requires { ⌜ (at ≤ end) × (end ≤ length (now s)) ⌝ }
+    ensures { λ r. ⌜ r ≡ recordRead (now (s .entry)) at end ⌝ }
+{
+    if end - at < 14 {
+        return RecordRead::Malformed;
+    }
+    let id = packed_int::read_u64(s, at);
+    let range = range_at(s, at + 8);
+    let count = packed_int::read_u16(s, at + 12);
+    if count != 0 {
+        return record_at(s, at, end);
+    }
+    if range.end < range.start {
+        return RecordRead::Malformed;
+    }
+    RecordRead::Record(id, 14)
+}
+
 fn least(a: usize, b: usize) -> usize
     ensures { λ r. ⌜ r ≡ min a b ⌝ }
 {
@@ -184,7 +204,7 @@ pub fn read_front(s: &[u8]) -> Packed
     let mut first = true;
     let mut prev: u64 = 0;
     while 0 < left {
-        let RecordRead::Record(id, size) = record_at(s, p, end) else {
+        let RecordRead::Record(id, size) = read_record(s, p, end) else {
             return Packed::Malformed;
         };
         if !first {

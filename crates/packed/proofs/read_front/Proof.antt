@@ -37,8 +37,8 @@ loop-holds c =
     turn-start (m .before .before .args .s .now) (m .least .result) (c .read-u16 .result) (m .least .ensures)
     (c .before .if1 .left) (c .read-u16 .ensures)
 
-record-at-requires : tie.Need-record-at-requires Inv-loop μ-loop
-record-at-requires c κs = search needs
+read-record-requires : tie.Need-read-record-requires Inv-loop μ-loop
+read-record-requires c κs = search needs
 
 enum-known-id : tie.Need-enum-known-id Inv-loop μ-loop
 enum-known-id c = search needs
@@ -55,7 +55,7 @@ returns-2 c =
     front-refused s
     (l .loop .inv .decides
     ∙ cut s (l .loop .p) (l .loop .left) (lowest (l .loop .first) (l .loop .prev)) (m .least .result) (r .before .loop-test .taken)
-    (sym (c .enum-told .given .1) ∙ r .record-at .ensures))
+    (sym (c .enum-told .given .1) ∙ r .read-record .ensures))
 
 -- what the record that was read says
 got-here : (k : tie.After-known-told Inv-loop μ-loop)
@@ -70,7 +70,7 @@ got-here k =
     let m = l .before .before .before in
     let v = k .before .id .given .0 in
     got (m .before .before .args .s .now) (l .loop .p) (m .least .result) (v .0) (v .1 .0)
-    (sym (k .before .id .given .1) ∙ r .record-at .ensures)
+    (sym (k .before .id .given .1) ∙ r .read-record .ensures)
 
 returns-3 : tie.Need-returns-3 Inv-loop μ-loop
 returns-3 c =
@@ -135,7 +135,7 @@ read-front-spec =
     read-u16-requires
     cast-count
     loop-holds
-    record-at-requires
+    read-record-requires
     enum-known-id
     enum-told
     returns-2
