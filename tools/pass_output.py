@@ -1,69 +1,112 @@
-"""What the program station prints of a log, read back: an entry for each call, with what the station held behind it."""
+#!/usr/bin/env python3
+"""Part of tools/pass.py: what the program `station` prints of a log, read back: an entry for each line that is a call, a question or damaged."""
 import re
+import subprocess
+import sys
+import tempfile
 from dataclasses import dataclass, field
+from functools import cache
+from pathlib import Path
 
-SPACE = 65536
+import refusal_table
+import usage
+from pass_log import Fault, lines_of, sent_by, shown, times_of, topic_of
+from pass_spans import Segment, taken
 
-ANSWER = re.compile(r"^(\d+) (\S+) (.*)$")
-HELD = re.compile(r"^  held (?:none|epoch (\d+) segments (\d+))$")
-# the last line: how many calls there were
-TOTAL = re.compile(r"^\d+ calls: ")
-SEGMENT = re.compile(r"^(\d+) ([0-9a-f]{4})-([0-9a-f]{4}) (-|\S+)$")
-
-
-@dataclass(frozen=True)
-class Segment:
-    """A segment of a list: its id, its range, and the buckets of it that are the station's (none: the whole range)."""
-
-    id: int
-    start: int
-    end: int
-    buckets: tuple = ()
-
-    def spans(self):
-        """The values that it takes, as spans of first and last."""
-        return self.buckets or ((self.start, self.end),)
+# the lines that tell what is held behind them
+CALLS = ("open", "update", "response", "drain", "begin", "invalidate")
+ANSWER = re.compile(r"^(\d{1,20}) (\S+) (.*)$")
+HELD = re.compile(r"^  held (?:none|epoch (\d{1,20}) segments (\d{1,5}))$")
+TOTAL = re.compile(r"^\d+ calls: \d+ accepted, \d+ refused; (\d+) damaged lines$")
+SEGMENT = re.compile(r"^(\d{1,20}) ([0-9a-f]{4}-[0-9a-f]{4}) (-|[0-9a-f,-]+)$")
+REFUSED = re.compile(r"^refused (\d{1,3}) (\w+)((?: -?\d{1,20})*)( text \".*\")?$")
+# of refusal 9, the kinds of its source and their numbers, as docs/refusals.txt tells them
+KIND = re.compile(r"(\d): ([^,;()]+), ([^;()]+)")
 
 
 @dataclass
 class Entry:
-    """A call of the log: its line, its name, what was answered, and what was held then (None: no list), which a question does not tell."""
+    """A line of the log: its call, what was answered, and what was held then (None: no list), which a question does not tell."""
 
     line: int
     call: str
     answer: str
     time: float = None
+    topic: str = None
+    # epoch and segments of the message that came, where it can be read
+    sent: tuple = None
     epoch: int = None
     held: tuple = None
     told: bool = False
+    # the session's record, as station prints it
+    state: str = ""
     lost: list = field(default_factory=list)
     gained: list = field(default_factory=list)
 
-    def refusal(self):
-        """The number of the refusal that was answered, or None."""
-        words = self.answer.split()
-        return int(words[1]) if words[0] == "refused" else None
+    def kind(self):
+        """How it is shown: damaged, refused, changed (what is held, or what an uploader was handed), link (which empties the list), or plain."""
+        if self.call == "damaged":
+            return "damaged"
+        if self.answer.startswith("refused "):
+            return "refused"
+        if self.answer == "accepted":
+            return "changed" if self.call == "response" else "link"
+        return "changed" if self.answer.startswith(("delta ", "replay ")) else "plain"
+
+    def baseline(self):
+        """Epoch and segments of the baseline that an accepted response gave."""
+        return self.sent if self.call == "response" and self.answer == "accepted" else None
 
     def spans(self):
-        """The values that were held, as sorted spans that share none."""
-        return merged(span for segment in self.held or () for span in segment.spans())
+        """The values that were held."""
+        return taken(self.held)
 
 
-def merged(spans):
-    """Spans of first and last, sorted and joined where they touch."""
-    row = []
-    for first, last in sorted(spans):
-        if row and first <= row[-1][1] + 1:
-            row[-1][1] = max(row[-1][1], last)
-        else:
-            row.append([first, last])
-    return [tuple(span) for span in row]
+@dataclass
+class Log:
+    """A log that was run: its name, its lines (none where only the output is at hand), and its entries."""
+
+    name: str
+    lines: list
+    entries: list
+
+    def timed(self):
+        return any(entry.time is not None for entry in self.entries)
+
+    def damaged(self):
+        return [entry.line for entry in self.entries if entry.call == "damaged"]
 
 
-def shared(a, b):
-    """The values that two rows of spans have in common."""
-    both = [(max(x[0], y[0]), min(x[1], y[1])) for x in a for y in b]
-    return merged((first, last) for first, last in both if first <= last)
+@cache
+def table():
+    text = (usage.ROOT / refusal_table.REFUSALS).read_text(encoding="utf-8")
+    refusals = refusal_table.read_refusals(text)
+    kinds = {number: (kind, names.split(" and ")) for refusal in refusals for number, kind, names in KIND.findall(refusal.attached)}
+    return {(refusal.number, refusal.name): refusal for refusal in refusals}, kinds
+
+
+def named(names, numbers):
+    """The attached numbers by their names. A source is a kind and the kind's own numbers."""
+    found, kinds = {}, table()[1]
+    for name in names:
+        if name == "source" and numbers:
+            found["kind"], names_of_kind = kinds.get(numbers[0], (numbers[0], []))
+            return found | dict(zip(names_of_kind, map(int, numbers[1:])))
+        if numbers:
+            found[name.replace("_", " ")], numbers = int(numbers[0]), numbers[1:]
+    return found
+
+
+def refusal_of(answer):
+    """A refusal that was answered, as data: its number and name, its attached numbers by their names, what it is and what to do; or None."""
+    m = REFUSED.match(answer)
+    if not m:
+        return None
+    refusal = table()[0].get((int(m[1]), m[2]))
+    found = {"number": int(m[1]), "name": m[2], "attached": named(refusal.values if refusal else (), m[3].split())}
+    if m[4]:
+        found["text"] = m[4][7:-1]
+    return found | ({"is": refusal.sentence, "do": refusal.do} if refusal else {})
 
 
 def span_of(text):
@@ -74,10 +117,10 @@ def span_of(text):
 def segment_of(text):
     """A segment as station prints it, or None."""
     m = SEGMENT.match(text)
-    if not m:
+    try:
+        return m and Segment(int(m[1]), *span_of(m[2]), () if m[3] == "-" else tuple(map(span_of, m[3].split(","))))
+    except ValueError:
         return None
-    buckets = () if m[4] == "-" else tuple(span_of(b) for b in m[4].split(","))
-    return Segment(int(m[1]), int(m[2], 16), int(m[3], 16), buckets)
 
 
 def read_detail(entry, line):
@@ -88,37 +131,99 @@ def read_detail(entry, line):
         entry.told = True
     elif line.startswith("    ") and entry.held is not None and (segment := segment_of(line[4:])):
         entry.held += (segment,)
-    elif line.startswith("  lost "):
-        entry.lost += [int(word) for word in line.split()[1:]]
+    elif line.startswith("  state "):
+        entry.state = line[8:]
+    elif m := re.match(r"  lost (\d{1,20})$", line):
+        entry.lost.append(int(m[1]))
     elif line.startswith("  gained ") and (segment := segment_of(line[9:])):
         entry.gained.append(segment)
 
 
-def carry(entries):
-    """Questions and damaged lines change nothing: what was held before them is held behind them."""
-    for before, entry in zip(entries, entries[1:]):
-        if not entry.told:
-            entry.epoch, entry.held = before.epoch, before.held
+def carry(before, entry):
+    """Questions and damaged lines change nothing: what was held before them is held behind them. Equal lists are kept once."""
+    if before and (not entry.told or (entry.epoch, entry.held) == (before.epoch, before.held)):
+        entry.epoch, entry.held = before.epoch, before.held
+
+
+def entry_of(name, line):
+    """The entry that a line of the output begins."""
+    m = ANSWER.match(line)
+    if not m:
+        raise Fault(f"{name}: not what station prints: {ascii(line[:60])}")
+    return Entry(int(m[1]), m[2].rstrip(":"), m[3])
+
+
+def whole_entries(name, lines):
+    """The entries of an output, each with the lines behind it; the counts come last."""
+    entry, total = None, None
+    for line in lines:
+        if total:
+            raise Fault(f"{name}: something stands behind the counts")
+        if entry and line.startswith(" "):
+            read_detail(entry, line)
+            continue
+        if entry:
+            yield entry
+        total = TOTAL.match(line)
+        entry = None if total else entry_of(name, line)
+    if not total:
+        raise Fault(f"{name}: the counts at the end are missing: no whole output of station")
+
+
+def read_output(name, lines):
+    """The entries of an output that was made with --lists and --state."""
+    entries = []
+    for entry in whole_entries(name, lines):
+        if entry.call in CALLS and not entry.told:
+            raise Fault(f"{name}: line {entry.line} does not tell what is held: it was made without --lists")
+        carry(entries[-1] if entries else None, entry)
+        entries.append(entry)
     return entries
 
 
-def read_output(text):
-    """The entries of an output that was made with --lists and --state."""
-    entries = []
-    for line in text.splitlines():
-        if line.startswith(" "):
-            if entries:
-                read_detail(entries[-1], line)
-        elif not TOTAL.match(line) and (m := ANSWER.match(line)):
-            entries.append(Entry(int(m[1]), m[2].rstrip(":"), m[3]))
-    return carry(entries)
+def run_station(name, lines, station):
+    """The entries of a log, as the program station answers it."""
+    with tempfile.TemporaryFile() as given:
+        given.write(b"".join(line + b"\n" for line in lines))
+        given.seek(0)
+        try:
+            child = subprocess.Popen([station, "--lists", "--state"], stdin=given, stdout=subprocess.PIPE)
+        except OSError as error:
+            raise Fault(f"{station}: {error.strerror}; ./run makes it, --station names another") from None
+        with child:
+            entries = read_output(name, (line.decode("ascii", "backslashreplace").removesuffix("\n") for line in child.stdout))
+    if child.returncode:
+        raise Fault(f"{station} ended with status {child.returncode}")
+    return entries
 
 
-def times_of(log):
-    """The time at each line of a log: that of the last comment '# at SECONDS' before it, or None."""
-    times, now = {}, None
-    for number, line in enumerate(log.splitlines(), 1):
-        if m := re.match(r"#\s*at\s+(\d+(?:\.\d+)?)\s*$", line):
-            now = float(m[1])
-        times[number] = now
-    return times
+def joined(name, lines, entries):
+    """The entries with what the log's own lines tell: time, topic and message."""
+    times, topic = times_of(name, lines), None
+    for entry in entries:
+        if entry.line > len(lines):
+            raise Fault(f"{name}: the output has line {entry.line}, the log has {len(lines)}")
+        line = lines[entry.line - 1]
+        if entry.call == "open" and entry.answer == "accepted":
+            topic = topic_of(line)
+        entry.time, entry.topic, entry.sent = times[entry.line], topic, sent_by(line)
+    return entries
+
+
+def log_of(path, station):
+    """A log of that path ('-': standard input), run."""
+    name = "standard input" if path == "-" else shown(path)
+    lines = lines_of(sys.stdin.buffer.read() if path == "-" else Path(path).read_bytes())
+    return Log(name, lines, joined(name, lines, run_station(name, lines, station)))
+
+
+def recorded(path, log=None):
+    """An output of station in a file, with its log where that is at hand."""
+    name, lines = shown(log or path), lines_of(Path(log).read_bytes()) if log else []
+    told = Path(path).read_bytes().decode("ascii", "backslashreplace").split("\n")
+    entries = read_output(shown(path), told[:-1] if told[-1] == "" else told)
+    return Log(name, lines, joined(name, lines, entries) if log else entries)
+
+
+if __name__ == "__main__":
+    usage.help_only(__doc__)

@@ -25,6 +25,11 @@ def say(text):
     print("release: " + text, flush=True)
 
 
+def step(text):
+    """What is being done now, on standard error: packing takes some seconds."""
+    print("release: " + text, file=sys.stderr, flush=True)
+
+
 def time_of(root):
     """The time of every file in it: of the last commit, or as SOURCE_DATE_EPOCH says."""
     when = os.environ.get("SOURCE_DATE_EPOCH") or tree.said(["git", "log", "-1", "--format=%ct"], root)
@@ -75,7 +80,9 @@ def release(root, prefix, dist):
     with tempfile.TemporaryDirectory() as made:
         folder = Path(made) / name
         folder.mkdir()
+        step("makes the tree")
         tree.make(root, folder, numbers, say)
+        step("installs it" if prefix else "packs it")
         if prefix:
             install(folder, prefix)
             say(f"installed to {prefix}")

@@ -47,6 +47,12 @@ def say(text):
     print("release_test: " + text, flush=True)
 
 
+def step(command):
+    """On a terminal, what is being done now, on standard error."""
+    if sys.stderr.isatty():
+        print("release_test: " + " ".join(map(str, command))[:120], file=sys.stderr, flush=True)
+
+
 def demand(holds, what):
     if not holds:
         raise Wrong(what)
@@ -60,6 +66,7 @@ def need(*names):
 
 def run(command, folder, env=None):
     """What a command writes to its output; it has to end well."""
+    step(command)
     done = subprocess.run([str(word) for word in command], cwd=folder, env=env, capture_output=True, text=True, timeout=300)
     demand(done.returncode == 0, f"{' '.join(map(str, command))}: exit {done.returncode}\n{done.stdout}{done.stderr}")
     return done.stdout

@@ -2,8 +2,7 @@
 //!
 //! compare [SEED] [SECONDS]: all parts, sharing the time. compare --self-test: whether a wrong bit in an answer would be noticed. compare --record FOLDER [SEED]: a sample of
 //! the Rust's answers.
-use std::io::{IsTerminal as _, Write as _};
-use std::time::{Duration, Instant};
+use std::time::Duration;
 
 include!(concat!(env!("OUT_DIR"), "/sources.rs"));
 
@@ -27,6 +26,7 @@ mod oracle;
 mod ours;
 mod output;
 mod parts;
+mod progress;
 mod record;
 mod relay;
 mod reply;
@@ -44,6 +44,7 @@ mod watch;
 mod windows;
 
 use parts::Parts;
+use progress::Progress;
 use tally::Tally;
 
 /// Seed and seconds where none are given.
@@ -66,22 +67,14 @@ fn main() {
 
 /// Runs for that long; 0 where nothing differs and every answer was seen.
 fn compare(seed: u64, seconds: u64) -> i32 {
-    let start = Instant::now();
+    let mut progress = Progress::new();
     let mut tally = Tally::new();
-    parts::directed(&mut tally, seed);
+    parts::directed(&mut tally, seed, &mut progress);
     let mut parts = Parts::new(&mut tally, seed);
-    let terminal = std::io::stderr().is_terminal();
-    let mut shown = Instant::now();
-    while start.elapsed() < Duration::from_secs(seconds) && parts.step(&mut tally) {
-        if terminal && shown.elapsed() > Duration::from_millis(500) {
-            shown = Instant::now();
-            eprint!("\r{} s, {} calls, {} differences ", start.elapsed().as_secs(), tally.calls, tally.differences);
-            let _ = std::io::stderr().flush();
-        }
+    while progress.elapsed() < Duration::from_secs(seconds) && parts.step(&mut tally) {
+        progress.tell(|| format!("of {seconds}: {}", tally.so_far()));
     }
-    if terminal {
-        eprintln!();
-    }
+    progress.end();
     tally.print();
     parts.print();
     let unseen = tally.unseen();

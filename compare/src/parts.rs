@@ -8,6 +8,7 @@ use crate::hours::{self, Hours};
 use crate::keys::{self, Keys};
 use crate::lists::{self, Lists};
 use crate::names::Names;
+use crate::progress::Progress;
 use crate::session::damaged::Damaged;
 use crate::session::walk::{Size, Walk};
 use crate::session::{directed as rows, limits, orders};
@@ -36,10 +37,11 @@ pub const DIRECTED: &[(&str, fn(&mut Tally, u64))] = &[
 ];
 
 /// All that is written down.
-pub fn directed(tally: &mut Tally, seed: u64) {
+pub fn directed(tally: &mut Tally, seed: u64, progress: &mut Progress) {
     for (name, run) in DIRECTED {
         tally.place = (*name).into();
         run(tally, seed);
+        progress.tell(|| format!("what is written down: {}", tally.so_far()));
     }
 }
 

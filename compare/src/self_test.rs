@@ -1,6 +1,7 @@
 //! Whether the comparison notices a wrong bit: for each call and each place of what it gives, in every part of a run, by each judge alone.
 use crate::model::session::{LIST, SLOT};
 use crate::parts::{ATTACH_LOGS, CHARGES, CHURN, COMMANDS, DIRECTED, EITHER_ORDER, HOURS, KEYS, LISTS, NAMES, ORDERS, Parts, SMALL_STORES, WATCH};
+use crate::progress::Progress;
 use crate::spoil::{FIELDS, Judge, Place, arm, armed, disarm, forget, leave_to, was_made};
 use crate::tally::{Call, Stopped, Tally, reach};
 use std::panic::{AssertUnwindSafe, catch_unwind, resume_unwind};
@@ -145,6 +146,7 @@ struct Score {
 }
 
 struct Test {
+    progress: Progress,
     tally: Tally,
     parts: Parts,
     noticed: usize,
@@ -156,7 +158,7 @@ impl Test {
         let mut tally = Tally::new();
         tally.quiet = true;
         let parts = Parts::new(&mut tally, 1);
-        Self { tally, parts, noticed: 0, wrong: false }
+        Self { progress: Progress::new(), tally, parts, noticed: 0, wrong: false }
     }
 
     fn fail(&mut self, what: &str) {
@@ -168,6 +170,7 @@ impl Test {
         score.tried += 1;
         score.noticed += usize::from(noticed);
         self.noticed += usize::from(noticed);
+        self.progress.tell(|| format!("self-test: {} wrong bits noticed in {} calls", self.noticed, self.tally.calls));
         if !noticed {
             self.fail(&format!("not noticed {}", what()));
         }
@@ -294,6 +297,7 @@ pub fn run() -> i32 {
     let directed = test.directed();
     let rust = test.alone(Judge::Rust, home, places_of_the_rust, Call::is_of_the_rust);
     let order = test.alone(Judge::Order, |_| ORDERS, places_of_the_order, |call| matches!(call, Call::Update | Call::Response));
+    test.progress.end();
     let (untold, lacking) = Tally::untold();
     for what in &untold {
         test.fail(&format!("a run without it would pass: {what}"));

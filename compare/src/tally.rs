@@ -188,6 +188,11 @@ pub struct Tally {
 }
 
 impl Tally {
+    /// What a run has come to, in words.
+    pub fn so_far(&self) -> String {
+        format!("{} calls, {} differences", self.calls, self.differences)
+    }
+
     pub fn new() -> Self {
         Self {
             counts: vec![[Count::default(); COLUMNS]; REACH.len()],
