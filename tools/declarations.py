@@ -1,5 +1,6 @@
 #!/usr/bin/env python3
-"""Part of tools/refusals.py: the exported calls, structs and answers as Rattle, C and Rust declare them, in one form: types by Rust's names, a slice as pointer and length."""
+"""Part of tools/refusals.py: the exported calls, structs and answers as Rattle, C and Rust declare them, in one form: types by Rust's names, a slice as pointer and length.
+In C a pointer to what a call may write is CUDDREWYN_RESTRICT."""
 import re
 
 import usage
@@ -9,8 +10,8 @@ CRATE = "crates/export/src/"
 HEADER, RAW, EXPORTS = "bindings/c/cuddrewyn.h", "bindings/rust/src/raw.rs", "docs/EXPORTS.md"
 OF_C = {
     "uint64_t": "u64", "uint32_t": "u32", "int32_t": "i32", "uint8_t": "u8", "size_t": "usize", "bool": "bool", "const uint8_t *": "*const u8",
-    "uint8_t *": "*mut u8", "cuddrewyn_record *": "*mut Record", "cuddrewyn_record": "Record", "cuddrewyn_reply": "Reply",
-    "cuddrewyn_session_reply": "SessionReply", "cuddrewyn_part": "Part",
+    "uint8_t *CUDDREWYN_RESTRICT": "*mut u8", "cuddrewyn_record *CUDDREWYN_RESTRICT": "*mut Record", "cuddrewyn_record": "Record",
+    "cuddrewyn_reply": "Reply", "cuddrewyn_session_reply": "SessionReply", "cuddrewyn_part": "Part",
 }
 FN = re.compile(r'#\[no_mangle\]\s+pub extern "C" fn (\w+)\(([^)]*)\)\s*->\s*(\w+)')
 EXTERN = re.compile(r'(?:#\[link_name = "(\w+)"\]\s+)?pub fn (\w+)\(([^)]*)\)\s*->\s*(\w+);')
@@ -99,7 +100,7 @@ def raw_structs(sources):
 def answers(sources):
     """The answers and their numbers, as each place has them."""
     of_rust = re.compile(r"^pub const (\w+): u8 = (\d+);$", re.M)
-    first_enum = re.search(r"^enum \{\n(.*?)^\};", plain_c(sources[HEADER]), re.M | re.S)
+    first_enum = re.search(r"^enum cuddrewyn_answer \{\n(.*?)^\};", plain_c(sources[HEADER]), re.M | re.S)
     rows = re.findall(r"^\| (\d+) \| `([A-Z]+)` \|", sources[EXPORTS], re.M)
     return {
         REPLY: of_rust.findall(sources[REPLY]),

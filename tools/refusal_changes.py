@@ -11,10 +11,10 @@ from refusal_table import CALLS, REFUSALS
 OTHERS = {
     "u64": "u32", "u32": "u64", "i32": "u32", "usize": "u64", "u8": "u16", "bool": "u8", "&[u8]": "&mut [u8]", "&mut [u8]": "&[u8]",
     "*const u8": "*mut u8", "*mut u8": "*const u8", "uint64_t": "uint32_t", "uint32_t": "uint64_t", "size_t": "uint64_t", "int32_t": "uint32_t",
-    "const uint8_t *": "uint8_t *", "uint8_t *": "const uint8_t *", "ours": "of the Rust", "of the Rust": "ours",
+    "const uint8_t *": "uint8_t *", "uint8_t *": "const uint8_t *", " *CUDDREWYN_RESTRICT": " *", "ours": "of the Rust", "of the Rust": "ours",
 }
 OF_RATTLE = r"(u64|u32|i32|usize|&\[u8\]|&mut \[u8\])"
-OF_C = r"(const uint8_t \*|uint8_t \*|uint\d+_t|int32_t|size_t|cuddrewyn_record)"
+OF_C = r"(const uint8_t \*|uint8_t \*|uint\d+_t|int32_t|size_t|cuddrewyn_record)(?=(?: \*| )?(?:CUDDREWYN_RESTRICT )?\w+(?:,|\);))"
 OF_RUST = r"(u64|u32|i32|usize|\*const u8|\*mut u8|Record)"
 SESSION, TOPICS = checks.OURS
 
@@ -51,7 +51,10 @@ WORDS = [
     (HEADER, r"CUDDREWYN_\w+ = (\d+)"),
     (HEADER, r"(CUDDREWYN_\w+) = "),
     (HEADER, r"[Rr]efuses (\d+)"),
-    (HEADER, r"[(,]\s*" + OF_C + r"(?= ?\w+[,)])"),
+    (HEADER, r"[(,]\s*" + OF_C),
+    (HEADER, r"[(,]\s*\w+( \*CUDDREWYN_RESTRICT) \w+[,)]"),
+    (HEADER, r"case (CUDDREWYN_\w+): return"),
+    (HEADER, r'return "([A-Z]\w+)";'),
     (HEADER, r"^(\w+) cuddrewyn_\w+\("),
     (HEADER, r"^\w+ (cuddrewyn_\w+)\("),
     (HEADER, r"^    (\w+) \w+(?:\[\w+\])?;$"),

@@ -30,6 +30,11 @@ def header_lines(table):
         yield f"    {constant(refusals[0].name)} = {number},"
 
 
+def name_lines(table):
+    """A refusal's name by its number, in C; the first one's where two refusals have it."""
+    return (f'    case {constant(refusals[0].name)}: return "{refusals[0].name}";' for refusals in table.by_number.values())
+
+
 def attached_lines(table):
     """A row for each text, with all the numbers that have it."""
     rows = {}
@@ -80,6 +85,13 @@ def part(name, lines):
     return write
 
 
+def write_answers(table, text):
+    """The header's names of answers, from its own enum."""
+    enum = re.search(r"^enum cuddrewyn_answer \{\n(.*?)^\};", text, re.M | re.S)
+    names = re.findall(r"CUDDREWYN_(\w+) = \d+", enum[1] if enum else "")
+    return part("answer names", lambda _: (f'    case CUDDREWYN_{name}: return "{name}";' for name in names))(table, text)
+
+
 def write_orders(table, text):
     """The last cell of each call's row. Where a row has several calls, their orders are one."""
     orders = {f"`{call.name}`": order_text(call.order) for call in table.calls}
@@ -111,6 +123,8 @@ def write_names(table, text):
 
 WRITES = [
     (HEADER, part("refusals", header_lines)),
+    (HEADER, part("refusal names", name_lines)),
+    (HEADER, write_answers),
     (EXPORTS, part("attached", attached_lines)),
     (EXPORTS, write_orders),
     (OPERATOR, part("refusals", operator_lines)),

@@ -5,7 +5,7 @@
 
 tree    the files, their sums, the calls that the shared library shows; the same bytes when made again; installed below a prefix; what is not
         proved is refused, and so is a version that differs; station replays the recorded sessions
-c       bindings/release/session.c by pkg-config, with the archive and with the shared library
+c       bindings/release/session.c by pkg-config, with the archive and with the shared library; the fuzz target with its own driver
 cmake   the same by find_package
 rust    bindings/release/session.rs with the crate by its path; the crate packed by cargo
 
@@ -29,6 +29,8 @@ import release_version as version
 ROOT = version.ROOT
 PROGRAMS = ROOT / "bindings/release"
 CC = os.environ.get("CC", "cc")
+# How many scripts the fuzz target runs.
+FUZZ = 5000
 # What a setting of this machine could hand to a build besides the release.
 SETTINGS = ("CUDDREWYN_", "PKG_CONFIG", "CMAKE_", "CARGO_TARGET_DIR", "CARGO_BUILD_", "LD_LIBRARY_PATH", "LIBRARY_PATH", "CPATH", "RUSTFLAGS",
             "CFLAGS", "LDFLAGS")
@@ -209,11 +211,13 @@ def test_c(place):
     given = place.run(["pkg-config", "--modversion", "cuddrewyn"], **ask).strip()
     demand(given == place.numbers["version"], f"pkg-config says version {given}")
     flags, libraries = (place.run(["pkg-config", word, "cuddrewyn"], **ask).split() for word in ("--cflags", "--libs"))
-    compile = [CC, "-std=c11", "-Wall", "-Wextra", "-Werror", "-pedantic", *flags, PROGRAMS / "session.c"]
-    place.run([*compile, *libraries, "-o", "by_shared"])
+    compile, static = [CC, "-std=c11", "-Wall", "-Wextra", "-Werror", "-pedantic", *flags], ["-Wl,-Bstatic", *libraries, "-Wl,-Bdynamic"]
+    place.run([*compile, PROGRAMS / "session.c", *libraries, "-o", "by_shared"])
     place.check(place.work / "by_shared", "shared", LD_LIBRARY_PATH=place.release / "lib")
-    place.run([*compile, "-Wl,-Bstatic", *libraries, "-Wl,-Bdynamic", "-o", "by_static"])
+    place.run([*compile, PROGRAMS / "session.c", *static, "-o", "by_static"])
     place.check(place.work / "by_static", "static")
+    place.run([*compile, "-O1", place.release / "fuzz/fuzz.c", place.release / "fuzz/fuzz_main.c", *static, "-o", "fuzz"])
+    place.run([place.work / "fuzz", FUZZ])
 
 
 def test_cmake(place):

@@ -12,7 +12,9 @@ import verdicts
 
 ROOT = release_version.ROOT
 ARCHIVE, STATION, LOG, GATE = "target/staticlib/libexport.a", "target/bin/station", "target/archive.log", "target/gate.log"
-COPIES = {"lib/libcuddrewyn.a": ARCHIVE, "bin/station": STATION, "include/cuddrewyn.h": release_version.HEADER}
+COPIES = {"lib/libcuddrewyn.a": ARCHIVE, "bin/station": STATION, "include/cuddrewyn.h": release_version.HEADER,
+          "include/cuddrewyn_read.h": "bindings/c/cuddrewyn_read.h",
+          **{f"fuzz/{name}": f"bindings/c/{name}" for name in ("fuzz.c", "fuzz_main.c", "messages.h")}}
 DOCUMENTS = ["LICENSE", "NOTICE", "README.md", "CHANGELOG.md", "docs/EXPORTS.md", "docs/RELEASE.md", "docs/TRUST.md", "docs/refusals.txt"]
 # Copied where the repository has them.
 MORE = ["docs/REFUSALS.md"]
@@ -100,7 +102,7 @@ def write(target, text):
 
 
 def copy_files(root, folder):
-    """The archive, the program, the header, the documents."""
+    """The archive, the program, the headers, the fuzz target, the documents."""
     for name, source in COPIES.items():
         copy(root / source, folder / name, 0o755 if name.startswith("bin/") else 0o644)
     for name in DOCUMENTS + [name for name in MORE if (root / name).is_file()]:

@@ -23,7 +23,8 @@ static cuddrewyn_record r;
 
 /* Prints the answer of a call, and checks reply and record. */
 static void answered(const char *call, cuddrewyn_reply got, cuddrewyn_reply reply, cuddrewyn_record record) {
-    printf("%-10s answer %d, number %d, floor %" PRIu64 ", queued %zu\n", call, got.answer, got.number, r.epoch_floor, r.queue_count);
+    printf("%-10s %s, refusal %s, floor %" PRIu64 ", queued %zu\n", call, cuddrewyn_answer_name(got.answer),
+           cuddrewyn_refusal_name(got.number), r.epoch_floor, r.queue_count);
     check_reply(got, reply);
     check_record(r, record);
 }

@@ -8,7 +8,7 @@
 
 /* A message, or a part of one, that is being written. */
 typedef struct {
-    uint8_t bytes[512];
+    uint8_t bytes[4096];
     size_t length;
 } message;
 

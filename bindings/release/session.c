@@ -1,5 +1,5 @@
 /* A short session with an unpacked release: open, the response, a push that gives a delta. session.rs prints the same. */
-#include <cuddrewyn.h>
+#include <cuddrewyn_read.h>
 #include <inttypes.h>
 #include <stdio.h>
 #include <string.h>
@@ -13,23 +13,20 @@
 
 static uint8_t store[CUDDREWYN_MIN_STORE], out[CUDDREWYN_MIN_OUTPUT];
 
-/* A packed number, most significant byte first. */
-static uint64_t number(const uint8_t *bytes, size_t length) {
-    uint64_t value = 0;
-    for (size_t i = 0; i < length; i++) {
-        value = value << 8 | bytes[i];
+/* Prints a delta; false where it is none. */
+static bool show(const uint8_t *bytes, size_t length) {
+    uint8_t name[CUDDREWYN_SEGMENT_TOPIC_ROOM(sizeof TOPIC - 1)];
+    cuddrewyn_delta delta;
+    cuddrewyn_segment segment;
+    if (!cuddrewyn_read_delta(bytes, length, &delta)) {
+        return false;
     }
-    return value;
-}
-
-/* Prints a delta that loses nothing and gains one segment. */
-static void show(const uint8_t *delta) {
-    uint8_t name[64];
-    const uint8_t *gained = delta + 12;
-    cuddrewyn_reply named = cuddrewyn_segment_topic(BYTES(TOPIC), (uint32_t)number(gained + 8, 2), (uint32_t)number(gained + 10, 2),
-                                                    number(gained, 8), name, sizeof name);
-    printf("update: epoch %" PRIu64 ", %" PRIu64 " lost, %" PRIu64 " gained\n", number(delta, 8), number(delta + 8, 2), number(delta + 10, 2));
-    printf("  attach %.*s\n", (int)named.first, (const char *)name);
+    printf("update: epoch %" PRIu64 ", %zu lost, %zu gained\n", delta.epoch, delta.lost.count, delta.gained.count);
+    while (cuddrewyn_next_segment(&delta.gained, &segment)) {
+        cuddrewyn_reply named = cuddrewyn_segment_topic(BYTES(TOPIC), segment.start, segment.end, segment.id, name, sizeof name);
+        printf("  attach %.*s\n", (int)named.first, (const char *)name);
+    }
+    return true;
 }
 
 int main(void) {
@@ -44,14 +41,14 @@ int main(void) {
         printf("open: accepted\n");
         got = cuddrewyn_response(&r, store, sizeof store, BYTES(RESPONSE), 1);
     }
-    if (got.answer == CUDDREWYN_ACCEPTED) {
-        printf("response: a list at epoch %" PRIu64 "\n", number(store + CUDDREWYN_BASELINE, 8));
+    cuddrewyn_list list;
+    if (got.answer == CUDDREWYN_ACCEPTED && cuddrewyn_read_list(store + CUDDREWYN_BASELINE, CUDDREWYN_SLOT, &list)) {
+        printf("response: a list at epoch %" PRIu64 "\n", list.epoch);
         got = cuddrewyn_update(&r, store, sizeof store, BYTES(PUSH), 1, out, sizeof out);
     }
     if (got.answer != CUDDREWYN_DELTA) {
-        printf("refused with %d\n", got.number);
+        printf("%s: %s\n", cuddrewyn_answer_name(got.answer), cuddrewyn_refusal_name(got.number));
         return 1;
     }
-    show(out);
-    return 0;
+    return show(out, (size_t)got.first) ? 0 : 1;
 }
