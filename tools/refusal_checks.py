@@ -105,7 +105,7 @@ def fields_of(variant):
 def check_variants(table, sources, error):
     """An enum of the Rust crate has a variant for each number that it tells, with the table's name and fields."""
     path = ENUMS[error]
-    body = re.search(rf"^pub enum {error}\b[^\n]*\n(.*?)^\}}", sources[path], re.M | re.S)
+    body = re.search(rf"^pub enum {error}(?:With)?\b[^\n]*\n(.*?)^\}}", sources[path], re.M | re.S)
     found = {int(n): (name, fields_of(fields)) for n, name, *fields in (m.groups() for m in RUST_VARIANT.finditer(body[1] if body else ""))}
     wanted = sorted(number for number in table.told_by(error) if (error, number) not in NO_STR)
     faults = differences(path, sorted(found), wanted)
@@ -121,7 +121,7 @@ def check_variants(table, sources, error):
 def check_told(table, sources, error, names):
     """Both ways between variants and numbers, in the functions of an enum of the Rust crate. An arm may hand numbers on to another function."""
     path, arms, sent = ENUMS[error], [], {}
-    block = re.search(rf"^impl(?:<'m>)? {error}(?:<'m>)? \{{\n(.*?)^\}}", sources[path], re.M | re.S)
+    block = re.search(rf"^impl(?:<M>)? {error}(?:With<M>)? \{{\n(.*?)^\}}", sources[path], re.M | re.S)
     functions = {m[1]: m[0] for m in FN.finditer(block[1] if block else "")}
     told = sorted((int(number), name) for name, number in TELLS.findall(functions.pop("number", "")))
     faults = differences(path, told, sorted(pair for pair in names.items() if WRAPPED.get((error, pair[0])) != pair[1]))

@@ -9,6 +9,7 @@ import usage
 from refusal_table import Fault, numbers_text, order_text
 
 ERROR, WATCH = "bindings/rust/src/error.rs", "bindings/rust/src/watch.rs"
+OWNED = "bindings/rust/src/owned/error.rs"
 HEADER, EXPORTS, OPERATOR = "bindings/c/cuddrewyn.h", "docs/EXPORTS.md", "docs/REFUSALS.md"
 TALLY, CALL_TEXT = "compare/src/tally.rs", "crates/call_text/src/refusals.rt"
 NAMES = re.compile(r'(lines::word\(\s*b")([^"]*)(",\s*number,)')
@@ -66,6 +67,10 @@ def number_lines(error):
 
 def reply_lines(error):
     return lambda table: (f"            {r.number} => Self::{r.name}," for r in bare(table, error))
+
+
+def owned_lines(error):
+    return lambda table: (f"            Self::{r.name} => {error}::{r.name}," for r in bare(table, error))
 
 
 def text_lines(table):
@@ -135,6 +140,8 @@ WRITES = [
     (WATCH, part("variants of TopicsWatchError", variant_lines("TopicsWatchError"))),
     (WATCH, part("numbers of TopicsWatchError", number_lines("TopicsWatchError"))),
     (WATCH, part("replies of TopicsWatchError", reply_lines("TopicsWatchError"))),
+    (OWNED, part("owned AssignmentError", owned_lines("AssignmentError"))),
+    (OWNED, part("owned TopicsWatchError", owned_lines("TopicsWatchError"))),
     (TALLY, write_reach),
     (CALL_TEXT, write_names),
 ]

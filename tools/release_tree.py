@@ -15,7 +15,7 @@ ARCHIVE, STATION, LOG, GATE = "target/staticlib/libexport.a", "target/bin/statio
 COPIES = {"lib/libcuddrewyn.a": ARCHIVE, "bin/station": STATION, "include/cuddrewyn.h": release_version.HEADER,
           "include/cuddrewyn_read.h": "bindings/c/cuddrewyn_read.h",
           **{f"fuzz/{name}": f"bindings/c/{name}" for name in ("fuzz.c", "fuzz_main.c", "messages.h")}}
-DOCUMENTS = ["LICENSE", "NOTICE", "README.md", "CHANGELOG.md", "docs/EXPORTS.md", "docs/RELEASE.md", "docs/TRUST.md", "docs/refusals.txt"]
+DOCUMENTS = ["LICENSE", "NOTICE", "README.md", "CHANGELOG.md", "docs/EXPORTS.md", "docs/PORTING.md", "docs/RELEASE.md", "docs/TRUST.md", "docs/refusals.txt"]
 # Copied where the repository has them.
 MORE = ["docs/REFUSALS.md"]
 CRATE, CRATE_PARTS = "rust/cuddrewyn", ["Cargo.toml", "build.rs", "README.md", "src/**/*.rs", "tests/**/*.rs", "examples/*"]

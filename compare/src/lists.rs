@@ -335,7 +335,8 @@ fn parents(tally: &mut Tally, output: &mut Output) {
 /// A bucket at and just beyond each end of its segment's range, in the first segment, the second or both, for parents of every kind: 34 of the
 /// first by id and stored order comes before 7 and 12.
 fn buckets_outside(tally: &mut Tally, output: &mut Output) {
-    let rows: [&[(u16, u16)]; 8] = [&[], &[(10, 20)], &[(10, 10), (20, 20)], &[(9, 9)], &[(12, 13), (20, 21)], &[(10, 11), (0, 9)], &[(21, 21), (0, 0)], &[(0, 65_535)]];
+    let rows: [&[(u16, u16)]; 8] =
+        [&[], &[(10, 20)], &[(10, 10), (20, 20)], &[(9, 9)], &[(12, 13), (20, 21)], &[(10, 11), (0, 9)], &[(21, 21), (0, 0)], &[(0, 65_535)]];
     for (first, second) in rows.iter().flat_map(|first| rows.map(|second| (first, second))) {
         let segment = |id, buckets: &[(u16, u16)]| Segment { id, start: 10, end: 20, buckets: buckets.to_vec() };
         let sheet = Sheet { epoch: 1, segments: vec![segment(3, first), segment(u64::MAX, second)] }.packed();

@@ -8,6 +8,7 @@ include!(concat!(env!("OUT_DIR"), "/sources.rs"));
 
 #[path = "../../bindings/rust/src/raw.rs"]
 #[allow(dead_code)]
+#[rustfmt::skip]
 mod raw;
 
 mod attach_logs;
@@ -15,6 +16,7 @@ mod charges;
 mod churns;
 mod commands;
 mod either_order;
+mod from_number;
 mod generate;
 mod hours;
 mod keys;

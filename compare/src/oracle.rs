@@ -9,20 +9,6 @@ use crate::reply::{refused, word};
 use crate::scalable_consumer::{AssignedSegment, AssignmentDelta, AssignmentError, ConsumerAssignment, SegmentTopicError, canonical_segment_topic};
 use crate::types::{KeyRange, KeyRangeError, SegmentId};
 
-/// What a newer prost derives, and Debian's does not.
-macro_rules! from_number {
-    ($($name:ident)*) => {
-        $(impl TryFrom<i32> for pb::$name {
-            type Error = ();
-            fn try_from(value: i32) -> Result<Self, ()> {
-                Self::from_i32(value).ok_or(())
-            }
-        })*
-    };
-}
-
-from_number!(SegmentState CompressionType ScalableConsumerType);
-
 /// Whether a parent leaves the comparison by 02 h: its tenant or namespace has '?' or '#', and the Rust takes it. Any other text is compared.
 pub fn left_out(parent: &str) -> bool {
     names::marked_in_front(parent) && canonical_segment_topic(parent, KeyRange::FULL, SegmentId(0)).is_ok()

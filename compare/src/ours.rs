@@ -65,9 +65,7 @@ pub fn response(record: Record, store: &mut [u8], message: &mut [u8], incarnatio
 }
 
 pub fn drain(record: Record, store: &mut [u8], reader: usize, out: &mut [u8]) -> SessionReply {
-    let given = lent(record, |record| unsafe {
-        raw::cuddrewyn_drain_for(record, store.as_ptr(), store.len(), reader, out.as_mut_ptr(), out.len())
-    });
+    let given = lent(record, |record| unsafe { raw::cuddrewyn_drain_for(record, store.as_ptr(), store.len(), reader, out.as_mut_ptr(), out.len()) });
     spoiled(Call::Drain, given, &mut [store, out])
 }
 

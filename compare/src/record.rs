@@ -10,8 +10,8 @@ use crate::raw::READERS;
 use crate::relay;
 use crate::rng::Rng;
 use crate::scalable_consumer::{
-    AssignedSegment, AssignmentDelta, AssignmentError, AssignmentReplay, ConsumerAssignment, ControllerIncarnation, ScalableConsumerSession, ScalableConsumerType,
-    SegmentTopicError,
+    AssignedSegment, AssignmentDelta, AssignmentError, AssignmentReplay, ConsumerAssignment, ControllerIncarnation, ScalableConsumerSession,
+    ScalableConsumerType, SegmentTopicError,
 };
 use crate::session::world::World;
 use std::collections::VecDeque;
@@ -65,7 +65,11 @@ fn name(error: &AssignmentError) -> &'static str {
 fn escaped(text: &str) -> String {
     text.bytes().fold(String::new(), |mut out, byte| {
         let plain = (0x20..0x7f).contains(&byte) && byte != b'"' && byte != b'\\';
-        if plain { out.push(byte as char) } else { write!(out, "\\x{byte:02x}").expect("a string") }
+        if plain {
+            out.push(byte as char)
+        } else {
+            write!(out, "\\x{byte:02x}").expect("a string")
+        }
         out
     })
 }

@@ -25,7 +25,9 @@ fn gives(call: Call) -> Gives {
         Call::Response | Call::Drain => Gives::Reply(true, 2),
         Call::Update => Gives::Reply(true, 3),
         Call::KeyForHash | Call::RangeLen | Call::RangeContains | Call::RangeContainsRange | Call::RangeAdjacent => Gives::Reply(false, 0),
-        Call::Matches | Call::Check | Call::KeyInSegment | Call::Charge | Call::SegmentSource | Call::IsOpen | Call::EarliestOpen => Gives::Reply(false, 1),
+        Call::Matches | Call::Check | Call::KeyInSegment | Call::Charge | Call::SegmentSource | Call::IsOpen | Call::EarliestOpen => {
+            Gives::Reply(false, 1)
+        }
         Call::ChurnPush | Call::ChurnClear | Call::ChurnCurrent | Call::Command => Gives::Reply(false, 1),
         Call::SegmentForKey | Call::CheckLog | Call::SegmentTopic | Call::ParentTopic => Gives::Reply(false, 2),
         Call::Apply | Call::Join | Call::ApplyEitherOrder | Call::JoinEitherOrder | Call::ToPb | Call::Watch => Gives::Reply(false, 3),

@@ -128,13 +128,17 @@ pub(crate) fn unknown(reply: &Reply, f: &mut fmt::Formatter<'_>) -> fmt::Result 
     write!(f, "answer {} with number {} is not known to these bindings", reply.answer, reply.number)
 }
 
+/// Why a call of a session, or of a packed list or delta, is refused; the broker's text is a part of the message, whose lifetime is `'m`.
+/// Calls that cannot be refused so give `AssignmentError<'static>`.
+pub type AssignmentError<'m> = AssignmentErrorWith<&'m str>;
+
 /// Why a call of a session, or of a packed list or delta, is refused.
 ///
-/// `'m` is the message's lifetime: [`Self::Broker`] has the broker's text, which is a part of it. Calls that cannot be refused so give
-/// `AssignmentError<'static>`. The original's `RegistrationMismatch` is left out: nothing gives it.
+/// `M` is the broker's text, that of [`Self::Broker`]: [`AssignmentError`] borrows it from the message, `owned::AssignmentError` has it as a
+/// `String`. The original's `RegistrationMismatch` is left out: nothing gives it.
 #[derive(Debug, Clone, Copy, PartialEq, Eq)]
 #[non_exhaustive]
-pub enum AssignmentError<'m> {
+pub enum AssignmentErrorWith<M> {
     /// 24: the update is for another consumer.
     ConsumerMismatch {
         /// The consumer id in the message.
@@ -223,7 +227,7 @@ pub enum AssignmentError<'m> {
         /// The broker's code.
         code: i32,
         /// The broker's text, empty where it sent none.
-        message: &'m str,
+        message: M,
     },
     /// 17: the response has neither an assignment nor an error code.
     Empty {
@@ -270,7 +274,7 @@ pub enum AssignmentError<'m> {
     Unknown(Reply),
 }
 
-impl<'m> AssignmentError<'m> {
+impl<M> AssignmentErrorWith<M> {
     /// The number of this refusal in 01.
     #[must_use]
     pub const fn number(&self) -> u8 {
@@ -314,7 +318,7 @@ impl<'m> AssignmentError<'m> {
     }
 
     /// The refusal that a reply tells; `message` is the broker's text.
-    pub(crate) fn from_reply(reply: Reply, message: &'m str) -> Self {
+    pub(crate) fn from_reply(reply: Reply, message: M) -> Self {
         let Reply { number, first, .. } = reply;
         match number {
             // tools/refusals.py writes: replies of AssignmentError
@@ -400,7 +404,7 @@ impl<'m> AssignmentError<'m> {
     }
 }
 
-impl fmt::Display for AssignmentError<'_> {
+impl<M: fmt::Display> fmt::Display for AssignmentErrorWith<M> {
     fn fmt(&self, f: &mut fmt::Formatter<'_>) -> fmt::Result {
         match self {
             Self::ConsumerMismatch { got, expected } => {
@@ -432,7 +436,7 @@ impl fmt::Display for AssignmentError<'_> {
     }
 }
 
-impl Error for AssignmentError<'_> {
+impl<M: fmt::Debug + fmt::Display> Error for AssignmentErrorWith<M> {
     fn source(&self) -> Option<&(dyn Error + 'static)> {
         match self {
             Self::InvalidRange { source, .. } => Some(source),
@@ -442,7 +446,7 @@ impl Error for AssignmentError<'_> {
     }
 }
 
-impl From<SegmentTopicError> for AssignmentError<'_> {
+impl<M> From<SegmentTopicError> for AssignmentErrorWith<M> {
     fn from(source: SegmentTopicError) -> Self {
         Self::SegmentTopic(source)
     }

@@ -2,7 +2,10 @@
 //!
 //! The work is done by a library proved in Rattle (`libexport.a`); this crate gives it the names and types of the Rust that it was ported
 //! from, magnetar's `ScalableConsumerSession` and what belongs to it. **A station replaces magnetar's session by changing an import and
-//! lending memory.** Nothing here is allocated, printed or waited for.
+//! handing over a message's bytes**: with an allocator it imports `owned`, whose types own what they hold as the original's do; without one the
+//! crate itself, and lends memory besides. There nothing is allocated, and nowhere is anything printed or waited for.
+//!
+//! This is a session over lent memory; the same with an allocator stands at the head of `owned`.
 //!
 //! ```
 //! use cuddrewyn::*;
@@ -49,7 +52,7 @@
 //! # From magnetar to here
 //!
 //! Messages come as their bytes: the proved library reads them itself. Texts come as `&str`. What the original returns as owned values are
-//! views, over the store or over the output that the call was lent.
+//! views, over the store or over the output that the call was lent; `into_owned` makes the types of `owned` of them, where the table is shorter.
 //!
 //! | original | here |
 //! |---|---|
@@ -59,16 +62,15 @@
 //! | `handle_subscribe_response_for(incarnation, &resp)` | [`handle_subscribe_response_for`](ScalableConsumerSession::handle_subscribe_response_for)`(incarnation, message)` |
 //! | `handle_subscribe_response(&resp)` | [`handle_subscribe_response`](ScalableConsumerSession::handle_subscribe_response)`(message)` |
 //! | `take_replayed_updates()`, all in a `Vec` | [`take_replayed_update`](ScalableConsumerSession::take_replayed_update)`(&mut out)?` until `None`, or [`for_each_replayed_update`](ScalableConsumerSession::for_each_replayed_update)`(&mut out, f)?`; for more readers than one [`take_replayed_update_for`](ScalableConsumerSession::take_replayed_update_for)`(reader, &mut out)?`, each [`Reader`] with a position of its own |
-//! | `begin_incarnation`, `invalidate_authority`, `is_registered`, `is_invalidated`, `incarnation`, `epoch_floor`, `matches_registration` | the same |
+//! | `begin_incarnation`, `invalidate_authority`, `is_registered`, `is_invalidated`, `incarnation`, `epoch_floor`, `matches_registration`, `topic`, `subscription`, `consumer_name`, `consumer_type` | the same |
 //! | `assignment()` | the same; the response's own list is also [`baseline`](ScalableConsumerSession::baseline)`()` |
-//! | `topic()`, `subscription()`, `consumer_name()`, `consumer_type()` | the station's own: a text is never handed back from the store. `matches_registration` compares them |
 //! | `clone()`, to keep a session | [`into_parts`](ScalableConsumerSession::into_parts), [`from_parts`](ScalableConsumerSession::from_parts), [`resume`](ScalableConsumerSession::resume) |
 //! | `ConsumerAssignment::segments()`, a slice | an iterator of [`AssignedSegment`] |
 //! | `AssignmentDelta`'s fields `layout_epoch`, `gained`, `lost` | calls of the same names |
 //! | `AssignedSegment::segment_topic()` | [`segment_topic`](AssignedSegment::segment_topic)`(parent, &mut out)?`: names are rebuilt, not kept |
 //! | `AssignedSegment::source()` | [`source`](AssignedSegment::source)`(parent, &mut out)?` |
 //! | `ConsumerAssignment::to_pb()` | [`to_pb`](ConsumerAssignment::to_pb)`(parent, &mut out)?`, as bytes |
-//! | `ConsumerAssignment::segment_topics()` | `segment_topics(parent)?`, with the feature `std` |
+//! | `ConsumerAssignment::segment_topics()` | `segment_topics(parent)?`, with the feature `alloc` |
 //! | `try_from_pb` | inside the session's calls alone; [`from_bytes`](ConsumerAssignment::from_bytes) reads the packed form |
 //! | `canonical_segment_topic(parent, range, id)` | [`canonical_segment_topic`]`(parent, range, id, &mut out)?`; `?` and `#` in tenant and namespace are refused too |
 //! | `SegmentSource::new(id, topic)`, `parent_topic()` | [`SegmentSource::new`]`(id, &topic)`, [`parent_topic`](SegmentSource::parent_topic)`(&mut out)?` |
@@ -111,7 +113,8 @@
 //! The crate of a release has the archive, for x86-64 Linux, inside: it needs no setting. Where there is none beside `build.rs`, it is looked
 //! for in the folder that the setting `CUDDREWYN_LIB` names, else in `target/staticlib` of the repository, where `rt staticlib export` puts it.
 //! It is named `libcuddrewyn.a` in a release, `libexport.a` in the repository, and has to be of this crate's version, [`raw::ABI`].
-//! Features: `std` (default) is what needs an allocator, names as `String`; `watch` (default) is the topics watch.
+//! Features: `alloc` is what needs an allocator, the module `owned` and names as `String`; `std` (default) is `alloc`, and nothing more today;
+//! `watch` (default) is the topics watch. Without any the crate needs `core` alone.
 //!
 //! # What is proved, and what is not
 //!
@@ -122,8 +125,8 @@
 #![warn(missing_docs)]
 #![deny(unsafe_code)]
 
-#[cfg(feature = "std")]
-extern crate std;
+#[cfg(feature = "alloc")]
+extern crate alloc;
 
 mod attach_log;
 #[allow(unsafe_code)]
@@ -133,8 +136,11 @@ mod churn;
 mod command;
 mod error;
 mod hours;
+mod identity;
 mod lists;
 mod names;
+#[cfg(feature = "alloc")]
+pub mod owned;
 #[allow(unsafe_code, missing_docs)]
 pub mod raw;
 mod session;
@@ -147,7 +153,7 @@ pub use attach_log::{Entry, check_log};
 pub use charge::{Charge, DIVISOR, charge};
 pub use churn::{CHURN_WINDOW, Churn, ChurnTotals};
 pub use command::Command;
-pub use error::{AssignmentError, SegmentTopicError};
+pub use error::{AssignmentError, AssignmentErrorWith, SegmentTopicError};
 pub use hours::{Contract, MAX_TERMS, MAX_WINDOWS, Span, WEEK, contract_len, earliest_open, is_open};
 pub use lists::{apply, join, key_for_hash, key_in_segment, segment_for_key, to_pb};
 pub use names::{SegmentSource, canonical_segment_topic, parent_topic};
@@ -158,7 +164,7 @@ pub use types::{
 };
 pub use views::{AssignedSegment, AssignmentDelta, BucketRanges, ConsumerAssignment, Lost, Segments};
 #[cfg(feature = "watch")]
-pub use watch::{ScalableTopicsWatch, Topics, TopicsChange, TopicsWatchError};
+pub use watch::{ScalableTopicsWatch, Topics, TopicsChange, TopicsWatchError, TopicsWatchErrorWith};
 
 /// The release that this crate is of.
 pub const VERSION: &str = env!("CARGO_PKG_VERSION");

@@ -342,6 +342,14 @@ impl fmt::Debug for ScalableConsumerSession<'_> {
     }
 }
 
+#[cfg(feature = "alloc")]
+impl<'s> ScalableConsumerSession<'s> {
+    /// The session of a record and a store that are known to be one's.
+    pub(crate) fn over(record: Record, store: &'s mut [u8]) -> Self {
+        Self { record, store }
+    }
+}
+
 /// The list that starts at `place`, whatever follows it.
 fn list_at(store: &[u8], place: usize) -> Option<ConsumerAssignment<'_>> {
     ConsumerAssignment::at_front(store.get(place..)?)

@@ -186,10 +186,10 @@ impl KeyRange {
     }
 
     /// Both ends as four lower-case hexadecimal digits, as they stand in a segment's name.
-    #[cfg(feature = "std")]
+    #[cfg(feature = "alloc")]
     #[must_use]
-    pub fn to_hex_string(self) -> std::string::String {
-        std::format!("{:04x}-{:04x}", self.start, self.end)
+    pub fn to_hex_string(self) -> alloc::string::String {
+        alloc::format!("{:04x}-{:04x}", self.start, self.end)
     }
 }
 

@@ -300,9 +300,9 @@ impl<'a> ConsumerAssignment<'a> {
     /// # Errors
     ///
     /// As [`canonical_segment_topic`].
-    #[cfg(feature = "std")]
-    pub fn segment_topics(&self, parent: &str) -> Result<std::vec::Vec<std::string::String>, SegmentTopicError> {
-        let mut out = std::vec![0; parent.len() + crate::SEGMENT_TOPIC_EXTRA];
+    #[cfg(feature = "alloc")]
+    pub fn segment_topics(&self, parent: &str) -> Result<alloc::vec::Vec<alloc::string::String>, SegmentTopicError> {
+        let mut out = alloc::vec![0; parent.len() + crate::SEGMENT_TOPIC_EXTRA];
         self.segments().map(|segment| segment.segment_topic(parent, &mut out).map(Into::into)).collect()
     }
 }

@@ -18,6 +18,14 @@ pub struct Topics<'a> {
     rest: &'a [u8],
 }
 
+#[cfg(feature = "alloc")]
+impl<'a> Topics<'a> {
+    /// The topics of a set.
+    pub(crate) const fn of(set: &'a [u8]) -> Self {
+        Self { rest: set }
+    }
+}
+
 impl<'a> Iterator for Topics<'a> {
     type Item = &'a str;
 
@@ -64,10 +72,15 @@ impl<'a> TopicsChange<'a> {
     }
 }
 
+/// Why an update of the watch is refused; the broker's text is a part of the message, whose lifetime is `'m`.
+pub type TopicsWatchError<'m> = TopicsWatchErrorWith<&'m str>;
+
 /// Why an update of the watch is refused. A refusal leaves set and output as they were.
+///
+/// `M` is the broker's text: [`TopicsWatchError`] borrows it from the message, `owned::TopicsWatchError` has it as a `String`.
 #[derive(Debug, Clone, Copy, PartialEq, Eq)]
 #[non_exhaustive]
-pub enum TopicsWatchError<'m> {
+pub enum TopicsWatchErrorWith<M> {
     /// 29: the update is for another watch.
     WatchMismatch {
         /// The watch id in the message.
@@ -80,7 +93,7 @@ pub enum TopicsWatchError<'m> {
         /// The broker's code.
         code: i32,
         /// The broker's text, empty where it sent none.
-        message: &'m str,
+        message: M,
     },
     /// 17: the update has neither an event nor an error code.
     Empty {
@@ -107,7 +120,7 @@ pub enum TopicsWatchError<'m> {
     Unknown(Reply),
 }
 
-impl<'m> TopicsWatchError<'m> {
+impl<M> TopicsWatchErrorWith<M> {
     /// The number of this refusal in 01.
     #[must_use]
     pub const fn number(&self) -> u8 {
@@ -129,7 +142,7 @@ impl<'m> TopicsWatchError<'m> {
     }
 
     /// The refusal that a reply tells; `message` is the broker's text.
-    fn from_reply(reply: Reply, message: &'m str) -> Self {
+    fn from_reply(reply: Reply, message: M) -> Self {
         let Reply { number, first, second, .. } = reply;
         match number {
             // tools/refusals.py writes: replies of TopicsWatchError
@@ -149,7 +162,7 @@ impl<'m> TopicsWatchError<'m> {
     }
 }
 
-impl fmt::Display for TopicsWatchError<'_> {
+impl<M: fmt::Display> fmt::Display for TopicsWatchErrorWith<M> {
     fn fmt(&self, f: &mut fmt::Formatter<'_>) -> fmt::Result {
         match self {
             Self::WatchMismatch { got, expected } => {
@@ -165,7 +178,7 @@ impl fmt::Display for TopicsWatchError<'_> {
     }
 }
 
-impl Error for TopicsWatchError<'_> {}
+impl<M: fmt::Debug + fmt::Display> Error for TopicsWatchErrorWith<M> {}
 
 /// A watch over the topics of a namespace: the set of those that match, in a buffer that the station lends.
 ///
@@ -246,6 +259,14 @@ impl<'s> ScalableTopicsWatch<'s> {
         }
         self.used = reply.first as usize;
         front(out, reply.second).and_then(TopicsChange::whole).ok_or(TopicsWatchError::Unknown(reply))
+    }
+}
+
+#[cfg(feature = "alloc")]
+impl<'s> ScalableTopicsWatch<'s> {
+    /// The watch of a buffer whose first `used` bytes are known to be a set.
+    pub(crate) fn over(watch_id: u64, buffer: &'s mut [u8], used: usize) -> Self {
+        Self { watch_id, namespace: "", buffer, used }
     }
 }
 

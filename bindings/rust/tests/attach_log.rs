@@ -1,6 +1,6 @@
 //! Logs of uploaders, held to deltas made by hand.
 
-use cuddrewyn::AssignmentError::{InvalidLog, MalformedInput};
+use cuddrewyn::AssignmentErrorWith::{InvalidLog, MalformedInput};
 use cuddrewyn::Entry::{self, Attach, Detach};
 use cuddrewyn::*;
 

@@ -1,6 +1,6 @@
 //! What holdings cost, of records made by hand.
 
-use cuddrewyn::AssignmentError::{ChargeTooLarge, MalformedInput};
+use cuddrewyn::AssignmentErrorWith::{ChargeTooLarge, MalformedInput};
 use cuddrewyn::*;
 
 /// One segment's record: id, range, buckets.

@@ -48,7 +48,22 @@ fn texts_and_numbers_of_the_original() {
     ];
     for (error, number, text) in rows {
         assert_eq!((error.number(), &error.to_string()[..]), (*number, *text));
+        owned_is_the_same(*error);
     }
+}
+
+/// The form with a text of its own has the same number, shows the same, and has the same source.
+fn owned_is_the_same(error: E<'_>) {
+    #[cfg(feature = "alloc")]
+    {
+        let owned: owned::AssignmentError = error.into();
+        assert_eq!((owned.number(), owned.to_string()), (error.number(), error.to_string()));
+        assert_eq!(format!("{owned:?}"), format!("{error:?}"));
+        let source = |error: &dyn Error| error.source().map(ToString::to_string);
+        assert_eq!(source(&owned), source(&error));
+    }
+    #[cfg(not(feature = "alloc"))]
+    let _ = error;
 }
 
 #[test]
@@ -73,7 +88,11 @@ fn texts_and_numbers_of_our_own() {
             34,
             "assignment segment 7 has bucket range 2 outside its own range",
         ),
-        (E::InvalidContract, 35, "the contract has a span that ends before it starts, a window beyond the week or a count too large"),
+        (
+            E::InvalidContract,
+            35,
+            "the contract has a span that ends before it starts, a window beyond the week or a count too large",
+        ),
         (E::ChargeTooLarge, 36, "the charge is beyond 64 bits, or the remainder is not below 235929600"),
         (E::InvalidLog, 37, "the length of the log is no multiple of 9, or a filling bit is set"),
         (E::InvalidWindow, 38, "the lost count is above 65535, or the window points beyond its 256 places"),
@@ -82,6 +101,7 @@ fn texts_and_numbers_of_our_own() {
     for (error, number, text) in rows {
         assert_eq!((error.number(), &error.to_string()[..]), (*number, *text));
         assert!(error.source().is_none());
+        owned_is_the_same(*error);
     }
 }
 

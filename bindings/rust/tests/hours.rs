@@ -1,6 +1,6 @@
 //! Pass hours and terms, by instants of the calendar.
 
-use cuddrewyn::AssignmentError::{InvalidContract, ResultTooLong};
+use cuddrewyn::AssignmentErrorWith::{InvalidContract, ResultTooLong};
 use cuddrewyn::*;
 
 const DAY: u64 = 86_400;

@@ -62,7 +62,15 @@ fn every_field_of_a_record() {
         // SAFETY: a record of its own.
         let reply = unsafe { cuddrewyn_invalidate(&mut record) };
         let (has_floor, epoch_floor) = if has_floor == 0 { (0, 0) } else { (1, given.epoch_floor) };
-        let ended = Record { queue_count: 0, drain_positions: [0; READERS], registered: 0, invalidated: 1, has_floor, epoch_floor, ..given };
+        let ended = Record {
+            queue_count: 0,
+            drain_positions: [0; READERS],
+            registered: 0,
+            invalidated: 1,
+            has_floor,
+            epoch_floor,
+            ..given
+        };
         assert_eq!((record, reply), (ended, Reply { answer: ACCEPTED, ..Reply::default() }));
     }
 }

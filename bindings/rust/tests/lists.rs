@@ -237,7 +237,7 @@ fn the_room_of_the_writer_suffices() {
     }
 }
 
-#[cfg(feature = "std")]
+#[cfg(feature = "alloc")]
 #[test]
 fn topics_of_a_list() {
     let bytes = packed(1, &[record(1, 0, 9, &[]), record(2, 10, 0xffff, &[])]);

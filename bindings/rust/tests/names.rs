@@ -103,7 +103,7 @@ fn ranges() {
     assert!(!KeyRange::FULL.is_adjacent_to(KeyRange::FULL));
 }
 
-#[cfg(feature = "std")]
+#[cfg(feature = "alloc")]
 #[test]
 fn ranges_as_text() {
     assert_eq!(range(10, 0xabcd).to_hex_string(), "000a-abcd");

@@ -24,8 +24,9 @@ fn list(ids: &[u64]) -> Vec<Vec<u8>> {
 fn a_fresh_session() {
     let mut store = [0xaa; MIN_STORE];
     let session = open(&mut store);
-    assert_eq!(session.consumer_id(), 7);
-    assert_eq!(session.incarnation(), ControllerIncarnation(1));
+    assert_eq!((session.consumer_id(), session.incarnation()), (7, ControllerIncarnation(1)));
+    assert_eq!((session.topic(), session.subscription(), session.consumer_name()), (TOPIC, "sub", "station"));
+    assert_eq!(session.consumer_type(), KIND);
     assert_eq!(session.epoch_floor(), None);
     assert!(!session.is_registered() && !session.is_invalidated());
     assert_eq!((session.assignment(), session.baseline()), (None, None));
@@ -77,7 +78,8 @@ fn fields_that_come_again() {
     let message = [number(1, 9), part(4, number(1, 7)), part(4, assignment(3, &list(&[1]))), number(1, 1)].concat();
     session.handle_subscribe_response(&message).unwrap();
     assert_eq!(session.epoch_floor(), Some(3));
-    let parts = [part(2, part(2, &list(&[2])[0])), part(2, number(1, 4)), part(2, part(2, &list(&[1])[0])), number(1, 7)].concat();
+    let parts =
+        [part(2, part(2, &list(&[2])[0])), part(2, number(1, 4)), part(2, part(2, &list(&[1])[0])), number(1, 7)].concat();
     let delta = session.handle_assignment_update(&[number(1, 8), parts].concat(), &mut out).unwrap().unwrap();
     assert_eq!((delta.layout_epoch(), ids(delta)), (4, (vec![], vec![2])));
     let lacking = [number(1, 7), part(2, part(2, &list(&[2])[0])), part(2, b"")].concat();

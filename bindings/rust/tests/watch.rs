@@ -52,12 +52,17 @@ fn events_that_come_again() {
     assert!(matches!(change, TopicsChange::Snapshot { topics: set } if topics(set) == ["a", "b", "c"]));
     let message = [snapshot(5, &["x"]), diff(5, &["d"], &["a"]), diff(5, &[], &["b"])].concat();
     let change = watch.handle_update(&message, &mut out).unwrap();
-    assert!(matches!(change, TopicsChange::Diff { added, removed } if (topics(added), topics(removed)) == (vec!["d"], vec!["a", "b"])));
+    assert!(
+        matches!(change, TopicsChange::Diff { added, removed } if (topics(added), topics(removed)) == (vec!["d"], vec!["a", "b"]))
+    );
     let long = "x".repeat(65_536);
     let message = [snapshot(5, &["c"]), diff(5, &[&long], &[]), snapshot(5, &["y"])].concat();
     watch.handle_update(&message, &mut out).unwrap();
     assert_eq!(topics(watch.topics()), ["y"]);
-    assert_eq!(watch.handle_update(&[snapshot(5, &["z"]), number(1, 6)].concat(), &mut out).unwrap_err(), E::WatchMismatch { got: 6, expected: 5 });
+    assert_eq!(
+        watch.handle_update(&[snapshot(5, &["z"]), number(1, 6)].concat(), &mut out).unwrap_err(),
+        E::WatchMismatch { got: 6, expected: 5 }
+    );
 }
 
 #[test]

@@ -160,7 +160,12 @@ fn queue_room(tally: &mut Tally, seed: u64) {
             let given = s.update(push);
             let queued = s.stage.record.queue_count as u64;
             let fits = *size <= left;
-            s.expect(&format!("push {count}, {left} bytes free"), Call::Update, given, if fits { taken(UNCHANGED, &[]) } else { refused(28, &[queued]) });
+            s.expect(
+                &format!("push {count}, {left} bytes free"),
+                Call::Update,
+                given,
+                if fits { taken(UNCHANGED, &[]) } else { refused(28, &[queued]) },
+            );
             left -= if fits { *size } else { 0 };
         }
     }

@@ -270,7 +270,14 @@ fn deep(tally: &mut Tally, seed: u64) {
         for registered in [false, true] {
             for queue_count in [1022, 1023, 1024, 1025, 1026] {
                 let drain_positions = [queue_count - 2; READERS];
-                stage.record = Record { consumer_id: CONSUMER, incarnation: 1, queue_count, drain_positions, registered: u8::from(registered), ..Default::default() };
+                stage.record = Record {
+                    consumer_id: CONSUMER,
+                    incarnation: 1,
+                    queue_count,
+                    drain_positions,
+                    registered: u8::from(registered),
+                    ..Default::default()
+                };
                 every_call(tally, &stage, &mut rng);
             }
         }

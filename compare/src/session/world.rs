@@ -181,7 +181,8 @@ fn sharing_buckets(part: &mut Part, rng: &mut Rng) {
 /// A bucket beyond an end of the range, or over it. Of the whole key space there is none, nor of a range that is bad already.
 fn outer_bucket(part: &mut Part, rng: &mut Rng) {
     let (start, end) = (i64::from(part.start), i64::from(part.end));
-    let mut outer = vec![(start - 1, start - 1), (start - 1, start), (0, start - 1), (end + 1, end + 1), (end, end + 1), (end + 1, 65_535), (0, 65_535)];
+    let mut outer =
+        vec![(start - 1, start - 1), (start - 1, start), (0, start - 1), (end + 1, end + 1), (end, end + 1), (end + 1, 65_535), (0, 65_535)];
     outer.retain(|(low, high)| 0 <= *low && low <= high && *high <= 65_535 && (*low < start || end < *high));
     if !outer.is_empty() {
         let at = rng.below(part.buckets.len() + 1);
