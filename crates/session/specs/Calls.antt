@@ -1,13 +1,14 @@
 -- The calls on bytes: what each gives over every record, store, message and output. The contracts of the programs are these equations.
 -- Assumes nothing.
 use Prim.Native.Nat.{ℕ, _*_}
-use mathlib.Core.Bool.{Bool, true, false, cond, _&&_}
+use mathlib.Core.Bool.{Bool, false, cond, _&&_}
 use mathlib.Core.List.{List}
 use lib.ListN.{length}
 use lib.Dec.{ltb, leb, eqb}
 use Rattle.types.specs.declared.ControllerIncarnation.{ControllerIncarnation}
 use Rattle.refusal.specs.declared.Refusal.{Refusal}
 use Rattle.refusal.specs.declared.Refusal.the-variants.{StoreTooShort, InvalidUtf8, IdentityTooLong, MalformedStore}
+use Rattle.refusal.specs.Steps.{_>>_, refuseIf, refuseUnless}
 use Rattle.parts.specs.Same.{sameBytes}
 use Rattle.utf8.specs.Table.{isUtf8}
 use Rattle.packed_int.specs.Put.{put}
@@ -33,7 +34,7 @@ pub record Outcome : Type 0 where
   pub store : List ℕ
   pub out : List ℕ
 
-abbrev pub outcome : Answer → SessionRecord → List ℕ → List ℕ → Outcome
+abbrev pub outcome : Answer → SessionRecord → (store out : List ℕ) → Outcome
 outcome answer next store out = record { answer = answer; next = next; store = store; out = out }
 
 abbrev pub answerOf : Reply → Answer
@@ -52,18 +53,18 @@ outputOf (changed d) out = put out 0 (encodeDelta d)
 outputOf (replayed index place d) out = put out 0 (encodeDelta d)
 
 -- a result on bytes
-abbrev pub effectOf : Result → List ℕ → List ℕ → Outcome
+abbrev pub effectOf : Result → (store out : List ℕ) → Outcome
 effectOf result store out =
     outcome (answerOf (result .reply)) (result .next) (writeAll (result .writes) store) (outputOf (result .reply) out)
 
-unfoldable pub updateOutcome : SessionRecord → List ℕ → List ℕ → ControllerIncarnation → List ℕ → Outcome
+unfoldable pub updateOutcome : (r : SessionRecord) (store message : List ℕ) (incarnation : ControllerIncarnation) (out : List ℕ) → Outcome
 updateOutcome r store message incarnation out = effectOf (updateCall (view r store) message incarnation (length out)) store out
 
 -- no output is lent: none is written
-unfoldable pub responseOutcome : SessionRecord → List ℕ → List ℕ → ControllerIncarnation → List ℕ → Outcome
+unfoldable pub responseOutcome : (r : SessionRecord) (store message : List ℕ) (incarnation : ControllerIncarnation) (out : List ℕ) → Outcome
 responseOutcome r store message incarnation out = effectOf (responseCall (view r store) message incarnation) store out
 
-unfoldable pub drainOutcome : SessionRecord → List ℕ → (reader : ℕ) → List ℕ → Outcome
+unfoldable pub drainOutcome : (r : SessionRecord) (store : List ℕ) (reader : ℕ) (out : List ℕ) → Outcome
 drainOutcome r store reader out = effectOf (drainCall (view r store) reader (length out)) store out
 
 -- ---- open: 1, 7, 8
@@ -93,15 +94,14 @@ notOpened x r store = record { answer = answer.Refused x; next = r; store = stor
 abbrev pub allUtf8 : Identity → Bool
 allUtf8 i = isUtf8 (i .topic) && (isUtf8 (i .subscription) && isUtf8 (i .consumerName))
 
-unfoldable pub openOutcome : ℕ → ControllerIncarnation → Identity → List ℕ → OpenOutcome
-openOutcome consumer incarnation i store =
-    let fresh = freshRecord consumer incarnation in
-    cond (ltb (length store) minStore) (notOpened StoreTooShort fresh store)
-    (cond (allUtf8 i)
-    (cond (leb (textsLength i) maxTexts)
-    (record { answer = answer.Accepted; next = fresh; store = put store 0 (encodeIdentity i) })
-    (notOpened IdentityTooLong fresh store))
-    (notOpened InvalidUtf8 fresh store))
+unfoldable pub openOutcome : (consumer : ℕ) (incarnation : ControllerIncarnation) (i : Identity) (store : List ℕ) → OpenOutcome
+openOutcome consumer incarnation i store = do
+  let fresh = freshRecord consumer incarnation
+  let refuse = λ (x : Refusal). notOpened x fresh store
+  refuseIf refuse (ltb (length store) minStore) StoreTooShort  -- 1
+  refuseUnless refuse (allUtf8 i) InvalidUtf8  -- 7
+  refuseUnless refuse (leb (textsLength i) maxTexts) IdentityTooLong  -- 8
+  record { answer = answer.Accepted; next = fresh; store = put store 0 (encodeIdentity i) }
 
 -- ---- matches_registration: 1, then 22 for the identity slot alone
 
@@ -113,8 +113,7 @@ sameIdentity l i =
     && (sameBytes (consumerNameOf l) (i .consumerName) && eqb (kindOf l) (kindByte (i .consumerType))))
 
 unfoldable pub matchOf : List ℕ → Identity → Match
-matchOf store i =
-    cond (ltb (length store) minStore) (match′.Refused StoreTooShort)
-    (cond (isIdentity (slot store identitySlot))
-    (cond (sameIdentity (slot store identitySlot) i) match′.Same match′.Other)
-    (match′.Refused MalformedStore))
+matchOf store i = do
+  refuseIf match′.Refused (ltb (length store) minStore) StoreTooShort  -- 1
+  refuseUnless match′.Refused (isIdentity (slot store identitySlot)) MalformedStore  -- 22
+  cond (sameIdentity (slot store identitySlot) i) match′.Same match′.Other

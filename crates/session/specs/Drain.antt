@@ -10,6 +10,7 @@ use mathlib.Core.List.{List, [], _∷_}
 use lib.ListN.{take, set}
 use lib.Dec.{ltb, leb}
 use Rattle.refusal.specs.declared.Refusal.the-variants.{StoreTooShort, OutputTooShort, UnknownReader, MalformedStore}
+use Rattle.refusal.specs.Steps.{_>>_}
 use Rattle.packed.specs.Assignment.{ConsumerAssignment}
 use Rattle.packed.specs.Equal.{sameAssignment}
 use Rattle.delta.specs.Delta.{AssignmentDelta}
@@ -18,14 +19,14 @@ use Rattle.session.specs.declared.SessionRecord.{SessionRecord}
 use Rattle.session.specs.Store.{minStore, minOutput, queueEnd}
 use Rattle.session.specs.Session as session
 use Rattle.session.specs.Session.{Session, withFields, Result, readers, positionOf, damaged}
-use Rattle.session.specs.Steps.{_>>_, refuseIf, noneUnless}
+use Rattle.session.specs.Steps.{refuseIf, noneUnless}
 
 pub data Found : Type 0 where
   end : Found
   entry : (index : ℕ) → AssignmentDelta → Found
 
 -- the next entry, from the k-th of the queue on, that differs from its predecessor; the first of the queue is entry i, with that list before it
-unfoldable pub nextChange : ℕ → ConsumerAssignment → List ConsumerAssignment → ℕ → Found
+unfoldable pub nextChange : (i : ℕ) → ConsumerAssignment → List ConsumerAssignment → (k : ℕ) → Found
 nextChange i before [] k = end
 nextChange i before (a ∷ queue) (suc k) = nextChange (suc i) a queue k
 nextChange i before (a ∷ queue) zero = cond (sameAssignment before a) (nextChange (suc i) a queue zero) (entry i (deltaBetween before a))

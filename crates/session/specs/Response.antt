@@ -13,6 +13,7 @@ use lib.Dec.{eqb, ltb}
 use Rattle.types.specs.declared.ControllerIncarnation.{ControllerIncarnation}
 use Rattle.refusal.specs.declared.Refusal.{Refusal}
 use Rattle.refusal.specs.declared.Refusal.the-variants.{StoreTooShort, MalformedStore, IncarnationMismatch, Broker, Empty, StaleEpoch}
+use Rattle.refusal.specs.Steps.{_>>_, _>>=_}
 use Rattle.schema.specs.declared.MessageKind.the-variants.{CommandScalableTopicSubscribeResponse}
 use Rattle.schema.specs.FirstFault.{firstFault}
 use Rattle.readers.specs.declared.ErrorCode.{ErrorCode}
@@ -24,7 +25,7 @@ use Rattle.session.specs.declared.SessionRecord.{SessionRecord}
 use Rattle.session.specs.Store.{minStore, baselineSlot, listSlot, toSlot}
 use Rattle.session.specs.Session as session
 use Rattle.session.specs.Session.{Session, withFields, Result, atStart, damaged, floorFault, raise}
-use Rattle.session.specs.Steps.{_>>_, _>>=_, refuseIf, refuseUnless, refuseDue, refuseFault, takeContent}
+use Rattle.session.specs.Steps.{refuseIf, refuseUnless, refuseDue, refuseFault, takeContent}
 
 -- 27: the first push of the queue whose epoch lies below that of the list before it, which for the first is the baseline
 unfoldable pub staleFault : ConsumerAssignment → List ConsumerAssignment → Option Refusal
@@ -46,7 +47,7 @@ abbrev pub registeredWith : Session → ConsumerAssignment → ℕ → SessionRe
 registeredWith s last count =
     withFields (s .state) (s .state .incarnation) true (s .state .invalidated) (raise (s .state .«epoch_floor») (last .layoutEpoch)) count atStart
 
-abbrev pub register : Session → ConsumerAssignment → ConsumerAssignment → Result
+abbrev pub register : Session → (baseline last : ConsumerAssignment) → Result
 register s baseline last =
     record {
       reply = session.accepted;

@@ -1,4 +1,4 @@
--- A call is the list of its refusals, in their order: each line is a test with the refusal that is due where it holds, or hands on what it read.
+-- The words of a session's calls: those of the crate refusal (specs/Steps), where a refusal leaves the session as it was.
 -- Assumes nothing.
 use mathlib.Core.Bool.{Bool, cond}
 use mathlib.Core.List.{[]}
@@ -9,13 +9,6 @@ use Rattle.schema.specs.declared.Checked.the-variants as checked
 use Rattle.packed.specs.Assignment.{ConsumerAssignment}
 use Rattle.content.specs.Content as content
 use Rattle.session.specs.Session.{Session, nothing, Result, refuse, unless}
-
-infixl 10 _>>_ _>>=_
-abbrev pub _>>_ : {R : Type 0} → (R → R) → R → R
-_>>_ test rest = test rest
-
-abbrev pub _>>=_ : {A R : Type 0} → ((A → R) → R) → (A → R) → R
-_>>=_ reading rest = reading rest
 
 abbrev pub refuseIf : Session → Bool → Refusal → Result → Result
 refuseIf s test x rest = cond test (refuse x s) rest

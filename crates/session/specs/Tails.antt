@@ -6,12 +6,13 @@ use Prim.Native.Nat.{ℕ}
 use lib.Dec.{eqb}
 use Rattle.types.specs.declared.ControllerIncarnation.{ControllerIncarnation}
 use Rattle.refusal.specs.declared.Refusal.the-variants.{IncarnationMismatch, ConsumerMismatch}
+use Rattle.refusal.specs.Steps.{_>>_, _>>=_}
 use Rattle.schema.specs.declared.Checked.{Checked}
 use Rattle.readers.specs.Messages.{WireUpdate, updateOf, WireResponse, responseOf}
 use Rattle.packed.specs.Assignment.{ConsumerAssignment}
 use Rattle.content.specs.Content.{Content, contentOf}
 use Rattle.session.specs.Session.{Session, Result, floorFault}
-use Rattle.session.specs.Steps.{_>>_, _>>=_, refuseIf, refuseUnless, refuseDue, refuseFault, takeContent}
+use Rattle.session.specs.Steps.{refuseIf, refuseUnless, refuseDue, refuseFault, takeContent}
 use Rattle.session.specs.Update.{updateRegistered, updateUnregistered}
 use Rattle.session.specs.Response.{staleFault, lastList, replayable, register, denied}
 

@@ -11,6 +11,7 @@ use Rattle.types.specs.declared.ControllerIncarnation.{ControllerIncarnation}
 use Rattle.refusal.specs.declared.Refusal.{Refusal}
 use Rattle.refusal.specs.declared.Refusal.the-variants.{StoreTooShort, OutputTooShort, MalformedStore, IncarnationMismatch}
 use Rattle.refusal.specs.declared.Refusal.the-variants.{ConsumerMismatch, StaleEpoch, PreBaselineBufferFull}
+use Rattle.refusal.specs.Steps.{_>>_, _>>=_}
 use Rattle.schema.specs.declared.MessageKind.the-variants.{CommandScalableTopicAssignmentUpdate}
 use Rattle.schema.specs.FirstFault.{firstFault}
 use Rattle.readers.specs.Messages.{updateOf}
@@ -24,7 +25,7 @@ use Rattle.packed_queue.specs.Entries.{sizeEntry}
 use Rattle.session.specs.Store.{minStore, minOutput, maxQueue, listSlot, queueEnd, toSlot, push}
 use Rattle.session.specs.Session as session
 use Rattle.session.specs.Session.{Session, withFields, Result, damaged, floorFault, raise}
-use Rattle.session.specs.Steps.{_>>_, _>>=_, refuseIf, refuseDue, refuseFault, takeContent, noneIf}
+use Rattle.session.specs.Steps.{refuseIf, refuseDue, refuseFault, takeContent, noneIf}
 
 abbrev pub withQueueCount : SessionRecord → ℕ → SessionRecord
 withQueueCount r n =
