@@ -60,7 +60,7 @@ module _ {s d : List ℕ} {count losses gains : ℕ} (w : Whole s count) (v : Wa
   X = record { layoutEpoch = num 8 d; segments = R }
 
   result : applyOutcome s d o ≡ applied X o
-  unfolding applyOutcome apply deltaOf overlay
+  unfolding applyOutcome applied apply deltaOf overlay
   result =
       let e : apply (deltaOf d) (assignmentOf s) ≡ X = cc (w .segments-are, v .lost-is, v .gained-is) in
       simp (w .is-assignment, v .is-delta, e)

@@ -25,7 +25,7 @@ use Rattle.packed.specs.Assignment.{ConsumerAssignment, slotSize, encodeSegment
 use Rattle.packed.specs.Assignment.{num, assignmentOf, isAssignment}
 use Rattle.packed.proofs.RoundLaws.{length-encodeAssignment}
 use Rattle.delta.specs.Delta.{AssignmentDelta, encodeIds, encodeDelta, sizeDelta, deltaOf, okDelta, isDelta}
-use Rattle.delta.specs.Join.{Apart, apply}
+use Rattle.delta.specs.Join.{Apart, apply, join}
 use Rattle.delta.proofs.RoundLaws.{length-encodeDelta}
 use Rattle.delta.proofs.DeltaLaws.{is-delta-proper}
 use Rattle.delta.proofs.CommuteLaws.{lost-commutes, gained-commutes}
@@ -81,12 +81,13 @@ module _ (d e : AssignmentDelta) (p : d .lost ≡ e .lost) (q : d .gained ≡ e 
 
 join-behind : (d e out : List ℕ) → Apart (deltaOf d) (deltaOf e)
     → SameButEpoch (joinOutcome d e out) (joinOutcome e d out)
-unfolding joinOutcome
+unfolding joinOutcome joinedDelta
 join-behind d e out h =
     chosen (isDelta d && isDelta e) (isDelta e && isDelta d) _ (and-comm (isDelta d) (isDelta e)) (λ t.
     let r = is-delta-proper d (both-true (isDelta d) (isDelta e) t .0) in
     let s = is-delta-proper e (both-true (isDelta d) (isDelta e) t .1) in
-    joined-behind _ _ (lost-commutes (deltaOf d) (deltaOf e) r s) (gained-commutes (deltaOf d) (deltaOf e) r s h) out)
+    joined-behind (join (deltaOf d) (deltaOf e)) (join (deltaOf e) (deltaOf d)) (lost-commutes (deltaOf d) (deltaOf e) r s)
+    (gained-commutes (deltaOf d) (deltaOf e) r s h) out)
 
 -- ---- the call apply
 
@@ -147,11 +148,11 @@ module _ (x y : List ℕ) (h : drop 8 x ≡ drop 8 y) where
   segments-behind a = cc (lost-behind, gained-behind)
 
   apply-behind : (s out : List ℕ) → SameButEpoch (applyOutcome s x out) (applyOutcome s y out)
-  unfolding applyOutcome
+  unfolding applyOutcome applied
   apply-behind s out =
       let both : Bool → Bool = λ t. isAssignment s && t in
       chosen (both (isDelta x)) (both (isDelta y)) _ (ap both is-behind) (λ t.
-      applied-behind _ _ (segments-behind (assignmentOf s)) out)
+      applied-behind (apply (deltaOf x) (assignmentOf s)) (apply (deltaOf y) (assignmentOf s)) (segments-behind (assignmentOf s)) out)
 
 -- ---- the law
 

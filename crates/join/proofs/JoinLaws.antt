@@ -45,7 +45,7 @@ module _ (d e o : List ℕ) where
   no-second h = simp (h, and-false)
 
   pub both : isDelta d ≡ true → isDelta e ≡ true → joinedDelta (join (deltaOf d) (deltaOf e)) o ≡ joinOutcome d e o
-  unfolding joinOutcome
+  unfolding joinOutcome joinedDelta
   both h k = simp (h, k)
 
 -- ---- the rows of a delta

@@ -7,7 +7,7 @@ use Rattle.delta.specs.Delta.{deltaOf}
 use Rattle.join.specs.declared.Rows.{Rows}
 
 -- behind the head: so many lost ids, then so many gained records
-abbrev pub rowsOf : ℕ → ℕ → Rows
+abbrev pub rowsOf : (losses gains : ℕ) → Rows
 rowsOf losses gains = record { lost = record { at = 12; left = losses }; gained = record { at = 12 + 8 * losses; left = gains } }
 
 abbrev pub rowsIn : List ℕ → Rows

@@ -23,6 +23,10 @@ outcome answer out = record { answer = answer; out = out }
 abbrev pub refuse : Refusal → List ℕ → Outcome
 refuse x out = outcome (Refused x) out
 
+-- what a refusal leaves of an output, as the step words of the crate refusal take it
+abbrev pub unwritten : (out : List ℕ) → Refusal → Outcome
+unwritten out x = refuse x out
+
 -- the bytes at the front of the output, and how many they are; 21 where they do not fit
-unfoldable pub written : List ℕ → List ℕ → Outcome
+unfoldable pub written : (bytes out : List ℕ) → Outcome
 written bytes out = cond (leb (length bytes) (length out)) (outcome (Written (length bytes)) (put out 0 bytes)) (refuse ResultTooLong out)

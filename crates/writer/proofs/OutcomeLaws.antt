@@ -120,7 +120,7 @@ whole-message s n w path = ap (λ (gs : List AssignedSegment). numberField 1 (nu
 -- ---- the cases of `writeOutcome`
 
 with-parent : (parent : List ℕ) (gs : List AssignedSegment) (x : Outcome) (o : List ℕ) → 0 < length gs
-    → withParent parent gs x o ≡ cond (isUtf8 parent) (cond (isParent parent) x (refuse InvalidParent o)) (refuse InvalidUtf8 o)
+    → withParent o parent gs x ≡ cond (isUtf8 parent) (cond (isParent parent) x (refuse InvalidParent o)) (refuse InvalidUtf8 o)
 with-parent parent [] x o h = absurd (not-suc-le-zero h)
 with-parent parent (g ∷ gs) x o h = refl
 

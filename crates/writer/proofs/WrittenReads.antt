@@ -14,19 +14,20 @@ use lib.Dec.{leb}
 use borrow.Author.Tests.{leb-true}
 use Rattle.refusal.specs.declared.Refusal.{Refusal}
 use Rattle.refusal.specs.declared.Refusal.the-variants.{MalformedInput, InvalidUtf8, InvalidParent, ResultTooLong}
+use Rattle.refusal.specs.Steps.{refuseDue}
 use Rattle.ranges.specs.Meaning.{both-true}
 use Rattle.packed_int.specs.Put.{put}
 use Rattle.packed_int.proofs.PutLaws.{take-put}
 use Rattle.utf8.specs.Table.{isUtf8}
 use Rattle.parents.specs.Parents.{isParent, pathOf}
 use Rattle.output.specs.declared.WriteAnswer.the-variants.{Written, Refused}
-use Rattle.output.specs.Output.{Outcome, outcome, refuse, written}
+use Rattle.output.specs.Output.{Outcome, outcome, refuse, unwritten, written}
 use Rattle.packed.specs.Assignment.{AssignedSegment, ConsumerAssignment, sizeAssignment, okAssignment, assignmentOf, startsAssignment, isAssignment}
 use Rattle.packed.proofs.RoundLaws.{fit-assignment}
 use Rattle.content.specs.Content.{outsideIn}
 use Rattle.assignment_message.specs.Message.{assignmentMessage}
 use Rattle.assignment_message.proofs.ReadBack as back
-use Rattle.writer.specs.Write.{withParent, unlessOutside, toPb, writeOutcome}
+use Rattle.writer.specs.Write.{withParent, writeOutcome}
 use Rattle.writer.specs.Read.{Reads, WrittenReads}
 
 no-refusal : {A : Type 0} {x : Refusal} {n : ℕ} → Refused x ≡ Written n → A
@@ -37,11 +38,11 @@ module _ (o : List ℕ) (n : ℕ) where
   from-test true r x e = (refl, e)
   from-test false r x e = no-refusal e
 
-  from-inside : (v : Option Refusal) (r : Outcome) → unlessOutside v r o .answer ≡ Written n → (v ≡ none) × (r .answer ≡ Written n)
+  from-inside : (v : Option Refusal) (r : Outcome) → refuseDue (unwritten o) v r .answer ≡ Written n → (v ≡ none) × (r .answer ≡ Written n)
   from-inside none r e = (refl, e)
   from-inside (some x) r e = no-refusal e
 
-  from-parent : (parent : List ℕ) (gs : List AssignedSegment) (r : Outcome) → withParent parent gs r o .answer ≡ Written n
+  from-parent : (parent : List ℕ) (gs : List AssignedSegment) (r : Outcome) → withParent o parent gs r .answer ≡ Written n
       → ((gs ≡ []) ⊎ ((isParent parent ≡ true) × (isUtf8 parent ≡ true))) × (r .answer ≡ Written n)
   from-parent parent [] r e = (inl refl, e)
   from-parent parent (g ∷ gs) r e =
@@ -71,7 +72,7 @@ module _ (s parent o : List ℕ) where
   message = assignmentMessage (pathOf parent) a
 
   behind-parent : (gs : List AssignedSegment) (r : Outcome) → (gs ≡ []) ⊎ ((isParent parent ≡ true) × (isUtf8 parent ≡ true))
-      → withParent parent gs r o ≡ r
+      → withParent o parent gs r ≡ r
   behind-parent [] r h = refl
   behind-parent (g ∷ gs) r (inl e) = cc
   behind-parent (g ∷ gs) r (inr p) = rw (p .1, p .0)
@@ -79,8 +80,9 @@ module _ (s parent o : List ℕ) where
   pub passed : (n : ℕ) → writeOutcome s parent o .answer ≡ Written n → Passed s parent o
   unfolding writeOutcome isAssignment startsAssignment
   passed n e =
-      let sheet = from-test o n (isAssignment s) (toPb parent a o) MalformedInput e in
-      let inner = from-inside o n (outsideIn (a .segments)) (withParent parent (a .segments) (written message o) o) (sheet .1) in
+      let below-all : Outcome = withParent o parent (a .segments) (written message o) in
+      let sheet = from-test o n (isAssignment s) (refuseDue (unwritten o) (outsideIn (a .segments)) below-all) MalformedInput e in
+      let inner = from-inside o n (outsideIn (a .segments)) below-all (sheet .1) in
       let below = from-parent o n parent (a .segments) (written message o) (inner .1) in
       let starts = both-true (startsAssignment s) _ (sheet .0) .0 in
       record {

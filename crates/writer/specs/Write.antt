@@ -8,10 +8,11 @@ use lib.ListN.{length}
 use lib.Dec.{leb}
 use Rattle.refusal.specs.declared.Refusal.{Refusal}
 use Rattle.refusal.specs.declared.Refusal.the-variants.{MalformedInput, InvalidUtf8, InvalidParent}
+use Rattle.refusal.specs.Steps.{_>>_, refuseUnless, refuseDue}
 use Rattle.utf8.specs.Table.{isUtf8}
 use Rattle.parents.specs.Parents.{isParent, pathOf}
-use Rattle.output.specs.Output.{Outcome, refuse, written}
-use Rattle.packed.specs.Assignment.{AssignedSegment, ConsumerAssignment, assignmentOf, isAssignment}
+use Rattle.output.specs.Output.{Outcome, unwritten, written}
+use Rattle.packed.specs.Assignment.{AssignedSegment, assignmentOf, isAssignment}
 use Rattle.assignment_message.specs.Message.{segmentFields, assignmentMessage}
 use Rattle.content.specs.declared.Outside.{Outside}
 use Rattle.content.specs.Content.{firstOutside, outsideIn, outsideOf}
@@ -20,25 +21,24 @@ use Rattle.writer.specs.declared.Held.the-variants as held
 use Rattle.writer.specs.declared.Room.{Room}
 use Rattle.writer.specs.declared.Room.the-variants.{Size, Beyond}
 
--- 7, then 12, where there is a segment
-abbrev pub withParent : List ℕ → List AssignedSegment → Outcome → List ℕ → Outcome
-withParent parent [] result out = result
-withParent parent (g ∷ gs) result out = cond (isUtf8 parent) (cond (isParent parent) result (refuse InvalidParent out)) (refuse InvalidUtf8 out)
+-- "where it has a segment 7 and 12"
+abbrev pub withParent : (out parent : List ℕ) → List AssignedSegment → Outcome → Outcome
+withParent out parent [] rest = rest
+withParent out parent (g ∷ gs) rest = do
+  refuseUnless (unwritten out) (isUtf8 parent) InvalidUtf8  -- 7
+  refuseUnless (unwritten out) (isParent parent) InvalidParent  -- 12
+  rest
 
--- 34: "The writer turns down a sheet with such a bucket too, so that what is written can be read"
-abbrev pub unlessOutside : Option Refusal → Outcome → List ℕ → Outcome
-unlessOutside none result out = result
-unlessOutside (some x) result out = refuse x out
+-- the packed assignment s below the parent. 34: "The writer turns down a sheet with such a bucket too, so that what is written can be read"
+unfoldable pub writeOutcome : (s parent out : List ℕ) → Outcome
+writeOutcome s parent out = do
+  refuseUnless (unwritten out) (isAssignment s) MalformedInput  -- 20
+  let a = assignmentOf s
+  refuseDue (unwritten out) (outsideIn (a .segments))  -- 34
+  withParent out parent (a .segments)  -- 7, 12
+  written (assignmentMessage (pathOf parent) a) out  -- 21
 
-abbrev pub toPb : List ℕ → ConsumerAssignment → List ℕ → Outcome
-toPb parent a out =
-    unlessOutside (outsideIn (a .segments)) (withParent parent (a .segments) (written (assignmentMessage (pathOf parent) a) out) out) out
-
--- the packed assignment s below the parent
-unfoldable pub writeOutcome : List ℕ → List ℕ → List ℕ → Outcome
-writeOutcome s parent out = cond (isAssignment s) (toPb parent (assignmentOf s) out) (refuse MalformedInput out)
-
--- ---- what the functions below the call answer
+-- ---- Internal: what the functions below the call answer
 
 abbrev pub outsideAt : AssignedSegment → Outside
 outsideAt g = outsideOf (firstOutside (g .range) 0 (g .buckets))
