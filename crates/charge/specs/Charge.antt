@@ -10,6 +10,7 @@ use lib.ListN.{length}
 use lib.Dec.{leb, eqb}
 use Rattle.types.specs.declared.KeyRange.{KeyRange}
 use Rattle.refusal.specs.declared.Refusal.the-variants.{MalformedInput, ChargeTooLarge}
+use Rattle.refusal.specs.Steps.{_>>_, refuseIf}
 use Rattle.key_range.specs.Calls.{valuesIn}
 use Rattle.packed.specs.Assignment.{AssignedSegment, segmentOf, sizeSegment, okSegment}
 use Rattle.charge.specs.declared.ChargeAnswer.{ChargeAnswer}
@@ -55,10 +56,11 @@ chargedFor cost remainder = Charged ((cost + remainder) / divisor) ((cost + rema
 
 -- "a malformed one is 20, tested first"; 36 "before any charge is made"
 unfoldable pub chargeOf : (segment : List ℕ) (seconds rate remainder : ℕ) → ChargeAnswer
-chargeOf segment seconds rate remainder =
-    cond (not (isSegment segment)) (Refused MalformedInput)
-    (cond (tooLarge (costOf segment seconds rate) remainder) (Refused ChargeTooLarge)
-    (chargedFor (costOf segment seconds rate) remainder))
+chargeOf segment seconds rate remainder = do
+  refuseIf Refused (not (isSegment segment)) MalformedInput  -- 20
+  let cost = costOf segment seconds rate
+  refuseIf Refused (tooLarge cost remainder) ChargeTooLarge  -- 36
+  chargedFor cost remainder
 
 -- ---- Internal: cited by the contracts of helpers alone
 

@@ -13,8 +13,8 @@ use lib.ListN.{length}
 use Rattle.wire.specs.Fields.{fieldsOf}
 use Rattle.values.specs.Values.{numberIn}
 use Rattle.values.specs.Integers.{int32Of}
-use Rattle.schema.specs.declared.Checked.{Checked}
-use Rattle.schema.specs.declared.Checked.the-variants.{Valid, Refused}
+use Rattle.refusal.specs.Steps.{_>>_}
+use Rattle.schema.specs.Steps.{refuseFault}
 use Rattle.command.specs.declared.Message.{Message}
 use Rattle.command.specs.declared.Message.the-variants as message
 use Rattle.command.specs.declared.Command.{Command}
@@ -44,10 +44,8 @@ commandBy (pos t) l =
     (cond (eqb t 75) (answerFor command.Update (pos 75) (messageIn 75 l))
     (cond (eqb t 77) (answerFor command.Watch (pos 77) (messageIn 77 l)) (command.Other (pos t))))
 
-abbrev pub commandFrom : Checked → List ℕ → Command
-commandFrom (Refused x) l = command.Refused x
-commandFrom Valid l = commandBy (int32Of (numberIn 1 (fieldsOf l))) l
-
 -- what the bytes of a BaseCommand carry
 unfoldable pub commandOf : List ℕ → Command
-commandOf l = commandFrom (shellFault l) l
+commandOf l = do
+  refuseFault command.Refused (shellFault l)  -- 3, 4, 6
+  commandBy (int32Of (numberIn 1 (fieldsOf l))) l

@@ -6,10 +6,11 @@
 -- Assumes nothing.
 use Prim.Native.Nat.{ℕ, _%_, _≤_}
 use mathlib.Core.Path.{_≡_}
-use mathlib.Core.Bool.{Bool, true, false, cond, _&&_, _||_}
+use mathlib.Core.Bool.{Bool, true, false, _&&_, _||_}
 use mathlib.Core.List.{List, [], _∷_}
 use lib.Dec.{leb, ltb}
 use Rattle.refusal.specs.declared.Refusal.the-variants.{InvalidContract}
+use Rattle.refusal.specs.Steps.{_>>_, refuseUnless}
 use Rattle.hours.specs.declared.Span.{Span}
 use Rattle.hours.specs.declared.OpenAnswer.{OpenAnswer}
 use Rattle.hours.specs.declared.OpenAnswer.the-variants as told
@@ -39,7 +40,9 @@ isOpen contract t = openIn (termsOf contract) (windowsOf contract) t
 
 -- "whether a second is open"; 35 is "the only test"
 unfoldable pub openAnswer : (contract : List ℕ) (t : ℕ) → OpenAnswer
-openAnswer contract t = cond (isContract contract) (told.Told (isOpen contract t)) (told.Refused InvalidContract)
+openAnswer contract t = do
+  refuseUnless told.Refused (isContract contract) InvalidContract  -- 35
+  told.Told (isOpen contract t)
 
 -- ---- the earliest
 

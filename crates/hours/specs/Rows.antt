@@ -38,7 +38,7 @@ calendar = record {
 
 -- ---- open and closed
 
-abbrev pub span : ℕ → ℕ → Span
+abbrev pub span : (a b : ℕ) → Span
 span a b = record { start = a; end = b }
 
 -- from Thursday 2024-02-29 00:00 to Saturday 2024-03-02 12:00

@@ -7,6 +7,7 @@ use lib.ListN.{length}
 use lib.Dec.{ltb}
 use Rattle.types.specs.declared.KeyRange.{KeyRange}
 use Rattle.refusal.specs.declared.Refusal.the-variants.{KeyTooLong, MalformedInput}
+use Rattle.refusal.specs.Steps.{_>>_, refuseIf, refuseUnless}
 use Rattle.key_range.specs.Calls.{holds}
 use Rattle.packed.specs.Assignment.{AssignedSegment, assignmentOf, isAssignment}
 use Rattle.murmur3.specs.Murmur3.{murmur3}
@@ -42,7 +43,7 @@ firstTaking hash (g ∷ gs) = cond (takes hash g) (Segment (record { 0 = g .segm
 
 -- 32, "tested before the sheet is (20)"
 unfoldable pub segmentForKey : (key assignment : List ℕ) → SegmentAnswer
-segmentForKey key assignment =
-    cond (ltb longestKey (length key)) (Refused KeyTooLong)
-    (cond (isAssignment assignment) (firstTaking (keyHash key) (assignmentOf assignment .segments))
-    (Refused MalformedInput))
+segmentForKey key assignment = do
+  refuseIf Refused (ltb longestKey (length key)) KeyTooLong  -- 32
+  refuseUnless Refused (isAssignment assignment) MalformedInput  -- 20
+  firstTaking (keyHash key) (assignmentOf assignment .segments)

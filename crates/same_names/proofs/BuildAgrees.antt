@@ -56,7 +56,7 @@ module _ (parent : Text) (id : SegmentId) (out : List ℕ) (m : isMarked parent 
       gives-by out _ (segment-topic-agrees parent range id m (valid-made s e range p)) (parent-stage range (isParent parent))
 
 pub build-agrees : BuildAgrees
-unfolding canonicalSegmentTopic
+unfolding canonicalSegmentTopic buildName
 build-agrees parent s e id out u m =
     let x : Outcome = buildName parent (newKeyRange s e) id out in
     rw u (gives-by out x (ap (behindRange parent id) (new-agrees s e)) (range-stage parent id out m s e (newKeyRange s e) refl))

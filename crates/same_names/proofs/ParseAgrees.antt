@@ -186,7 +186,7 @@ module _ (t : Text) where
       go false = refl
 
 pub parse-agrees : ParseAgrees
-unfolding parseSegmentTopic
+unfolding parseSegmentTopic parentStage descriptorStage rangeStage
 parse-agrees t m =
     ap (λ (o : Option Text). map-err paper (ok-or (InvalidSegment t) o >>= withPath t)) (strip-agrees segmentScheme t)
     ∙ go (startsWith segmentScheme t) m

@@ -22,7 +22,11 @@ use Rattle.types.specs.KeyRanges.{maxHash, keyRange, newKeyRange}
 use Rattle.types.specs.ConsumerTypes.{toWire, fromWire}
 use Rattle.types.proofs.KeyRangeLaws.{Makes, new-valid}
 use Rattle.refusal.specs.declared.Refusal.the-variants.{InvalidKeyRange}
-use Rattle.key_range.specs.Calls.{holdsRange, touches, lengthBy, testBy, pairBy, testBoth}
+use Rattle.refusal.specs.Steps.{takeRange}
+use Rattle.key_range.specs.declared.LengthAnswer.the-variants as length
+use Rattle.key_range.specs.declared.TestAnswer.{TestAnswer}
+use Rattle.key_range.specs.declared.TestAnswer.the-variants as test
+use Rattle.key_range.specs.Calls.{valuesIn, holdsRange, touches}
 use Rattle.key_range.specs.Calls.{lengthOf, containsOf, containsRangeOf, isAdjacentOf}
 use Rattle.magnetar.specs.Result.{Result, Ok, Err, _>>=_, map-err}
 use Rattle.magnetar.specs.Ranges.{MAX-HASH, KeyRange-new, KeyRange-len, KeyRange-contains, KeyRange-contains-range, KeyRange-is-adjacent-to}
@@ -58,43 +62,47 @@ valid-made s e r v =
 -- ---- calls on one range
 
 pub length-agrees : LengthAgrees
-unfolding lengthOf lengthBy
+unfolding lengthOf
 length-agrees s e =
     ap (λ (r : Result KeyRange KeyRangeError). map-err InvalidKeyRange (r >>= (λ range. Ok (KeyRange-len range)))) (new-agrees s e)
     ∙ go (newKeyRange s e)
   where
-    go : (x : RangeResult) → map-err InvalidKeyRange (rangeOf x >>= (λ range. Ok (KeyRange-len range))) ≡ lengthTold (lengthBy x)
+    go : (x : RangeResult) → map-err InvalidKeyRange (rangeOf x >>= (λ range. Ok (KeyRange-len range))) ≡ lengthTold (takeRange length.Refused x (λ r. length.Length (valuesIn r)))
     go (Valid range) = refl
     go (Invalid error) = refl
 
 pub contains-agrees : ContainsAgrees
-unfolding containsOf testBy
+unfolding containsOf
 contains-agrees s e hash =
-    ap (λ (r : Result KeyRange KeyRangeError). map-err InvalidKeyRange (r >>= test)) (new-agrees s e) ∙ go (newKeyRange s e)
+    ap (λ (r : Result KeyRange KeyRangeError). map-err InvalidKeyRange (r >>= told)) (new-agrees s e) ∙ go (newKeyRange s e)
   where
-    test : KeyRange → Result Bool KeyRangeError
-    test range = Ok (KeyRange-contains range hash)
+    told : KeyRange → Result Bool KeyRangeError
+    told range = Ok (KeyRange-contains range hash)
 
-    go : (x : RangeResult) → map-err InvalidKeyRange (rangeOf x >>= test) ≡ testTold (testBy (λ range. KeyRange-contains range hash) x)
+    go : (x : RangeResult) → map-err InvalidKeyRange (rangeOf x >>= told)
+        ≡ testTold (takeRange test.Refused x (λ range. test.Told (KeyRange-contains range hash)))
     go (Valid range) = refl
     go (Invalid error) = refl
 
 -- ---- calls on two ranges
 
 module _ (s e os oe : ℕ) (f g : KeyRange → KeyRange → Bool) where
+  abbrev answer : (x y : RangeResult) → TestAnswer
+  answer x y = takeRange test.Refused x (λ a. takeRange test.Refused y (λ b. test.Told (g a b)))
+
   second : Result KeyRange KeyRangeError → KeyRange → Result Bool KeyRangeError
   second y a = y >>= (λ b. Ok (f a b))
 
   -- two tests that agree on the ranges that the ends make
   both-agree : ((a b : KeyRange) → newKeyRange s e ≡ Valid a → newKeyRange os oe ≡ Valid b → f a b ≡ g a b)
-      → map-err InvalidKeyRange (both f s e os oe) ≡ testTold (testBoth g (pairBy (newKeyRange s e) (newKeyRange os oe)))
-  unfolding second testBoth pairBy
+      → map-err InvalidKeyRange (both f s e os oe) ≡ testTold (answer (newKeyRange s e) (newKeyRange os oe))
+  unfolding second
   both-agree h =
       ap₂ (λ (x y : Result KeyRange KeyRangeError). map-err InvalidKeyRange (x >>= second y)) (new-agrees s e) (new-agrees os oe)
       ∙ go (newKeyRange s e) (newKeyRange os oe) h
     where
       go : (x y : RangeResult) → ((a b : KeyRange) → x ≡ Valid a → y ≡ Valid b → f a b ≡ g a b)
-          → map-err InvalidKeyRange (rangeOf x >>= second (rangeOf y)) ≡ testTold (testBoth g (pairBy x y))
+          → map-err InvalidKeyRange (rangeOf x >>= second (rangeOf y)) ≡ testTold (answer x y)
       go (Invalid error) y k = refl
       go (Valid a) (Invalid error) k = refl
       go (Valid a) (Valid b) k = ap (λ (t : Bool). Ok t) (k a b refl refl)

@@ -71,7 +71,7 @@ module _ (id : SegmentId) (t : Text) (m : isMarkedName t ≡ false) where
       ∙ source-stage (parseSegmentTopic t)
 
 pub source-agrees : SourceAgrees
-unfolding segmentSource parseText
+unfolding segmentSource parseText sourceStage
 source-agrees id t u m = rw u (source-read id t m)
 
 -- ---- the path of a name
@@ -151,5 +151,5 @@ module _ (t : Text) (m : isMarkedName t ≡ false) where
   parent-stage out (parsed.Name n range id) (Err error) e = λ h. cc
 
 pub parent-topic-agrees : ParentTopicAgrees
-unfolding parentTopic parseText
+unfolding parentTopic parseText parentOutcome
 parent-topic-agrees t out u m = rw u (parent-stage t m out (parseSegmentTopic t) (parent-of t) (parent-read t m))

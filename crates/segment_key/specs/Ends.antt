@@ -9,13 +9,13 @@ use Rattle.segment_key.specs.declared.Least.{Least}
 use Rattle.segment_key.specs.declared.Least.the-variants.{Value, NoValue}
 
 -- the lesser of two values, if there are any
-abbrev pub lesserOf : Least → Least → Least
+abbrev pub lesserOf : (x y : Least) → Least
 lesserOf NoValue y = y
 lesserOf (Value a) NoValue = Value a
 lesserOf (Value a) (Value b) = Value (min a b)
 
 -- the least value of two ranges
-unfoldable pub leastCommon : KeyRange → KeyRange → Least
+unfoldable pub leastCommon : (a b : KeyRange) → Least
 leastCommon a b =
     cond (leb (max (a .start) (b .start)) (min (a .end) (b .end))) (Value (max (a .start) (b .start))) NoValue
 

@@ -2,10 +2,10 @@
 -- What an answer means, in 02's words, is said in specs/Answered.
 -- Assumes nothing.
 use Prim.Native.Nat.{ℕ}
-use mathlib.Core.Bool.{cond}
 use mathlib.Core.List.{List}
 use mathlib.Core.Option.{Option, some, none}
 use Rattle.refusal.specs.declared.Refusal.the-variants.{MalformedInput}
+use Rattle.refusal.specs.Steps.{_>>_, refuseUnless}
 use Rattle.keyed.specs.Keyed.{find}
 use Rattle.packed.specs.Assignment.{AssignedSegment, idOf, assignmentOf, isAssignment}
 use Rattle.test_key.specs.Inverse.{keyForHash}
@@ -27,5 +27,6 @@ keyIn none = NoKey
 
 -- "A malformed sheet is 20."
 unfoldable pub keyInSegment : (assignment : List ℕ) (id : ℕ) → KeyAnswer
-keyInSegment assignment id =
-    cond (isAssignment assignment) (keyIn (find idOf id (assignmentOf assignment .segments))) (Refused MalformedInput)
+keyInSegment assignment id = do
+  refuseUnless Refused (isAssignment assignment) MalformedInput  -- 20
+  keyIn (find idOf id (assignmentOf assignment .segments))

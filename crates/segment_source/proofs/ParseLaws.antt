@@ -117,7 +117,7 @@ module _ (t : List ℕ) where
           omega (arith, before-last-inside (drop 10 t) (p .0), p .1, length-drop 10 t, starts-long segmentScheme t h)
 
       name-parent : parseSegmentTopic t ≡ parentStage (drop 10 t)
-      unfolding parseSegmentTopic
+      unfolding parseSegmentTopic parentStage descriptorStage rangeStage
       name-parent = rw (h, slash-told (drop 10 t) n e .0)
 
       name-path : beforeLast (drop 10 t) ≡ take n (drop 10 t)
@@ -185,7 +185,7 @@ range-told n i (Invalid e) m r id q = absurd (refused-name q)
 range-told n i (Valid s) m r id q = (cc, cc, cc)
 
 pub name-told : (t : List ℕ) (n : ℕ) (range : KeyRange) (id : SegmentId) → parseSegmentTopic t ≡ Name n range id → IsName t n range id
-unfolding parseSegmentTopic parentStage descriptorStage
+unfolding parseSegmentTopic rangeStage
 name-told t n range id e =
     let one = cond-first (startsWith segmentScheme t && hasSlash (drop 10 t)) _ _ (Name n range id) refused-name e in
     let two = and-both (startsWith segmentScheme t) (hasSlash (drop 10 t)) (one .0) in

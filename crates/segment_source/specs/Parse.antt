@@ -10,15 +10,17 @@ use lib.ListN.{length, take, drop, getD}
 use lib.Dec.{eqb}
 use Rattle.types.specs.declared.SegmentId.{SegmentId}
 use Rattle.types.specs.declared.RangeResult.{RangeResult}
-use Rattle.types.specs.declared.RangeResult.the-variants.{Valid, Invalid}
+use Rattle.types.specs.declared.KeyRange.{KeyRange}
 use Rattle.types.specs.KeyRanges.{newKeyRange}
-use Rattle.refusal.specs.declared.Refusal.the-variants.{InvalidUtf8, InvalidKeyRange, InvalidParent, InvalidSegment, SegmentIdMismatch}
+use Rattle.refusal.specs.declared.Refusal.{Refusal}
+use Rattle.refusal.specs.declared.Refusal.the-variants.{InvalidUtf8, InvalidParent, InvalidSegment, SegmentIdMismatch}
+use Rattle.refusal.specs.Steps.{_>>_, _>>=_, refuseUnless, takeRange}
 use Rattle.parts.specs.Same.{startsWith}
 use Rattle.utf8.specs.Table.{isUtf8}
 use Rattle.parents.specs.Classes.{isSlash, isDash}
 use Rattle.parents.specs.Parents.{topicScheme, isPath}
 use Rattle.topic.specs.Names.{segmentScheme}
-use Rattle.topic.specs.Build.{Outcome, refuse, written}
+use Rattle.topic.specs.Build.{Outcome, unwritten, written}
 use Rattle.digits.specs.Digits.{decimalValue, hexValue, isHexWord, isSegmentId}
 use Rattle.segment_source.specs.declared.SourceAnswer.{SourceAnswer}
 use Rattle.segment_source.specs.declared.SourceAnswer.the-variants as source
@@ -60,46 +62,72 @@ isDescriptor d =
 
 -- ---- the name
 
--- 9: the range of a descriptor, behind a path that ends at the place pathEnd
-unfoldable pub rangeStage : ℕ → ℕ → RangeResult → Parsed
-rangeStage pathEnd id (Invalid e) = parsed.Refused (InvalidKeyRange e)
-rangeStage pathEnd id (Valid range) = parsed.Name pathEnd range (record { 0 = id })
-
--- 18: the descriptor
-unfoldable pub descriptorStage : ℕ → List ℕ → Parsed
-descriptorStage pathEnd d =
-    cond (isDescriptor d) (rangeStage pathEnd (decimalValue (idPart d)) (newKeyRange (hexValue (startPart d)) (hexValue (endPart d))))
-    (parsed.Refused InvalidSegment)
-
--- 12: the parent's path, where p is the text behind `segment://`
-unfoldable pub parentStage : List ℕ → Parsed
-parentStage p =
-    cond (isPath (beforeLast p)) (descriptorStage (10 + length (beforeLast p)) (drop (length (beforeLast p) + 1) p)) (parsed.Refused InvalidParent)
-
--- 18 without prefix or slash. A name is answered as the place where its path ends, its range and its id.
+-- A name is answered as the place where its path ends, its range and its id.
 unfoldable pub parseSegmentTopic : List ℕ → Parsed
-parseSegmentTopic t =
-    cond (startsWith segmentScheme t && hasSlash (drop 10 t)) (parentStage (drop 10 t)) (parsed.Refused InvalidSegment)
+parseSegmentTopic t = do
+  refuseUnless parsed.Refused (startsWith segmentScheme t && hasSlash (drop 10 t)) InvalidSegment  -- 18 without prefix or slash
+  let path = beforeLast (drop 10 t)
+  let d = drop (length path + 1) (drop 10 t)
+  refuseUnless parsed.Refused (isPath path) InvalidParent  -- 12
+  refuseUnless parsed.Refused (isDescriptor d) InvalidSegment  -- 18
+  range ← takeRange parsed.Refused (newKeyRange (hexValue (startPart d)) (hexValue (endPart d)))  -- 9
+  parsed.Name (10 + length path) range (record { 0 = decimalValue (idPart d) })
 
--- 7, before the name is read
 unfoldable pub parseText : List ℕ → Parsed
-parseText t = cond (isUtf8 t) (parseSegmentTopic t) (parsed.Refused InvalidUtf8)
+parseText t = do
+  refuseUnless parsed.Refused (isUtf8 t) InvalidUtf8  -- 7
+  parseSegmentTopic t  -- 18, 12, 18, 9
 
--- 19: the id in the name is the one given
-unfoldable pub sourceStage : SegmentId → Parsed → SourceAnswer
-sourceStage id (parsed.Refused x) = source.Refused x
-sourceStage id (parsed.Name pathEnd range topicId) =
-    cond (eqb (topicId .0) (id .0)) (source.Source (record { «segment_id» = id; «key_range» = range })) (source.Refused (SegmentIdMismatch id topicId))
+-- what was read of a name: the place where its path ends, its range and its id
+pub record ReadName : Type 0 where
+  pub pathEnd : ℕ
+  pub range : KeyRange
+  pub id : SegmentId
+
+abbrev pub takeName : {R : Type 0} → (Refusal → R) → Parsed → (ReadName → R) → R
+takeName refuse (parsed.Refused x) rest = refuse x
+takeName refuse (parsed.Name pathEnd range id) rest = rest (record { pathEnd = pathEnd; range = range; id = id })
 
 -- `SegmentSource::new`
 unfoldable pub segmentSource : SegmentId → List ℕ → SourceAnswer
-segmentSource id t = sourceStage id (parseText t)
+segmentSource id t = do
+  name ← takeName source.Refused (parseText t)  -- 7, 18, 12, 18, 9
+  refuseUnless source.Refused (eqb (name .id .0) (id .0)) (SegmentIdMismatch id (name .id))  -- 19
+  source.Source (record { «segment_id» = id; «key_range» = name .range })
 
--- 21: `topic://` and the path
-unfoldable pub parentOutcome : List ℕ → List ℕ → Parsed → Outcome
-parentOutcome t out (parsed.Refused x) = refuse x out
-parentOutcome t out (parsed.Name pathEnd range id) = written (topicScheme ++ take (pathEnd - 10) (drop 10 t)) out
+-- `SegmentSource::parent_topic` of a name: `topic://` and the path
+unfoldable pub parentTopic : (t out : List ℕ) → Outcome
+parentTopic t out = do
+  name ← takeName (unwritten out) (parseText t)  -- 7, 18, 12, 18, 9
+  written (topicScheme ++ take (name .pathEnd - 10) (drop 10 t)) out  -- 21
 
--- `SegmentSource::parent_topic` of a name
-unfoldable pub parentTopic : List ℕ → List ℕ → Outcome
-parentTopic t out = parentOutcome t out (parseText t)
+-- ---- Internal: the tails of `segmentSource` and `parentTopic` behind the name, which laws cite
+
+unfoldable pub sourceStage : SegmentId → Parsed → SourceAnswer
+sourceStage id x = do
+  name ← takeName source.Refused x
+  refuseUnless source.Refused (eqb (name .id .0) (id .0)) (SegmentIdMismatch id (name .id))
+  source.Source (record { «segment_id» = id; «key_range» = name .range })
+
+unfoldable pub parentOutcome : (t out : List ℕ) → Parsed → Outcome
+parentOutcome t out x = do
+  name ← takeName (unwritten out) x
+  written (topicScheme ++ take (name .pathEnd - 10) (drop 10 t)) out
+
+-- ---- Internal: the tails of `parseSegmentTopic`, from 12, 18 and 9 on, which a helper's contract and laws cite
+
+unfoldable pub rangeStage : (pathEnd id : ℕ) → RangeResult → Parsed
+rangeStage pathEnd id x = do
+  range ← takeRange parsed.Refused x
+  parsed.Name pathEnd range (record { 0 = id })
+
+unfoldable pub descriptorStage : (pathEnd : ℕ) (d : List ℕ) → Parsed
+descriptorStage pathEnd d = do
+  refuseUnless parsed.Refused (isDescriptor d) InvalidSegment
+  rangeStage pathEnd (decimalValue (idPart d)) (newKeyRange (hexValue (startPart d)) (hexValue (endPart d)))
+
+-- p is the text behind `segment://`
+unfoldable pub parentStage : (p : List ℕ) → Parsed
+parentStage p = do
+  refuseUnless parsed.Refused (isPath (beforeLast p)) InvalidParent
+  descriptorStage (10 + length (beforeLast p)) (drop (length (beforeLast p) + 1) p)

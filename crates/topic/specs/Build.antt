@@ -9,10 +9,10 @@ use lib.ListN.{length}
 use lib.Dec.{leb}
 use Rattle.types.specs.declared.SegmentId.{SegmentId}
 use Rattle.types.specs.declared.RangeResult.{RangeResult}
-use Rattle.types.specs.declared.RangeResult.the-variants.{Valid, Invalid}
 use Rattle.types.specs.KeyRanges.{newKeyRange}
 use Rattle.refusal.specs.declared.Refusal.{Refusal}
-use Rattle.refusal.specs.declared.Refusal.the-variants.{InvalidUtf8, InvalidKeyRange, InvalidParent, ResultTooLong}
+use Rattle.refusal.specs.declared.Refusal.the-variants.{InvalidUtf8, InvalidParent, ResultTooLong}
+use Rattle.refusal.specs.Steps.{_>>_, _>>=_, refuseUnless, takeRange}
 use Rattle.packed_int.specs.Put.{put}
 use Rattle.utf8.specs.Table.{isUtf8}
 use Rattle.topic.specs.declared.NameAnswer.{NameAnswer}
@@ -31,16 +31,25 @@ outcome answer out = record { answer = answer; out = out }
 abbrev pub refuse : Refusal → List ℕ → Outcome
 refuse x out = outcome (Refused x) out
 
+abbrev pub unwritten : (out : List ℕ) → Refusal → Outcome
+unwritten out x = refuse x out
+
 -- the text at the front of the output, and its length; 21 where it does not fit
-unfoldable pub written : List ℕ → List ℕ → Outcome
+unfoldable pub written : (text out : List ℕ) → Outcome
 written text out = cond (leb (length text) (length out)) (outcome (Written (length text)) (put out 0 text)) (refuse ResultTooLong out)
 
--- 9, then 12, then 21
-unfoldable pub buildName : List ℕ → RangeResult → SegmentId → List ℕ → Outcome
-buildName parent (Invalid e) id out = refuse (InvalidKeyRange e) out
-buildName parent (Valid range) id out = cond (isParent parent) (written (segmentTopic (pathOf parent) range id) out) (refuse InvalidParent out)
-
 -- `canonical_segment_topic` of a parent, a range given by its ends, and an id
-unfoldable pub canonicalSegmentTopic : List ℕ → ℕ → ℕ → SegmentId → List ℕ → Outcome
-canonicalSegmentTopic parent start end id out =
-    cond (isUtf8 parent) (buildName parent (newKeyRange start end) id out) (refuse InvalidUtf8 out)
+unfoldable pub canonicalSegmentTopic : (parent : List ℕ) (start end : ℕ) (id : SegmentId) (out : List ℕ) → Outcome
+canonicalSegmentTopic parent start end id out = do
+  refuseUnless (unwritten out) (isUtf8 parent) InvalidUtf8  -- 7
+  range ← takeRange (unwritten out) (newKeyRange start end)  -- 9
+  refuseUnless (unwritten out) (isParent parent) InvalidParent  -- 12
+  written (segmentTopic (pathOf parent) range id) out  -- 21
+
+-- ---- Internal: the tail from 9 on, which laws cite
+
+unfoldable pub buildName : (parent : List ℕ) → RangeResult → SegmentId → (out : List ℕ) → Outcome
+buildName parent x id out = do
+  range ← takeRange (unwritten out) x
+  refuseUnless (unwritten out) (isParent parent) InvalidParent
+  written (segmentTopic (pathOf parent) range id) out

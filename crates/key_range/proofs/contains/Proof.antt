@@ -1,7 +1,7 @@
 -- `contains` meets its contract, by the answer of `KeyRange::new`.
 -- Assumes nothing.
 use mathlib.Core.Path.{sym, _∙_}
-use Rattle.key_range.specs.Calls.{containsOf, testBy}
+use Rattle.key_range.specs.Calls.{containsOf}
 use borrow.Author.Needs.{needs}
 use Rattle.key_range.proofs.contains.Statement.{statement}
 use Rattle.key_range.proofs.contains.Tie as tie
@@ -19,11 +19,11 @@ holds-hash-requires : tie.Need-holds-hash-requires
 holds-hash-requires c κs = search needs
 
 returns : tie.Need-returns
-unfolding containsOf testBy
+unfolding containsOf
 returns c = let e = sym (c .before .before .before .new .ensures) ∙ c .before .source .given .1 in rw e
 
 returns-2 : tie.Need-returns-2
-unfolding containsOf testBy
+unfolding containsOf
 returns-2 c =
     let e = sym (c .before .before .before .before .new .ensures) ∙ c .before .before .range .given .1 in
     rw (e, c .holds-hash .ensures)

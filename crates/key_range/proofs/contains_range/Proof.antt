@@ -1,7 +1,9 @@
 -- `contains_range` meets its contract, by the answer of `both`.
 -- Assumes nothing.
-use mathlib.Core.Path.{sym, _∙_}
-use Rattle.key_range.specs.Calls.{containsRangeOf, testBoth}
+use mathlib.Core.Path.{sym, ap, _∙_}
+use Rattle.key_range.specs.Calls.{holdsRange, containsRangeOf}
+use Rattle.key_range.specs.declared.TestAnswer.the-variants.{Told}
+use Rattle.key_range.proofs.PairLaws.{testBoth, by-pair}
 use borrow.Author.Needs.{needs}
 use Rattle.key_range.proofs.contains_range.Statement.{statement}
 use Rattle.key_range.proofs.contains_range.Tie as tie
@@ -19,14 +21,16 @@ holds-range-requires : tie.Need-holds-range-requires
 holds-range-requires c κs = search needs
 
 returns : tie.Need-returns
-unfolding containsRangeOf testBoth
-returns c = let e = sym (c .before .before .before .both .ensures) ∙ c .before .source .given .1 in rw e
+unfolding containsRangeOf
+returns c =
+    let e = sym (c .before .before .before .both .ensures) ∙ c .before .source .given .1 in
+    sym (by-pair holdsRange _ _ ∙ ap (testBoth holdsRange) e)
 
 returns-2 : tie.Need-returns-2
-unfolding containsRangeOf testBoth
+unfolding containsRangeOf
 returns-2 c =
     let e = sym (c .before .before .before .before .both .ensures) ∙ c .before .before .a .given .1 in
-    rw (e, c .holds-range .ensures)
+    ap Told (c .holds-range .ensures) ∙ sym (by-pair holdsRange _ _ ∙ ap (testBoth holdsRange) e)
 
 pub contains-range-spec : {M : Type 1} → statement M
 contains-range-spec =

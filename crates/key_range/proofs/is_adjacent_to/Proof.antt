@@ -1,7 +1,9 @@
 -- `is_adjacent_to` meets its contract, by the answer of `both`.
 -- Assumes nothing.
-use mathlib.Core.Path.{sym, _∙_}
-use Rattle.key_range.specs.Calls.{isAdjacentOf, testBoth}
+use mathlib.Core.Path.{sym, ap, _∙_}
+use Rattle.key_range.specs.Calls.{touches, isAdjacentOf}
+use Rattle.key_range.specs.declared.TestAnswer.the-variants.{Told}
+use Rattle.key_range.proofs.PairLaws.{testBoth, by-pair}
 use borrow.Author.Needs.{needs}
 use Rattle.key_range.proofs.is_adjacent_to.Statement.{statement}
 use Rattle.key_range.proofs.is_adjacent_to.Tie as tie
@@ -19,14 +21,16 @@ touch-requires : tie.Need-touch-requires
 touch-requires c κs = search needs
 
 returns : tie.Need-returns
-unfolding isAdjacentOf testBoth
-returns c = let e = sym (c .before .before .before .both .ensures) ∙ c .before .source .given .1 in rw e
+unfolding isAdjacentOf
+returns c =
+    let e = sym (c .before .before .before .both .ensures) ∙ c .before .source .given .1 in
+    sym (by-pair touches _ _ ∙ ap (testBoth touches) e)
 
 returns-2 : tie.Need-returns-2
-unfolding isAdjacentOf testBoth
+unfolding isAdjacentOf
 returns-2 c =
     let e = sym (c .before .before .before .before .both .ensures) ∙ c .before .before .a .given .1 in
-    rw (e, c .touch .ensures)
+    ap Told (c .touch .ensures) ∙ sym (by-pair touches _ _ ∙ ap (testBoth touches) e)
 
 pub is-adjacent-to-spec : {M : Type 1} → statement M
 is-adjacent-to-spec =

@@ -3,7 +3,7 @@
 use native.Mathlib.Omega.{arith}
 use mathlib.Core.Path.{sym, _∙_}
 use Rattle.types.proofs.KeyRangeLaws.{new-valid}
-use Rattle.key_range.specs.Calls.{lengthOf, lengthBy}
+use Rattle.key_range.specs.Calls.{lengthOf}
 use borrow.Author.Needs.{needs}
 use Rattle.key_range.proofs.len.Statement.{statement}
 use Rattle.key_range.proofs.len.Tie as tie
@@ -28,11 +28,11 @@ add-t9 c =
     omega (arith, new-valid _ _ _ e)
 
 returns : tie.Need-returns
-unfolding lengthOf lengthBy
+unfolding lengthOf
 returns c = let e = sym (c .before .before .before .new .ensures) ∙ c .before .source .given .1 in rw e
 
 returns-2 : tie.Need-returns-2
-unfolding lengthOf lengthBy
+unfolding lengthOf
 returns-2 c = let e = sym (c .before .before .before .before .new .ensures) ∙ c .before .before .range .given .1 in rw e
 
 pub len-spec : {M : Type 1} → statement M
