@@ -70,11 +70,8 @@ watched x buffer out = record { reply = x; buffer = buffer; out = out }
 
 pub watch-call :
     {x : Reply} {a : WatchAnswer} {buffer out : List ℕ} {o : watch.Outcome} →
-    x ≡ watchReply a → (a ≡ o .answer) × (buffer ≡ o .buffer) × (out ≡ o .out) → watched x buffer out ≡ watchOf o
-watch-call {buffer = buffer} {out = out} {o = o} e f =
-    ap (λ (y : Reply). watched y buffer out) (e ∙ ap watchReply (f .0))
-    ∙ ap (λ (b : List ℕ). watched (watchReply (o .answer)) b out) (f .1)
-    ∙ ap (λ (l : List ℕ). watched (watchReply (o .answer)) (o .buffer) l) (f .2)
+    x ≡ watchReply a → watch.outcome a buffer out ≡ o → watched x buffer out ≡ watchOf o
+watch-call {buffer = buffer} {out = out} e f = ap (λ (y : Reply). watched y buffer out) e ∙ ap watchOf f
 
 pub log-call : {deltas entries : List ℕ} {x : Reply} (a : LogAnswer) → Checked deltas entries a → x ≡ logReply a → LogReply deltas entries x
 log-call a h e = record { answer = a; checked = h; reply-is = e }

@@ -151,7 +151,7 @@ module _ (buffer out : List ℕ) where
       let w = watchUpdateOf m in choose Moves (not (eqb (w .watchId) id)) (λ t. (refl, refl)) (λ t. moves-event old w (w .event))
 
   moves : (id used : ℕ) (m : List ℕ) → Moves (handleUpdate buffer out id used m)
-  unfolding handleUpdate
+  unfolding handleUpdate forWatch byEvent settle
   moves id used m =
       choose Moves (leb used (length buffer) && isSet (take used buffer))
       (λ e. moves-checked id (topicsOf (take used buffer)) m (firstFault CommandWatchScalableTopicsUpdate m)) (λ e. (refl, refl))

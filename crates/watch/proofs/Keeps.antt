@@ -260,7 +260,7 @@ module _ (buffer out : List ℕ) where
   pub leaves-of-short : (id used : ℕ) (message : List ℕ) → (isSet (take used buffer) ≡ true → allShort (topicsOf (take used buffer)) ≡ true)
       → (a b : ℕ) → handleUpdate buffer out id used message .answer ≡ answer.Changed a b
       → isSet (take a (handleUpdate buffer out id used message .buffer)) ≡ true
-  unfolding handleUpdate
+  unfolding handleUpdate forWatch byEvent settle
   leaves-of-short id used message t =
       choose Leaves (leb used (length buffer) && isSet (take used buffer))
       (λ e. let g = both-true (leb used (length buffer)) (isSet (take used buffer)) e .1 in

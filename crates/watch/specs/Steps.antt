@@ -14,7 +14,7 @@ use Rattle.watch.specs.declared.Room.the-variants as rooms
 use Rattle.watch.specs.Watch.{diffIn}
 
 -- what is left of the set at the front of a buffer without the topics of a packed list
-abbrev pub rest : List ℕ → ℕ → List ℕ → List (List ℕ)
+abbrev pub rest : (buffer : List ℕ) (used : ℕ) (removed : List ℕ) → List (List ℕ)
 rest buffer used removed = without (topicsOf (take used buffer)) (topicsOf removed)
 
 -- the lists of the diff that is field 3 of p, against the set old
@@ -34,7 +34,7 @@ pub record DiffFits (old : List (List ℕ)) (p : List ℕ) (setRoom outRoom : �
   pub out-fits : OutFits old p outRoom
 
 -- what is told of the rooms
-abbrev pub RoomIs : List (List ℕ) → List ℕ → ℕ → ℕ → Room → Type 0
+abbrev pub RoomIs : (old : List (List ℕ)) (p : List ℕ) (setRoom outRoom : ℕ) → Room → Type 0
 RoomIs old p setRoom outRoom rooms.Fits = DiffFits old p setRoom outRoom
 RoomIs old p setRoom outRoom rooms.NoSet = setRoom < sizeTopics (diffIn old p .topics)
 RoomIs old p setRoom outRoom rooms.NoOutput =

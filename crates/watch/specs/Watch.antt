@@ -4,20 +4,21 @@
 -- 31, 21; a refusal changes nothing.
 -- Assumes nothing.
 use Prim.Native.Nat.{ℕ, _+_, _^_}
-use mathlib.Core.Bool.{Bool, true, cond, not, _&&_}
+use mathlib.Core.Bool.{not, _&&_}
 use mathlib.Core.List.{List, [], _∷_, _++_}
 use lib.ListN.{length, take}
 use lib.Dec.{leb, ltb, eqb}
 use Rattle.refusal.specs.declared.Refusal.{Refusal}
 use Rattle.refusal.specs.declared.Refusal.the-variants.{MalformedSet, WatchMismatch, Broker, EmptyUpdate, SetTooLong, ResultTooLong}
+use Rattle.refusal.specs.Steps.{_>>_, _>>=_, refuseIf, refuseUnless}
 use Rattle.packed_int.specs.Be.{bytesOf}
 use Rattle.packed_int.specs.Put.{put}
 use Rattle.wire.specs.Fields.{Field, fieldsOf}
 use Rattle.values.specs.Values.{partsOf, mergedFields}
 use Rattle.schema.specs.declared.MessageKind.the-variants.{CommandWatchScalableTopicsUpdate}
 use Rattle.schema.specs.declared.Checked.{Checked}
-use Rattle.schema.specs.declared.Checked.the-variants.{Valid, Refused}
 use Rattle.schema.specs.FirstFault.{firstFault}
+use Rattle.schema.specs.Steps.{refuseFault}
 use Rattle.readers.specs.declared.ErrorCode.{ErrorCode}
 use Rattle.readers.specs.declared.ErrorCode.the-variants.{Given, Absent}
 use Rattle.readers.specs.Messages.{WireEvent, none, snapshot, diff, WireWatchUpdate, watchUpdateOf}
@@ -41,11 +42,11 @@ unfoldable pub snapshotChange : List (List ℕ) → Change
 snapshotChange topics = record { named = topics; topics = sorted topics; added = 0; output = 0 ∷ encodeTopics (sorted topics) }
 
 -- "byte 1, 32-bit byte length of the added list, added, removed, each entry packed as in the set"
-abbrev pub diffOutput : List (List ℕ) → List (List ℕ) → List ℕ
+abbrev pub diffOutput : (added removed : List (List ℕ)) → List ℕ
 diffOutput added removed = 1 ∷ (bytesOf 4 (sizeTopics added) ++ (encodeTopics added ++ encodeTopics removed))
 
 -- "a diff removes, then adds ... Removed lists, once each, topics that were in the set; added lists those not in it after the removals."
-unfoldable pub diffChange : List (List ℕ) → List (List ℕ) → List (List ℕ) → Change
+unfoldable pub diffChange : (old added removed : List (List ℕ)) → Change
 diffChange old added removed =
     record {
       named = added ++ removed;
@@ -76,50 +77,62 @@ pub record Outcome : Type 0 where
   pub buffer : List ℕ
   pub out : List ℕ
 
+abbrev pub outcome : WatchAnswer → (buffer out : List ℕ) → Outcome
+outcome answer buffer out = record { answer = answer; buffer = buffer; out = out }
+
 -- 16 where there is an error code, else 17
 abbrev pub noEvent : ℕ → ErrorCode → Refusal
 noEvent id (Given code) = Broker code
 noEvent id Absent = EmptyUpdate id
 
 module _ (buffer out : List ℕ) where
+  -- a refusal changes nothing
   abbrev pub refuse : Refusal → Outcome
-  refuse x = record { answer = answer.Refused x; buffer = buffer; out = out }
+  refuse x = outcome (answer.Refused x) buffer out
+
+  -- what the event asks for, where there is one
+  abbrev pub takeEvent : (old : List (List ℕ)) → WireWatchUpdate → WireEvent → (Change → Outcome) → Outcome
+  takeEvent old u (snapshot fs) rest = rest (snapshotBy fs)
+  takeEvent old u (diff fs) rest = rest (diffBy old fs)
+  takeEvent old u none rest = refuse (noEvent (u .watchId) (u .error))
 
   -- the new set and the output are written, each from its first byte, and their lengths answered
   abbrev pub done : Change → Outcome
   done c =
-      record {
-        answer = answer.Changed (sizeTopics (c .topics)) (length (c .output));
-        buffer = put buffer 0 (encodeTopics (c .topics));
-        out = put out 0 (c .output);
-      }
+      outcome (answer.Changed (sizeTopics (c .topics)) (length (c .output))) (put buffer 0 (encodeTopics (c .topics))) (put out 0 (c .output))
 
   -- 31: "new set longer than its buffer, or any topic in the message's event above 65,535 bytes"; 21: "result longer than the output ... or an added list of 2^32 bytes
   -- or more"
+  unfoldable pub handleUpdate : (id used : ℕ) (message : List ℕ) → Outcome
+  handleUpdate id used message = do
+    refuseUnless refuse (leb used (length buffer) && isSet (take used buffer)) MalformedSet  -- 30
+    refuseFault refuse (firstFault CommandWatchScalableTopicsUpdate message)  -- 3, 4, 7, 6
+    let u = watchUpdateOf message
+    refuseIf refuse (not (eqb (u .watchId) id)) (WatchMismatch (u .watchId) id)  -- 29
+    c ← takeEvent (topicsOf (take used buffer)) u (u .event)  -- 16 or 17
+    refuseUnless refuse (allShort (c .named) && leb (sizeTopics (c .topics)) (length buffer)) SetTooLong  -- 31
+    refuseUnless refuse (ltb (c .added) (2 ^ 32) && leb (length (c .output)) (length out)) ResultTooLong  -- 21
+    done c
+
+  -- ---- Internal: the tails from 31, from 16, from 29 and from 3 on, which the contracts of helpers and laws cite
+
   unfoldable pub settle : Change → Outcome
-  settle c =
-      cond (allShort (c .named) && leb (sizeTopics (c .topics)) (length buffer))
-      (cond (ltb (c .added) (2 ^ 32) && leb (length (c .output)) (length out)) (done c) (refuse ResultTooLong))
-      (refuse SetTooLong)
+  settle c = do
+    refuseUnless refuse (allShort (c .named) && leb (sizeTopics (c .topics)) (length buffer)) SetTooLong
+    refuseUnless refuse (ltb (c .added) (2 ^ 32) && leb (length (c .output)) (length out)) ResultTooLong
+    done c
 
-  -- 16 or 17 where there is no event
-  unfoldable pub byEvent : List (List ℕ) → WireWatchUpdate → WireEvent → Outcome
-  byEvent old u (snapshot fs) = settle (snapshotBy fs)
-  byEvent old u (diff fs) = settle (diffBy old fs)
-  byEvent old u none = refuse (noEvent (u .watchId) (u .error))
+  unfoldable pub byEvent : (old : List (List ℕ)) → WireWatchUpdate → WireEvent → Outcome
+  byEvent old u e = do
+    c ← takeEvent old u e
+    settle c
 
-  -- 29
-  unfoldable pub forWatch : ℕ → List (List ℕ) → WireWatchUpdate → Outcome
-  forWatch id old u = cond (not (eqb (u .watchId) id)) (refuse (WatchMismatch (u .watchId) id)) (byEvent old u (u .event))
+  unfoldable pub forWatch : (id : ℕ) (old : List (List ℕ)) → WireWatchUpdate → Outcome
+  forWatch id old u = do
+    refuseIf refuse (not (eqb (u .watchId) id)) (WatchMismatch (u .watchId) id)
+    byEvent old u (u .event)
 
-  -- 3, 4, 7, 6
-  abbrev pub whenChecked : ℕ → List (List ℕ) → List ℕ → Checked → Outcome
-  whenChecked id old message (Refused x) = refuse x
-  whenChecked id old message Valid = forWatch id old (watchUpdateOf message)
-
-  -- 30
-  unfoldable pub handleUpdate : ℕ → ℕ → List ℕ → Outcome
-  handleUpdate id used message =
-      cond (leb used (length buffer) && isSet (take used buffer))
-      (whenChecked id (topicsOf (take used buffer)) message (firstFault CommandWatchScalableTopicsUpdate message))
-      (refuse MalformedSet)
+  abbrev pub whenChecked : (id : ℕ) (old : List (List ℕ)) (message : List ℕ) → Checked → Outcome
+  whenChecked id old message c = do
+    refuseFault refuse c
+    forWatch id old (watchUpdateOf message)

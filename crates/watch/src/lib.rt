@@ -12,7 +12,7 @@ ghost use Rattle.topic_window.specs.Lists.{namedIn};
 ghost use Rattle.topic_window.specs.Window.{OrdersOf};
 ghost use Rattle.topic_merge.specs.Merge.{Apart, Rises};
 ghost use Rattle.topic_sort.specs.Chunks.{SortedTo};
-ghost use Rattle.watch.specs.Watch.{snapshotIn, diffIn, done, settle, noEvent, forWatch, handleUpdate};
+ghost use Rattle.watch.specs.Watch.{snapshotIn, diffIn, outcome, done, settle, noEvent, forWatch, handleUpdate};
 ghost use Rattle.watch.specs.Steps.{rest, addedIn, removedIn, OutFits, DiffFits, RoomIs};
 use readers::ErrorCode;
 use readers::Event;
@@ -299,9 +299,8 @@ pub fn handle_update(
     message: &[u8],
     out: &mut [u8],
 ) -> WatchAnswer
-    ensures { λ r. ⌜ (r ≡ handleUpdate (now (buffer .entry)) (now (out .entry)) «watch_id» used (now (message .entry)) .answer)
-        × (now (buffer .exit) ≡ handleUpdate (now (buffer .entry)) (now (out .entry)) «watch_id» used (now (message .entry)) .buffer)
-        × (now (out .exit) ≡ handleUpdate (now (buffer .entry)) (now (out .entry)) «watch_id» used (now (message .entry)) .out) ⌝ }
+    ensures { λ r. ⌜ outcome r (now (buffer .exit)) (now (out .exit))
+        ≡ handleUpdate (now (buffer .entry)) (now (out .entry)) «watch_id» used (now (message .entry)) ⌝ }
 {
     if buffer.len() < used {
         return WatchAnswer::Refused(Refusal::MalformedSet);

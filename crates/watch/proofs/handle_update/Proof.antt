@@ -7,8 +7,7 @@ use lib.ListN.{take}
 use borrow.Author.Tests.{not-true, not-false}
 use borrow.Author.Needs.{needs}
 use Rattle.topics.specs.Packed.{isSet}
-use Rattle.watch.proofs.UpdateLaws.{set-over, set-bad, checked}
-use Rattle.watch.proofs.SettleLaws.{tell, tell-as}
+use Rattle.watch.proofs.UpdateLaws.{set-over, set-bad, checked, told-by}
 use Rattle.watch.proofs.handle_update.Statement.{statement}
 use Rattle.watch.proofs.handle_update.Tie as tie
 use Rattle.watch.proofs.handle_update.Reads as reads
@@ -18,7 +17,7 @@ use Rattle.messages.proofs.first_fault.Reads as first-fault-reads
 use Rattle.topics.proofs.is_set.Reads as is-set-reads
 
 returns : tie.Need-returns
-returns c = tell _ _ _ _ (set-over _ _ _ _ _ (c .if1 .taken))
+returns c = sym (set-over _ _ _ _ _ (c .if1 .taken))
 
 abbrev claims : lts.Claims
 claims = (
@@ -53,7 +52,7 @@ same-length : tie.Need-same-length
 same-length c = search needs
 
 returns-2 : tie.Need-returns-2
-returns-2 c = tell _ _ _ _ (set-bad _ _ _ _ _ (sym (c .before .is-set .ensures) ∙ not-true _ (c .if2 .taken)))
+returns-2 c = sym (set-bad _ _ _ _ _ (sym (c .before .is-set .ensures) ∙ not-true _ (c .if2 .taken)))
 
 first-fault-requires : tie.Need-first-fault-requires
 first-fault-requires c κs = search needs
@@ -74,7 +73,7 @@ returns-3 : tie.Need-returns-3
 returns-3 c =
     let f = c .before .before .before .before in
     let e = sym (c .before .x .given .1) ∙ c .before .before .before .first-fault .ensures in
-    tell _ _ _ _ (checked _ _ _ _ _ (f .before .before .before .if1 .left) (good f) _ e)
+    sym (checked _ _ _ _ _ (f .before .before .before .if1 .left) (good f) _ e)
 
 same-length-3 : tie.Need-same-length-3
 same-length-3 c = search needs
@@ -88,7 +87,7 @@ returns-4 c =
     let t = c .before .before .before .before .before .before .before in
     let e = sym (t .enum-told .given .1) ∙ t .before .before .first-fault .ensures in
     let u = c .before .before .before .before .update .ensures in
-    tell-as _ _ _ _ _ (checked _ _ _ _ _ (f .before .before .before .if1 .left) (good f) _ e) u
+    told-by _ _ _ _ _ (checked _ _ _ _ _ (f .before .before .before .if1 .left) (good f) _ e) u
 
 pub handle-update-spec : {M : Type 1} → statement M
 handle-update-spec =
