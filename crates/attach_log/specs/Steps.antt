@@ -46,7 +46,7 @@ abbrev pub partIn : (attach : Bool) (s : List ℕ) (at n : ℕ) (log : List ℕ)
 partIn attach s at n log q m = allIn (map (entryFor attach) (idsIn attach n (drop at s))) (entriesIn m (drop q log))
 
 -- the front delta of s, with so many ids and records, has its entries at the front of the log
-unfoldable pub deltaIn : List ℕ → ℕ → ℕ → List ℕ → Bool
+unfoldable pub deltaIn : (s : List ℕ) (lost gained : ℕ) (log : List ℕ) → Bool
 deltaIn s lost gained log =
     allIn (map Detach (idsOf lost (drop 12 s))) (entriesIn lost log)
     && allIn (map attachOf (segmentsOf gained (drop (12 + 8 * lost) s))) (entriesIn gained (drop (9 * lost) log))

@@ -48,7 +48,7 @@ abbrev pub isValid : RangeResult → Bool
 isValid (Valid r) = true
 isValid (Invalid e) = false
 
-abbrev pub isBucket : ℤ → ℤ → Bool
+abbrev pub isBucket : (start end : ℤ) → Bool
 isBucket (pos start) (pos end) = isValid (newKeyRange start end)
 isBucket (pos start) (negsuc end) = false
 isBucket (negsuc start) end = false
@@ -78,7 +78,7 @@ abbrev pub overlapFault : WireSegment → Option Refusal
 overlapFault w = cond (anyOverlap (bucketsOf w)) (some (OverlappingBucketRanges (wireId w))) none
 
 -- 34: "A bucket not wholly inside is to be turned down" (02 e); the bucket lies wholly inside the segment's range
-abbrev pub isInside : KeyRange → KeyRange → Bool
+abbrev pub isInside : (range bucket : KeyRange) → Bool
 isInside range bucket = leb (range .start) (bucket .start) && leb (bucket .end) (range .end)
 
 -- "the first such bucket": its place, counted from index on
@@ -127,7 +127,7 @@ abbrev pub duplicateFault : List ℕ → WireSegment → Option Refusal
 duplicateFault seen w = cond (holds self (w .segmentId) seen) (some (DuplicateSegment (wireId w))) none
 
 -- the first refusal in wire order; seen are the ids of the segments before
-unfoldable pub firstRefusal : List ℕ → List ℕ → List WireSegment → Option Refusal
+unfoldable pub firstRefusal : (parent seen : List ℕ) → List WireSegment → Option Refusal
 firstRefusal parent seen [] = none
 firstRefusal parent seen (w ∷ ws) =
     orElse (segmentFault parent w) (orElse (duplicateFault seen w) (firstRefusal parent (w .segmentId ∷ seen) ws))

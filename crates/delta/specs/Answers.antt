@@ -15,7 +15,7 @@ use Rattle.delta.specs.declared.DeltaRead.the-variants as read
 use Rattle.delta.specs.Delta.{deltaOf, sizeDelta, startsDelta, isDelta}
 
 -- n good records whose ids rise stand from the place at on: the place behind them
-unfoldable pub recordsTo : List ℕ → ℕ → ℕ → RecordsTo
+unfoldable pub recordsTo : (s : List ℕ) (at n : ℕ) → RecordsTo
 recordsTo s at n =
     cond (leb (at + sizeSegments (segmentsOf n (drop at s))) (length s) && okFrom 0 (segmentsOf n (drop at s)))
     (to.End (at + sizeSegments (segmentsOf n (drop at s))))

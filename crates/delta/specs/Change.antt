@@ -14,11 +14,11 @@ hasSame [] g = false
 hasSame (h ∷ hs) g = sameSegment g h || hasSame hs g
 
 -- the records of gs without an identical one in hs
-unfoldable pub without : List AssignedSegment → List AssignedSegment → List AssignedSegment
+unfoldable pub without : (gs hs : List AssignedSegment) → List AssignedSegment
 without gs hs = filter (λ g. not (hasSame hs g)) gs
 
 -- "Lost: old ids absent or altered. Gained: new records without an identical old one."
-unfoldable pub deltaBetween : ConsumerAssignment → ConsumerAssignment → AssignmentDelta
+unfoldable pub deltaBetween : (old new : ConsumerAssignment) → AssignmentDelta
 deltaBetween old new =
     record {
       layoutEpoch = new .layoutEpoch;

@@ -84,11 +84,11 @@ pub record PutReady (b : List ℕ) (used at size : ℕ) (p : List ℕ) (scan : S
   pub buckets : take (4 * length (segmentOf p .bucketRanges)) (drop (used + 14) b) ≡ encodeRanges (bucketsOf (segmentOf p))
 
 -- bytes put in at a place, those from there to the used ones' end moved up
-abbrev pub insertedAt : List ℕ → ℕ → ℕ → List ℕ → List ℕ
+abbrev pub insertedAt : (b : List ℕ) (used at : ℕ) (bytes : List ℕ) → List ℕ
 insertedAt b used at bytes = put b at (bytes ++ take (used - at) (drop at b))
 
 -- where the buffer b holds m records from the place 10 on: the segment is refused, by itself or for its id; or its record has no room; or it is in its place
-abbrev pub AddedIs : List ℕ → ℕ → List ℕ → WireSegment → List ℕ → Added → Type 0
+abbrev pub AddedIs : (b : List ℕ) (m : ℕ) (parent : List ℕ) → WireSegment → (b′ : List ℕ) → Added → Type 0
 AddedIs b m parent w b′ (added.Refused x) =
     (segmentFault parent w ≡ some x)
     ⊎ ((segmentFault parent w ≡ none) × (holds idOf (w .segmentId) (segmentsOf m (drop 10 b)) ≡ true) × (x ≡ DuplicateSegment (record { 0 = w .segmentId })))
@@ -102,6 +102,6 @@ AddedIs b m parent w b′ (added.Size id size) =
 -- ---- the answer
 
 -- the packed assignment at the front of the buffer, and its size; or the refusal
-abbrev pub IntakeIs : List ℕ → Intake → List ℕ → Content → Type 0
+abbrev pub IntakeIs : (b : List ℕ) → Intake → (b′ : List ℕ) → Content → Type 0
 IntakeIs b r b′ (refused x) = r ≡ intake.Refused x
 IntakeIs b r b′ (taken a) = (r ≡ intake.Taken (sizeAssignment a)) × (b′ ≡ put b 0 (encodeAssignment a))

@@ -8,7 +8,7 @@ use Prim.Native.Nat.{ℕ, _<_}
 use lib.Dec.{eqb, ltb}
 
 -- the first where there is one, else the second
-abbrev pub orElse : {A : Type 0} → Option A → Option A → Option A
+abbrev pub orElse : {A : Type 0} → (x o : Option A) → Option A
 orElse (some a) o = some a
 orElse none o = o
 
@@ -57,6 +57,6 @@ module _ {A : Type 0} (key : A → ℕ) where
   insert x (y ∷ ys) = cond (ltb (key x) (key y)) (x ∷ (y ∷ ys)) (cond (eqb (key x) (key y)) (x ∷ ys) (y ∷ insert x ys))
 
   -- each entry of the first list inserted into the second
-  abbrev pub insertAll : List A → List A → List A
+  abbrev pub insertAll : (xs ys : List A) → List A
   insertAll [] ys = ys
   insertAll (x ∷ xs) ys = insert x (insertAll xs ys)

@@ -12,7 +12,7 @@ use Rattle.log_entries.specs.declared.Entry.{Entry}
 use Rattle.log_entries.specs.declared.Entry.the-variants.{Detach, Attach}
 use Rattle.log_entries.specs.Passes.{detaches, attaches}
 
-unfoldable pub sameEntry : Entry → Entry → Bool
+unfoldable pub sameEntry : (x y : Entry) → Bool
 sameEntry (Detach i) (Detach j) = eqb i j
 sameEntry (Detach i) (Attach j) = false
 sameEntry (Attach i) (Detach j) = false
@@ -23,7 +23,7 @@ hasEntry e [] = false
 hasEntry e (x ∷ xs) = sameEntry x e || hasEntry e xs
 
 -- each entry of the first list is in the second
-unfoldable pub allIn : List Entry → List Entry → Bool
+unfoldable pub allIn : (xs es : List Entry) → Bool
 allIn [] es = true
 allIn (x ∷ xs) es = hasEntry x es && allIn xs es
 

@@ -41,7 +41,7 @@ deltasOf l = deltasAtMost (length l) l
 -- ---- the log
 
 -- the entry of 72 bits: the highest bit, then 64, then 7
-unfoldable pub entryWith : ℕ → ℕ → Entry
+unfoldable pub entryWith : (bit id : ℕ) → Entry
 entryWith zero id = Detach id
 entryWith (suc bit) id = Attach id
 

@@ -16,7 +16,7 @@ use Rattle.log_entries.specs.declared.LogAnswer.the-variants.{Told, Refu
 use Rattle.log_entries.specs.Log.{areDeltas, deltasOf, isLog, entriesOf}
 
 -- es is a permutation of the list: its first stands somewhere in es, and the rest of es is a permutation of its rest
-unfoldable pub Permutes : List Entry → List Entry → Type 0
+unfoldable pub Permutes : (es xs : List Entry) → Type 0
 Permutes es [] = es ≡ []
 Permutes es (x ∷ xs) = (a : List Entry) × (b : List Entry) × (es ≡ a ++ (x ∷ b)) × Permutes (a ++ b) xs
 

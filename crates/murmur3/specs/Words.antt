@@ -5,10 +5,10 @@
 use Prim.Native.Nat.{ℕ, _+_, _-_, _*_, _/_, _%_, _^_}
 use lib.Bits.{bitXor}
 
-unfoldable pub wrappingAdd : ℕ → ℕ → ℕ
+unfoldable pub wrappingAdd : (a b : ℕ) → ℕ
 wrappingAdd a b = (a + b) % 2 ^ 32
 
-unfoldable pub wrappingMul : ℕ → ℕ → ℕ
+unfoldable pub wrappingMul : (a b : ℕ) → ℕ
 wrappingMul a b = (a * b) % 2 ^ 32
 
 unfoldable pub xor : ℕ → ℕ → ℕ

@@ -22,7 +22,7 @@ use Rattle.overlay.specs.declared.Fit.the-variants.{Size, Beyond}
 -- ---- records
 
 -- lost ids are struck, then gained records are written over any with their id
-unfoldable pub overlay : List ℕ → List AssignedSegment → List AssignedSegment → List AssignedSegment
+unfoldable pub overlay : (lost : List ℕ) (gained gs : List AssignedSegment) → List AssignedSegment
 overlay lost gained gs = insertAll idOf gained (strike lost gs)
 
 -- the records, or the ids, of a row in the bytes s
@@ -55,7 +55,7 @@ stepAtEnd [] = End
 stepAtEnd (g ∷ gained) = Gain
 
 -- the next step, by the first of each row
-unfoldable pub stepOf : List ℕ → List AssignedSegment → List AssignedSegment → Step
+unfoldable pub stepOf : (lost : List ℕ) (gained gs : List AssignedSegment) → Step
 stepOf lost gained [] = stepAtEnd gained
 stepOf lost gained (g ∷ gs) = stepByGained (g .segmentId) gained lost
 
@@ -66,5 +66,5 @@ fitOf limit gs = cond (leb (sizeSegments gs) limit) (Size (length gs) (sizeSegme
 -- ---- ids
 
 -- the ids of both rows
-unfoldable pub union : List ℕ → List ℕ → List ℕ
+unfoldable pub union : (ids more : List ℕ) → List ℕ
 union ids more = insertAll self more ids

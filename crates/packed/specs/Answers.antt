@@ -16,7 +16,7 @@ unfoldable pub recordGood : List ℕ → ℕ → ℕ → Bool
 recordGood s at end = leb (at + sizeSegment (segmentOf (drop at s))) end && okSegment (segmentOf (drop at s))
 
 -- its id and its size
-unfoldable pub recordRead : List ℕ → ℕ → ℕ → RecordRead
+unfoldable pub recordRead : (s : List ℕ) (at end : ℕ) → RecordRead
 recordRead s at end =
     cond (recordGood s at end) (read.Record (segmentOf (drop at s) .segmentId) (sizeSegment (segmentOf (drop at s)))) read.Malformed
 

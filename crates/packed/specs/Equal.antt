@@ -16,7 +16,7 @@ sameRanges [] (r ∷ rs) = false
 sameRanges (q ∷ qs) [] = false
 sameRanges (q ∷ qs) (r ∷ rs) = sameRange q r && sameRanges qs rs
 
-unfoldable pub sameSegment : AssignedSegment → AssignedSegment → Bool
+unfoldable pub sameSegment : (g h : AssignedSegment) → Bool
 sameSegment g h = eqb (g .segmentId) (h .segmentId) && (sameRange (g .range) (h .range) && sameRanges (g .buckets) (h .buckets))
 
 unfoldable pub sameSegments : List AssignedSegment → List AssignedSegment → Bool
@@ -25,5 +25,5 @@ sameSegments [] (h ∷ hs) = false
 sameSegments (g ∷ gs) [] = false
 sameSegments (g ∷ gs) (h ∷ hs) = sameSegment g h && sameSegments gs hs
 
-unfoldable pub sameAssignment : ConsumerAssignment → ConsumerAssignment → Bool
+unfoldable pub sameAssignment : (a b : ConsumerAssignment) → Bool
 sameAssignment a b = eqb (a .layoutEpoch) (b .layoutEpoch) && sameSegments (a .segments) (b .segments)

@@ -22,7 +22,7 @@ abbrev pub ofThree : List AssignedSegment → ConsumerAssignment
 ofThree segments = record { layoutEpoch = 3; segments = segments }
 
 -- n segments without buckets whose ids rise from id on
-abbrev pub rising : ℕ → ℕ → List AssignedSegment
+abbrev pub rising : (n id : ℕ) → List AssignedSegment
 rising zero id = []
 rising (suc n) id = half id [] ∷ rising n (suc id)
 

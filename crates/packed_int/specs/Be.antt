@@ -16,10 +16,10 @@ unfoldable pub be : List ℕ → ℕ
 be l = beFrom 0 l
 
 -- the w bytes of s from the place at on, as a number
-unfoldable pub beAt : ℕ → List ℕ → ℕ → ℕ
+unfoldable pub beAt : (w : ℕ) (s : List ℕ) (at : ℕ) → ℕ
 beAt w s at = be (take w (drop at s))
 
 -- the low w bytes of v
-unfoldable pub bytesOf : ℕ → ℕ → List ℕ
+unfoldable pub bytesOf : (w v : ℕ) → List ℕ
 bytesOf zero v = []
 bytesOf (suc w) v = bytesOf w (v / 256) ++ (v % 256 ∷ [])

@@ -5,5 +5,5 @@ use mathlib.Core.List.{List, _++_}
 use lib.ListN.{length, take, drop}
 
 -- l with the elements from the place at on replaced by vs, and all others as before
-unfoldable pub put : List ℕ → ℕ → List ℕ → List ℕ
+unfoldable pub put : (l : List ℕ) (at : ℕ) (vs : List ℕ) → List ℕ
 put l at vs = take at l ++ (vs ++ drop (at + length vs) l)

@@ -31,7 +31,7 @@ pub record NumberIs (f : ℕ) (s : List ℕ) (at v to : ℕ) : Type 0 where
   pub within : to ≤ length s
   pub fields : fieldsOf (drop at s) ≡ field f wire.Varint (number v) ∷ fieldsOf (drop to s)
 
-abbrev pub NumberSays : ℕ → List ℕ → ℕ → NumberAt → Type 0
+abbrev pub NumberSays : (f : ℕ) (s : List ℕ) (at : ℕ) → NumberAt → Type 0
 NumberSays f s at (number-at.Found v to) = NumberIs f s at v to
 NumberSays f s at number-at.Absent = Unit {0}
 
@@ -42,7 +42,7 @@ pub record PartField (f : ℕ) (s : List ℕ) (at from to : ℕ) : Type 0 where
   pub within : to ≤ length s
   pub fields : fieldsOf (drop at s) ≡ field f wire.Len (bytes (take (to - from) (drop from s))) ∷ fieldsOf (drop to s)
 
-abbrev pub PartSays : ℕ → List ℕ → ℕ → Part → Type 0
+abbrev pub PartSays : (f : ℕ) (s : List ℕ) (at : ℕ) → Part → Type 0
 PartSays f s at (Found from to) = PartField f s at from to
 PartSays f s at Absent = Unit {0}
 

@@ -24,6 +24,6 @@ pub record PlainTaken (parent s b : List ℕ) (epoch n : ℕ) (b′ : List ℕ) 
   pub size : n ≡ sizeAssignment assignment
   pub packed : b′ ≡ put b 0 (encodeAssignment assignment)
 
-abbrev pub PlainSays : List ℕ → List ℕ → List ℕ → PlainIntake → List ℕ → Type 0
+abbrev pub PlainSays : (parent s b : List ℕ) → PlainIntake → (b′ : List ℕ) → Type 0
 PlainSays parent s b (Taken epoch n) b′ = PlainTaken parent s b epoch n b′
 PlainSays parent s b Other b′ = Unit {0}

@@ -10,7 +10,7 @@ use lib.Dec.{leb}
 use Rattle.types.specs.declared.KeyRange.{KeyRange}
 
 -- two ranges, each from its start to its end
-abbrev pub overlap : KeyRange → KeyRange → Bool
+abbrev pub overlap : (a b : KeyRange) → Bool
 overlap a b = leb (a .start) (b .end) && leb (b .start) (a .end)
 
 -- some range of the row shares a value with r

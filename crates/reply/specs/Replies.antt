@@ -21,7 +21,7 @@ wordAt zero (v ∷ vs) = wordOf v
 wordAt (suc k) (v ∷ vs) = wordAt k vs
 
 -- an answer with its values
-unfoldable pub replyWith : ℕ → ℕ → List ℤ → Reply
+unfoldable pub replyWith : (answer number : ℕ) (values : List ℤ) → Reply
 replyWith answer number values =
     record {
       answer = answer;

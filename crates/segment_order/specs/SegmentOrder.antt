@@ -42,10 +42,10 @@ pub data Rearranged (a : ℕ) : List Field → List Field → Type 0 where
       → Rearranged a (field a type.Len (bytes p) ∷ fs) (field a type.Len (bytes q) ∷ gs)
 
 -- two updates, two responses
-abbrev pub SameUpdate : List ℕ → List ℕ → Type 0
+abbrev pub SameUpdate : (m n : List ℕ) → Type 0
 SameUpdate m n = Rearranged 2 (fieldsOf m) (fieldsOf n)
 
-abbrev pub SameResponse : List ℕ → List ℕ → Type 0
+abbrev pub SameResponse : (m n : List ℕ) → Type 0
 SameResponse m n = Rearranged 4 (fieldsOf m) (fieldsOf n)
 
 -- ---- what is claimed of them

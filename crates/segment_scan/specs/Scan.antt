@@ -44,11 +44,11 @@ unfoldable pub runOf : List IntRange → BucketRun
 runOf rs = foldl withBucket noBuckets rs
 
 -- a range written behind count others, where there is room for so many
-abbrev pub roomFor : List ℕ → ℕ → ℕ → ℕ → KeyRange → List ℕ
+abbrev pub roomFor : (b : List ℕ) (at count room : ℕ) → KeyRange → List ℕ
 roomFor b at count room range = cond (ltb count room) (put b (at + 4 * count) (encodeRange range)) b
 
 -- what `withBucket` writes
-abbrev pub bucketWritten : BucketRun → IntRange → List ℕ → ℕ → ℕ → List ℕ
+abbrev pub bucketWritten : BucketRun → IntRange → (b : List ℕ) (at room : ℕ) → List ℕ
 bucketWritten run r b at room = cond (run .good && bucketOk r) (roomFor b at (run .count) room (bucketOf r)) b
 
 -- the walk over the segment p, with the buckets written to b from the place at on, where they are good and there is room

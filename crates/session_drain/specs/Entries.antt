@@ -14,7 +14,7 @@ use Rattle.session_store.specs.Places.{Lies, entryIn, listBefore}
 use Rattle.session_drain.specs.declared.Reached.{Reached}
 
 -- entry i of n, or the end
-unfoldable pub foundAt : List ℕ → ℕ → ℕ → Found
+unfoldable pub foundAt : (store : List ℕ) (n i : ℕ) → Found
 foundAt store n i = cond (ltb i n) (entry i (deltaBetween (listBefore store i) (entryIn store i))) end
 
 -- baseline and n queue entries are packed assignments

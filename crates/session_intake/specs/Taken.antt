@@ -33,7 +33,7 @@ abbrev pub messageWith : ℕ → MessageKind
 messageWith n = cond (eqb n 2) CommandScalableTopicAssignmentUpdate CommandScalableTopicSubscribeResponse
 
 -- what the assignment in field n comes to below the store's topic
-abbrev pub contentIn : List ℕ → ℕ → List ℕ → Content
+abbrev pub contentIn : (store : List ℕ) (n : ℕ) (m : List ℕ) → Content
 contentIn store n m = contentOf (topicOf (slot store 0)) (wire.assignmentOf (mergedFields n (fieldsOf m)))
 
 -- the topic of a store lies in it from the place 7 on
@@ -67,6 +67,6 @@ pub record PlainMessageTaken (store m : List ℕ) (n head size : ℕ) (b : List 
   pub fields : fieldsOf m ≡ field 1 type.Varint (number head) ∷ field n type.Len (bytes part) ∷ []
   pub answers : Answers (intake.Taken size) b (contentIn store n m)
 
-abbrev pub PlainMessageSays : List ℕ → List ℕ → ℕ → PlainMessage → List ℕ → Type 0
+abbrev pub PlainMessageSays : (store m : List ℕ) (n : ℕ) → PlainMessage → (b : List ℕ) → Type 0
 PlainMessageSays store m n (plain.Taken head size) b = PlainMessageTaken store m n head size b
 PlainMessageSays store m n plain.Other b = Unit {0}

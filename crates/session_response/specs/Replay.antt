@@ -32,7 +32,7 @@ staleRefusal (Nowhere at) = none
 staleRefusal (At got prev) = some (StaleEpoch got prev)
 
 -- the last of n queue entries begins at a byte place
-abbrev pub LastBegins : List ℕ → ℕ → ℕ → Type 0
+abbrev pub LastBegins : (store : List ℕ) (n at : ℕ) → Type 0
 LastBegins store n at = 0 < n → at ≡ queueEnd (queueIn store (n - 1))
 
 -- the last list of the replay of n queue entries over the assignment in b, in a buffer
@@ -51,7 +51,7 @@ abbrev pub responseSays : List ℕ → WireResponse → Content
 responseSays topic w = cond (w .hasAssignment) (contentOf topic (w .assignment)) (refused (deniedBy (w .error) (w .requestId)))
 
 -- the record behind an accepted response, whose last list has that epoch
-abbrev pub registeredBy : SessionRecord → ℕ → ℕ → SessionRecord
+abbrev pub registeredBy : SessionRecord → (epoch count : ℕ) → SessionRecord
 registeredBy r epoch count =
     record {
       «consumer_id» = r .«consumer_id»;

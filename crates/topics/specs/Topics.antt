@@ -11,7 +11,7 @@ use Rattle.topics.specs.declared.Order.the-variants.{Less, Equal, Greate
 
 -- ---- byte order: by the first byte that differs; a topic stands before its continuations
 
-unfoldable pub order : List ℕ → List ℕ → Order
+unfoldable pub order : (xs ys : List ℕ) → Order
 order [] [] = Equal
 order [] (y ∷ ys) = Less
 order (x ∷ xs) [] = Greater
@@ -23,7 +23,7 @@ byOrder Equal a b c = b
 byOrder Greater a b c = c
 
 -- a stands before b
-abbrev pub before : List ℕ → List ℕ → Bool
+abbrev pub before : (a b : List ℕ) → Bool
 before a b = byOrder (order a b) true false false
 
 -- ---- lists of topics
@@ -39,7 +39,7 @@ insert t [] = t ∷ []
 insert t (u ∷ us) = byOrder (order t u) (t ∷ u ∷ us) (u ∷ us) (u ∷ insert t us)
 
 -- each of ts inserted, one after the other
-unfoldable pub insertAll : List (List ℕ) → List (List ℕ) → List (List ℕ)
+unfoldable pub insertAll : (ts l : List (List ℕ)) → List (List ℕ)
 insertAll [] l = l
 insertAll (t ∷ ts) l = insertAll ts (insert t l)
 

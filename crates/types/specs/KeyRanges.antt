@@ -18,11 +18,11 @@ abbrev pub maxHash : ℕ
 maxHash = 65535
 
 -- the range from start to end
-abbrev pub keyRange : ℕ → ℕ → KeyRange
+abbrev pub keyRange : (start end : ℕ) → KeyRange
 keyRange start end = record { start = start; end = end }
 
 -- "start above 65,535, then end above 65,535, then end below start"
-unfoldable pub newKeyRange : ℕ → ℕ → RangeResult
+unfoldable pub newKeyRange : (start end : ℕ) → RangeResult
 newKeyRange start end =
     cond (ltb maxHash start) (Invalid (StartOutOfBounds start))
     (cond (ltb maxHash end) (Invalid (EndOutOfBounds end))

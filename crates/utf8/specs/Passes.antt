@@ -13,5 +13,5 @@ pub record Passes (s : List ℕ) (from to : ℕ) : Type 0 where
   pub same : isUtf8 (drop from s) ≡ isUtf8 (drop to s)
 
 -- the bytes between two places are all of the first row
-abbrev pub Plain : List ℕ → ℕ → ℕ → Type 0
+abbrev pub Plain : (s : List ℕ) (from to : ℕ) → Type 0
 Plain s from to = (i : ℕ) → from ≤ i → i < to → getD s i 0 ≤ 127

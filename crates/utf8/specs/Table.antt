@@ -16,7 +16,7 @@ pub record Span : Type 0 where
   pub low : ℕ
   pub high : ℕ
 
-abbrev pub span : ℕ → ℕ → Span
+abbrev pub span : (low high : ℕ) → Span
 span low high = record { low = low; high = high }
 
 -- a row for each of the table's rows, in its order

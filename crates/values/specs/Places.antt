@@ -41,7 +41,7 @@ frontOf l = frontBy (keyOf l) l
 -- ---- where the parts of a field stand
 
 -- where a part starts, and its length
-abbrev pub span : ℕ → ℕ → Span
+abbrev pub span : (start len : ℕ) → Span
 span start len = record { start = start; length = len }
 
 -- a field's length; 0 where it is broken
@@ -90,7 +90,7 @@ PlaceIs message none start len = PartIs message [] start len
 -- ---- the parts of a field, one after the other
 
 -- from the place `from` on: the first part, inside the message and behind `from`, and those from the place `next` on; or none
-abbrev pub NextPart : ℕ → List ℕ → ℕ → PartStep → Type 0
+abbrev pub NextPart : (n : ℕ) (s : List ℕ) (from : ℕ) → PartStep → Type 0
 NextPart n s from (step.Found start len next) =
     (from < start) × (next ≡ start + len) × (next ≤ length s)
     × (partsOf n (fieldsOf (drop from s)) ≡ take len (drop start s) ∷ partsOf n (fieldsOf (drop next s)))
@@ -100,7 +100,7 @@ NextPart n s from step.Absent = partsOf n (fieldsOf (drop from s)) ≡ []
 -- ---- the parts of field k in the singular message of field n, one after the other
 
 -- those that a cursor has before it: in this part of field n from its place on, then in the later parts
-abbrev pub innerFrom : ℕ → ℕ → List ℕ → Cursor → List (List ℕ)
+abbrev pub innerFrom : (n k : ℕ) (m : List ℕ) → Cursor → List (List ℕ)
 innerFrom n k m c = partsOf k (fieldsOf (drop (c .at) (take (c .end) m))) ++ partsOf k (joinFields (partsOf n (fieldsOf (drop (c .outer) m))))
 
 -- a cursor whose place and end lie before the next part of field n
@@ -110,7 +110,7 @@ pub record Inside (m : List ℕ) (c : Cursor) : Type 0 where
   pub end-length : c .end ≤ length m
 
 -- the first part, inside the message, and the cursor behind it, which is further on; or none
-abbrev pub NextInner : ℕ → ℕ → List ℕ → Cursor → InnerStep → Type 0
+abbrev pub NextInner : (n k : ℕ) (m : List ℕ) → Cursor → InnerStep → Type 0
 NextInner n k m c (inner.Found start len d) =
     (start + len ≤ length m) × (c .at < d .at) × (d .at ≤ length m) × Inside m d
     × (innerFrom n k m c ≡ take len (drop start m) ∷ innerFrom n k m d)

@@ -22,7 +22,7 @@ abbrev pub maxKey : ℕ
 maxKey = 4294967295
 
 -- wire types 0, 1, 2 and 5; "3, 4, 6, 7 are broken in any field"
-abbrev pub typedKey : ℕ → ℕ → ℕ → Key
+abbrev pub typedKey : (number t n : ℕ) → Key
 typedKey number t n =
     cond (eqb t 0) (key.Found number type.Varint n)
     (cond (eqb t 1) (key.Found number type.I64 n)

@@ -25,11 +25,11 @@ abbrev pub partKey : ℕ → List ℕ
 partKey f = varintBytes (8 * f + 2)
 
 -- field f with the number v
-unfoldable pub numberField : ℕ → ℕ → List ℕ
+unfoldable pub numberField : (f v : ℕ) → List ℕ
 numberField f v = numberKey f ++ varintBytes v
 
 -- what stands before a part of n bytes in field f
-unfoldable pub partHead : ℕ → ℕ → List ℕ
+unfoldable pub partHead : (f n : ℕ) → List ℕ
 partHead f n = partKey f ++ varintBytes n
 
 -- field f with the part p
