@@ -1,4 +1,4 @@
--- The call apply (01: 20, 15, 21), over any bytes.
+-- Public: the call apply (01: 20, 15, 21), over any bytes.
 -- Assumes nothing.
 use Prim.Native.Nat.{ℕ}
 use mathlib.Core.Bool.{_&&_}

@@ -1,4 +1,5 @@
--- An assignment as a `ScalableConsumerAssignment` message (`to_pb`): "field order rising, required fields always written".
+-- Public: an assignment as a `ScalableConsumerAssignment` message (`to_pb`): "field order rising, required fields
+-- always written".
 --
 -- A segment's topic is not held: it is built again from the parent's path, the range and the id.
 -- Assumes nothing.

@@ -1,5 +1,5 @@
--- What a list of holdings of one segment is charged (02, request l): "Over any list of holdings of one segment the
--- charges of those not refused add up to their exact total rounded down; a refused one leaves the remainder."
+-- Public: what a list of holdings of one segment is charged (02, request l): "Over any list of holdings of one segment
+-- the charges of those not refused add up to their exact total rounded down; a refused one leaves the remainder."
 --
 -- Each holding has a record of its own: the claim holds as well where the segment's range or buckets change from one
 -- holding to the next. Its law is `adds-up` of proofs/AccountLaws; `remainder-left` there says what the remainder is.

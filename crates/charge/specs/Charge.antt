@@ -1,4 +1,5 @@
--- Charging for held segments (02, request l): what a holding of a segment costs, and the remainder for its next one.
+-- Public: charging for held segments (02, request l): what a holding of a segment costs, and the remainder for its next
+-- one.
 --
 -- "Seconds, rate and remainder are unsigned 64-bit numbers": the definitions hold of any numbers. Over a list of
 -- holdings: specs/Account. Computed answers: specs/Rows.

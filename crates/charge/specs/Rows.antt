@@ -1,4 +1,5 @@
--- Computed answers of the definitions (02, request l): a row for each kind of answer and each edge, and one account.
+-- Public: computed answers of the definitions (02, request l): a row for each kind of answer and each edge, and one
+-- account.
 -- Assumes nothing.
 use Prim.Native.Nat.{ℕ, _*_, _-_, _^_}
 use mathlib.Core.Path.{_≡_, refl}

@@ -1,4 +1,4 @@
--- The claim (02 n): "For every list of counts and clearings from an empty window, both answers equal a fresh
+-- Public: the claim (02 n): "For every list of counts and clearings from an empty window, both answers equal a fresh
 -- reckoning over the latest 256 counts not refused since the last clearing, and are 0 when there are none."
 -- Assumes nothing.
 use Prim.Native.Nat.{ℕ, _-_, _≤_}

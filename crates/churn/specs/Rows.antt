@@ -1,4 +1,5 @@
--- Worked rows of the fresh reckoning, and that bytes of zero are an empty window, as one proved table, by computation.
+-- Public: worked rows of the fresh reckoning, and that bytes of zero are an empty window, as one proved table, by
+-- computation.
 -- Assumes nothing.
 use Prim.Native.Nat.{ℕ, zero, suc, _+_}
 use mathlib.Core.Path.{_≡_, refl}

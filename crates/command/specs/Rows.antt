@@ -1,3 +1,5 @@
+-- Internal: no claim cites it; whoever reads the claims may skip it.
+--
 -- Worked rows: commands byte by byte, with what they carry. They hold by computation.
 -- Assumes nothing.
 use Prim.Native.Nat.{ℕ}

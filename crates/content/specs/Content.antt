@@ -1,4 +1,4 @@
--- From the assignment of a read message to the assignment that a station holds, or to a refusal, 9 to 15 and 34:
+-- Public: from the assignment of a read message to the assignment that a station holds, or to a refusal, 9 to 15 and 34:
 -- `ConsumerAssignment::try_from_pb`, and 34, which the Rust does not know.
 --
 -- "per segment in wire order 9 to 14, 15" (01); 34 "directly after 11" (02 e): each segment is tested by itself (9, 10, 11, 34, 12, 13), then

@@ -1,4 +1,4 @@
--- What changed from one assignment to the next (`AssignmentDelta` of the Rust).
+-- Public: what changed from one assignment to the next (`AssignmentDelta` of the Rust).
 -- Assumes nothing.
 use Prim.Native.Nat.{ℕ}
 use mathlib.Core.Bool.{Bool, true, false, not, _||_}

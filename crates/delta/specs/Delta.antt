@@ -1,4 +1,4 @@
--- The packed delta: its value, the bytes that stand for it, and the value that bytes stand for.
+-- Public: the packed delta: its value, the bytes that stand for it, and the value that bytes stand for.
 --
 -- "epoch 64 bits, lost count 16, gained count 16, lost ids, gained records as in a sheet." Reading is total, as for a packed assignment; `isDelta` tests afterwards.
 -- A delta has no size limit.

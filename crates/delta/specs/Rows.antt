@@ -1,4 +1,4 @@
--- Rows C and E of the worked values, and the longest delta that a change can need, by computation.
+-- Public: rows C and E of the worked values, and the longest delta that a change can need, by computation.
 -- Assumes nothing.
 use Prim.Native.Nat.{ℕ}
 use mathlib.Core.Path.{_≡_, refl}

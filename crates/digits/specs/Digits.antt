@@ -1,4 +1,5 @@
--- The numbers of a descriptor (01, Names): "four lower-case hex digits", and a "decimal id without leading zeros", below 2^64.
+-- Public: the numbers of a descriptor (01, Names): "four lower-case hex digits", and a "decimal id without leading
+-- zeros", below 2^64.
 -- Assumes nothing.
 use Prim.Native.Nat.{ℕ, _+_, _-_, _*_, _^_}
 use mathlib.Core.Bool.{Bool, true, cond, not, _&&_, _||_}

@@ -1,5 +1,5 @@
--- "Two desks, two deltas" (02 k) of the calls join and apply, over any bytes: deltas that name no id in common may be
--- joined in either order.
+-- Public: "Two desks, two deltas" (02 k) of the calls join and apply, over any bytes: deltas that name no id in common
+-- may be joined in either order.
 --
 -- The two joins are both written, with the same length, or both refused for the same reason (20 or 21). What is
 -- written differs at most in the epoch, the first 8 bytes: a join has that of its second delta. Applied to any bytes,

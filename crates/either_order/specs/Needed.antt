@@ -1,3 +1,5 @@
+-- Internal: no claim cites it; whoever reads the claims may skip it.
+--
 -- The hypothesis of the law is needed: the smallest two deltas whose order shows, by computation.
 --
 -- One loses the id that the other gains, and neither names another. Lost first, the record is gained in the end;

@@ -1,4 +1,4 @@
--- The exported calls: each is a call of 01, its answer in numbers and the record as a plain struct.
+-- Public: the exported calls: each is a call of 01, its answer in numbers and the record as a plain struct.
 -- Assumes nothing.
 use Prim.Native.Nat.{ℕ}
 use mathlib.Core.Path.{_≡_}

@@ -1,5 +1,5 @@
--- The packed contract (02, request f): "A contract has up to 64 terms and up to 28 weekly windows, in seconds of a
--- week that starts on Saturday."
+-- Public: the packed contract (02, request f): "A contract has up to 64 terms and up to 28 weekly windows, in seconds
+-- of a week that starts on Saturday."
 --
 -- Its layout: term count 16 bits, window count 16 bits, then each term and each window as start 64 bits and end 64
 -- bits, most significant bit first. A term is in seconds since 2000-01-01 00:00 UTC, a window in seconds of the week.

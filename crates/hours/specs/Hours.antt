@@ -1,5 +1,5 @@
--- The calls on a contract (02, request f): "whether a second is open, and the earliest open second not before a given
--- one, or none if there is none."
+-- Public: the calls on a contract (02, request f): "whether a second is open, and the earliest open second not before a
+-- given one, or none if there is none."
 --
 -- The earliest second is said as what it is, the least of a set of seconds, and not by a way to find it;
 -- `earliest-one` of proofs/HoursLaws shows that no two answers meet it. specs/Rows has worked cases.

@@ -1,6 +1,6 @@
--- Worked cases of the definitions, by computation: days of the calendar as seconds of the week, a term around the leap
--- day of 2024, the week's turn, and bytes that are 35. The seconds since 2000-01-01 are those of Python's datetime.
--- The earliest second of the same contract: proofs/EarliestRows.
+-- Public: worked cases of the definitions, by computation: days of the calendar as seconds of the week, a term around
+-- the leap day of 2024, the week's turn, and bytes that are 35. The seconds since 2000-01-01 are those of Python's
+-- datetime. The earliest second of the same contract: proofs/EarliestRows.
 -- Assumes nothing.
 use Prim.Native.Nat.{ℕ}
 use mathlib.Core.Path.{_≡_, refl}

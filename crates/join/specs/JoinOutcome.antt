@@ -1,4 +1,5 @@
--- The call join (01: 20, 21), over any bytes. "a joined count above 65,535 is 21": the definition of join has no size limit, its packed form has.
+-- Public: the call join (01: 20, 21), over any bytes. "a joined count above 65,535 is 21": the definition of join has
+-- no size limit, its packed form has.
 -- Assumes nothing.
 use Prim.Native.Nat.{ℕ}
 use mathlib.Core.Bool.{Bool, _&&_}

@@ -1,3 +1,5 @@
+-- Internal: cited by the contracts of helpers alone; whoever reads the claims may skip it.
+--
 -- The rows of a delta where they lie.
 -- Assumes nothing.
 use Prim.Native.Nat.{ℕ, _+_, _*_}

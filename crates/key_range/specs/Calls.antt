@@ -1,4 +1,5 @@
--- The calls on ranges given by their ends (01, The rest; `KeyRange` calls: 9, the first range before the second).
+-- Public: the calls on ranges given by their ends (01, The rest; `KeyRange` calls: 9, the first range before the
+-- second).
 -- Assumes nothing.
 use Prim.Native.Nat.{ℕ, _+_, _-_}
 use mathlib.Core.Bool.{Bool, _&&_, _||_}

@@ -1,5 +1,5 @@
--- Lists whose entries have a key, a number, and what is done to them by key: what the Rust keeps in a `BTreeMap` is such a list whose keys rise.
--- An id is its own key; a segment's key is its id.
+-- Public: lists whose entries have a key, a number, and what is done to them by key: what the Rust keeps in a
+-- `BTreeMap` is such a list whose keys rise. An id is its own key; a segment's key is its id.
 -- Assumes nothing.
 use mathlib.Core.Bool.{Bool, true, false, cond}
 use mathlib.Core.List.{List, [], _∷_}

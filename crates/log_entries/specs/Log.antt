@@ -1,4 +1,4 @@
--- The bytes of a check (02 m): "the deltas in order, packed one behind another in one buffer", and the log.
+-- Public: the bytes of a check (02 m): "the deltas in order, packed one behind another in one buffer", and the log.
 --
 -- "An entry is one bit (0 detach, 1 attach), a 64-bit id and seven zero bits." Reading is total; `areDeltas` and
 -- `isLog` test afterwards.

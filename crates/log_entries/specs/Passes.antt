@@ -1,5 +1,5 @@
--- When a log passes (02 m): "exactly if it is, delta after delta, each lost id detached once in any order, then each
--- gained id attached once in any order, and nothing more. An empty delta has no entries."
+-- Public: when a log passes (02 m): "exactly if it is, delta after delta, each lost id detached once in any order, then
+-- each gained id attached once in any order, and nothing more. An empty delta has no entries."
 -- Assumes nothing.
 use mathlib.Core.Path.{_≡_}
 use mathlib.Core.Logic.{_⊎_}

@@ -1,5 +1,5 @@
--- Worked values: deltas in a row and logs of them, byte by byte, by computation. Which logs of the row pass is proved in
--- proofs/RowLaws.
+-- Public: worked values: deltas in a row and logs of them, byte by byte, by computation. Which logs of the row pass is
+-- proved in proofs/RowLaws.
 -- Assumes nothing.
 use Prim.Native.Nat.{ℕ}
 use mathlib.Core.Path.{_≡_, refl}

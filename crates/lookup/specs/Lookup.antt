@@ -1,4 +1,4 @@
--- A spacecraft's segment by its name (02, request a): the segment of a packed assignment that takes a key.
+-- Public: a spacecraft's segment by its name (02, request a): the segment of a packed assignment that takes a key.
 -- Assumes nothing.
 use Prim.Native.Nat.{ℕ, _%_, _^_}
 use mathlib.Core.Bool.{Bool, true, false, cond, _&&_, _||_}

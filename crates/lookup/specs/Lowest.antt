@@ -1,5 +1,5 @@
--- What `segmentForKey` answers, in 02's words, of any list of segments, whatever their order. proofs/LowestLaws: it holds
--- of every key that is not too long and every packed assignment.
+-- Public: what `segmentForKey` answers, in 02's words, of any list of segments, whatever their order.
+-- proofs/LowestLaws: it holds of every key that is not too long and every packed assignment.
 -- Assumes nothing.
 use Prim.Native.Nat.{ℕ, _≤_}
 use mathlib.Core.Path.{_≡_}

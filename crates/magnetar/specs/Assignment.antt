@@ -1,6 +1,6 @@
--- scalable_consumer.rs: `AssignedSegment`, `ConsumerAssignment`, `AssignmentError`, and how an assignment of a message is decoded. The
--- message's structs are those of the crate readers: `pb::ScalableAssignedSegment` is `WireSegment`, `pb::ScalableConsumerAssignment` is
--- `WireAssignment`.
+-- Public: scalable_consumer.rs: `AssignedSegment`, `ConsumerAssignment`, `AssignmentError`, and how an assignment of a
+-- message is decoded. The message's structs are those of the crate readers: `pb::ScalableAssignedSegment` is
+-- `WireSegment`, `pb::ScalableConsumerAssignment` is `WireAssignment`.
 -- Assumes nothing.
 use Prim.Native.Nat.{ℕ, _-_, _^_}
 use mathlib.Core.Bool.{Bool, cond, not, _&&_}

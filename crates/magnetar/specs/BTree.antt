@@ -1,5 +1,5 @@
--- `BTreeSet` and `BTreeMap` of the Rust, as the standard library's documentation has them: the entries in the order in
--- which they are iterated, by the order of their keys.
+-- Public: `BTreeSet` and `BTreeMap` of the Rust, as the standard library's documentation has them: the entries in the
+-- order in which they are iterated, by the order of their keys.
 -- Assumes nothing.
 use mathlib.Core.Bool.{Bool, false, cond, not, _||_}
 use mathlib.Core.List.{List, [], _∷_}

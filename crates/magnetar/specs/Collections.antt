@@ -1,4 +1,4 @@
--- `Vec`, slices and iterators of the Rust, and the methods that the sources call.
+-- Public: `Vec`, slices and iterators of the Rust, and the methods that the sources call.
 -- Assumes nothing.
 use Prim.Native.Nat.{ℕ, _+_}
 use mathlib.Core.Bool.{Bool, true, false, cond, _&&_, _||_}

@@ -1,5 +1,5 @@
--- scalable_consumer.rs: the kind of a consumer, compared, and from and to the wire's integer. The kind itself is that
--- of the crate types.
+-- Public: scalable_consumer.rs: the kind of a consumer, compared, and from and to the wire's integer. The kind itself
+-- is that of the crate types.
 -- Assumes nothing.
 use Prim.Native.Nat.{zero, suc}
 use mathlib.Core.Bool.{Bool, true, false}

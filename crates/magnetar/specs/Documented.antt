@@ -1,3 +1,5 @@
+-- Internal: no claim cites it; whoever reads the claims may skip it.
+--
 -- The examples that the documentation of the Rust's standard library gives for what is defined here, by computation.
 -- Assumes nothing.
 use Prim.Native.Nat.{ℕ}

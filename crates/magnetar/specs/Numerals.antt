@@ -1,4 +1,4 @@
--- Numbers written and read as text by the Rust, as the standard library's documentation has it: `{}`, `{:04x}`,
+-- Public: numbers written and read as text by the Rust, as the standard library's documentation has it: `{}`, `{:04x}`,
 -- `parse::<u64>` and `from_str_radix`.
 -- Assumes nothing.
 use Prim.Native.Nat.{ℕ, zero, suc, _+_, _-_, _*_, _/_, _%_, _^_}

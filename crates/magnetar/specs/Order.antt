@@ -1,5 +1,5 @@
--- `core::cmp` of the Rust, as the standard library's documentation has it: `Ordering`, and the order of numbers, of
--- slices and so of `str`.
+-- Public: `core::cmp` of the Rust, as the standard library's documentation has it: `Ordering`, and the order of
+-- numbers, of slices and so of `str`.
 -- Assumes nothing.
 use Prim.Native.Nat.{ℕ}
 use mathlib.Core.Bool.{Bool, true, false, cond}

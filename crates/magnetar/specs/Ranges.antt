@@ -1,4 +1,5 @@
--- types.rs: `KeyRange` and its calls. The structs and the error are those of the crate types, which have the Rust's names and fields.
+-- Public: types.rs: `KeyRange` and its calls. The structs and the error are those of the crate types, which have the
+-- Rust's names and fields.
 -- Assumes nothing.
 use Prim.Native.Nat.{ℕ, _+_, _-_}
 use mathlib.Core.Bool.{Bool, cond, _&&_, _||_}

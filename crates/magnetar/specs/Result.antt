@@ -1,4 +1,4 @@
--- `Result` and `?` of the Rust: `x ← e` is `let x = e?;`.
+-- Public: `Result` and `?` of the Rust: `x ← e` is `let x = e?;`.
 -- Assumes nothing.
 use mathlib.Core.Option.{Option, some, none}
 

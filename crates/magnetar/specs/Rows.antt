@@ -1,3 +1,5 @@
+-- Internal: no claim cites it; whoever reads the claims may skip it.
+--
 -- Small examples of `to_pb`, `source`, `segment_topics` and `matches_registration`, by computation.
 -- Assumes nothing.
 use Prim.Native.Nat.{ℕ}

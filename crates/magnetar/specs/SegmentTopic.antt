@@ -1,4 +1,4 @@
--- scalable_consumer.rs: names of segments, `SegmentSource`.
+-- Public: scalable_consumer.rs: names of segments, `SegmentSource`.
 -- Assumes nothing.
 use Prim.Native.Nat.{ℕ, _+_, _-_}
 use mathlib.Core.Bool.{Bool, true, false, cond, not, _&&_, _||_}

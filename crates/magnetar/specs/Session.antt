@@ -1,4 +1,5 @@
--- scalable_consumer.rs: `ScalableConsumerSession`, and `AssignmentDelta` and `AssignmentReplay` that it hands out.
+-- Public: scalable_consumer.rs: `ScalableConsumerSession`, and `AssignmentDelta` and `AssignmentReplay` that it hands
+-- out.
 --
 -- A method with `&mut self` is a `Run`: from the session before to the session after and the result. The session is as it stands also where
 -- the result is an error, so that a change made before a `?` would be seen. `x ← e` is `let x = e?;`, and a bare `e` is `e?;`. The

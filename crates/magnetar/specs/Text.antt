@@ -1,5 +1,5 @@
--- `str` of the Rust, as its bytes, and the methods that the sources call. A `char` is one byte here: those searched for are ASCII, and no byte of a longer
--- character is one of them.
+-- Public: `str` of the Rust, as its bytes, and the methods that the sources call. A `char` is one byte here: those
+-- searched for are ASCII, and no byte of a longer character is one of them.
 -- Assumes nothing.
 use Prim.Native.Nat.{ℕ, zero, suc}
 use mathlib.Core.Bool.{Bool, true, false, cond, _&&_, _||_}

@@ -1,3 +1,5 @@
+-- Internal: cited by the contracts of helpers alone; whoever reads the claims may skip it.
+--
 -- Bytes of o of which some are moved already, in b.
 -- Assumes nothing.
 use Prim.Native.Nat.{ℕ, _+_, _-_, _≤_}

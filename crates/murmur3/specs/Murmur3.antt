@@ -1,5 +1,5 @@
--- MurmurHash3_x86_32 with seed 0 (Austin Appleby, MurmurHash3.cpp), over a key's bytes. Above each definition stand its
--- lines of the C.
+-- Public: MurmurHash3_x86_32 with seed 0 (Austin Appleby, MurmurHash3.cpp), over a key's bytes. Above each definition
+-- stand its lines of the C.
 --
 -- In order: a block as a number; a block mixed into the hash; the body and the tail; the end; the whole.
 -- Assumes nothing.

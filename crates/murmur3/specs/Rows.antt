@@ -1,4 +1,4 @@
--- Published values of MurmurHash3_x86_32 with seed 0, as one proved table, by computation.
+-- Public: published values of MurmurHash3_x86_32 with seed 0, as one proved table, by computation.
 --
 -- Those of "test", "Hello, world!" and of the fox stand in Wikipedia's article on MurmurHash; the others in a list of
 -- test vectors that many ports share (Ian Boyd's, on Stack Overflow).

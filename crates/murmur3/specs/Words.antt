@@ -1,4 +1,4 @@
--- Words of 32 bits, as MurmurHash3 works on them: numbers below 2 ^ 32.
+-- Public: words of 32 bits, as MurmurHash3 works on them: numbers below 2 ^ 32.
 --
 -- "products and sums are taken modulo 2^32" (02, request a). `xor` is the program logic's own, digit by digit.
 -- Assumes nothing.

@@ -1,4 +1,5 @@
--- What a call with an output gives: "An output is written from its first byte, its length is answered, and the bytes behind it stay."
+-- Public: what a call with an output gives: "An output is written from its first byte, its length is answered, and the
+-- bytes behind it stay."
 -- Assumes nothing.
 use Prim.Native.Nat.{ℕ}
 use mathlib.Core.Bool.{cond}

@@ -1,3 +1,5 @@
+-- Internal: cited by the contracts of helpers alone; whoever reads the claims may skip it.
+--
 -- What the walks over a row of records and a delta's ids and records answer.
 --
 -- `overlay` is what apply does to an assignment's records and, by `join-overlay` of delta's laws, what join does to the first delta's.

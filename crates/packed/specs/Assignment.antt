@@ -1,4 +1,5 @@
--- The packed assignment (01's sheet): its value, the bytes that stand for it, and the value that bytes stand for.
+-- Public: the packed assignment (01's sheet): its value, the bytes that stand for it, and the value that bytes stand
+-- for.
 --
 -- "epoch 64 bits, segment count 16; each segment: id 64, start 16, end 16, bucket count 16, then start 16 and end 16 per bucket", most significant bit first.
 -- Reading is total: `assignmentOf` gives what the bytes say, whatever they are, and `startsAssignment` tests afterwards whether they may say it. What stands behind a

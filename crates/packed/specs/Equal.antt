@@ -1,5 +1,5 @@
--- Equality of packed assignments, field by field, "bucket order included" (01, Wrong turns). proofs/EqualLaws says that it is equality of values,
--- and equality of the bytes that stand for them.
+-- Public: equality of packed assignments, field by field, "bucket order included" (01, Wrong turns). proofs/EqualLaws
+-- says that it is equality of values, and equality of the bytes that stand for them.
 -- Assumes nothing.
 use mathlib.Core.Bool.{Bool, true, false, _&&_}
 use mathlib.Core.List.{List, [], _∷_}

@@ -1,4 +1,6 @@
--- The numbers of a packed assignment fit their widths. What is read from bytes does (proofs/RoundLaws). Internal: cited by the contracts of helpers alone.
+-- Internal: cited by the contracts of helpers alone; whoever reads the claims may skip it.
+--
+-- The numbers of a packed assignment fit their widths. What is read from bytes does (proofs/RoundLaws).
 -- Assumes nothing.
 use Prim.Native.Nat.{_^_, _<_}
 use mathlib.Core.List.{List, [], _∷_}

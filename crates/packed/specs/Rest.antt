@@ -1,4 +1,6 @@
--- What is known of the records that a walk over a packed assignment has before it. Internal: cited by the contracts of helpers alone.
+-- Internal: cited by the contracts of helpers alone; whoever reads the claims may skip it.
+--
+-- What is known of the records that a walk over a packed assignment has before it.
 -- Assumes nothing.
 use Prim.Native.Nat.{ℕ, _+_, _≤_}
 use mathlib.Core.Path.{_≡_}

@@ -1,4 +1,4 @@
--- Numbers as bytes, most significant byte first (01, Sheet: "most significant bit first"), at any width.
+-- Public: numbers as bytes, most significant byte first (01, Sheet: "most significant bit first"), at any width.
 --
 -- `be` reads all bytes of a list, `bytesOf` writes a number at a width; proofs/BeLaws says that each undoes the other.
 -- Assumes nothing.

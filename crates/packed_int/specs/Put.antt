@@ -1,4 +1,4 @@
--- Bytes written at a place. Everything that is written to a lent slice is said by `put`.
+-- Public: bytes written at a place. Everything that is written to a lent slice is said by `put`.
 -- Assumes nothing.
 use Prim.Native.Nat.{ℕ, _+_}
 use mathlib.Core.List.{List, _++_}

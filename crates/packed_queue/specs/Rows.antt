@@ -1,4 +1,4 @@
--- Lists queued closely, by computation: the list of row B behind its length, twice, and bytes that do not read.
+-- Public: lists queued closely, by computation: the list of row B behind its length, twice, and bytes that do not read.
 -- Assumes nothing.
 use Prim.Native.Nat.{ℕ}
 use mathlib.Core.Path.{_≡_, refl}

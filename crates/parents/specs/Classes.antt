@@ -1,4 +1,4 @@
--- The classes of a name's bytes (01, Names: "digit, a to f, `/`, `-`, `?`, `#`, other").
+-- Public: the classes of a name's bytes (01, Names: "digit, a to f, `/`, `-`, `?`, `#`, other").
 -- Assumes nothing.
 use Prim.Native.Nat.{ℕ, _<_}
 use mathlib.Core.Path.{_≡_}

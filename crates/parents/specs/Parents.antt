@@ -1,5 +1,6 @@
--- Parents (01, Names; 02 h): `topic://` and a path of tenant, namespace and rest, "split at the first two `/`". "All three are non-empty; the
--- rest does not end in `/` and has no `?` or `#`." By 02 h tenant and namespace have none either.
+-- Public: parents (01, Names; 02 h): `topic://` and a path of tenant, namespace and rest, "split at the first two `/`".
+-- "All three are non-empty; the rest does not end in `/` and has no `?` or `#`." By 02 h tenant and namespace have none
+-- either.
 -- Assumes nothing.
 use Prim.Native.Nat.{ℕ, _+_, _-_, _≤_}
 use mathlib.Core.Path.{_≡_}

@@ -1,4 +1,4 @@
--- Equality of bytes, as a test.
+-- Public: equality of bytes, as a test.
 -- Assumes nothing.
 use Prim.Native.Nat.{ℕ}
 use mathlib.Core.Bool.{Bool, true, false, _&&_}

@@ -1,3 +1,5 @@
+-- Internal: cited by the contracts of helpers alone; whoever reads the claims may skip it.
+--
 -- What the walk tells of a message in its usual form.
 --
 -- Every answer has one direction: what is told is so, and what is not told may be so all the same.

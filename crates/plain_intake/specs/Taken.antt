@@ -1,3 +1,5 @@
+-- Internal: cited by the contracts of helpers alone; whoever reads the claims may skip it.
+--
 -- What one walk over an assignment in its usual form tells.
 --
 -- The answer has one direction: what is told is so, and an assignment of which nothing is told may be good all the same.

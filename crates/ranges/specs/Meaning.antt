@@ -1,4 +1,4 @@
--- What `overlap` says of ranges that are not reversed: some value lies in both (`common`, and back `shared`).
+-- Public: what `overlap` says of ranges that are not reversed: some value lies in both (`common`, and back `shared`).
 -- Assumes nothing.
 use mathlib.Core.Path.{_≡_, refl}
 use Prim.Native.Nat.{ℕ, _≤_, max}

@@ -1,4 +1,4 @@
--- When ranges share a value (01, Ranges: bucket ranges "may not share a value").
+-- Public: when ranges share a value (01, Ranges: bucket ranges "may not share a value").
 --
 -- `overlap` decides by the ends. For ranges that are not reversed it means that some value lies in both: specs/Meaning. A row that rises has no two
 -- ranges that share a value: `rising-apart` of proofs/OverlapLaws.

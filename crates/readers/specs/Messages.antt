@@ -1,4 +1,4 @@
--- What the messages say: each message's values, read from its row of fields under the names of PulsarApi.proto.
+-- Public: what the messages say: each message's values, read from its row of fields under the names of PulsarApi.proto.
 --
 -- The readers are total: a number that is missing is 0, a text that is missing is empty. Which messages are taken at all is `firstFault` of the crate
 -- schema. A singular message's fields are those of all its parts (`mergedFields`).

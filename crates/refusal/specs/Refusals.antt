@@ -1,4 +1,4 @@
--- The number and the attached numbers of each refusal (01, Refused for the input, Refused for the state).
+-- Public: the number and the attached numbers of each refusal (01, Refused for the input, Refused for the state).
 --
 -- `numberOf` is 01's number. `valuesOf` are the attached numbers, "those of the Rust's variant, else none", in the order of the Rust's fields,
 -- as integers: bucket ends and broker codes may be negative. Of an invalid range the kind comes before that kind's own numbers. 34 (02 e) has

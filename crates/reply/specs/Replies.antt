@@ -1,4 +1,5 @@
--- Answers in numbers, for callers in C: which answer it is, 01's number of a refusal, and the values that come with it.
+-- Public: answers in numbers, for callers in C: which answer it is, 01's number of a refusal, and the values that come
+-- with it.
 -- Assumes nothing.
 use Prim.Native.Nat.{ℕ, zero, suc, _-_, _^_}
 use mathlib.Core.Bool.{Bool, cond}

@@ -1,7 +1,7 @@
--- The specification's worked rows A to J (01, Sessions to check by hand), and the rows that 02 h and j name, as one table about the definitions
--- that contracts cite. C to I and those of 02 j are runs of the calls on bytes: open on a store of zeros, then messages of bytes, with the answer,
--- the record and every byte of store and output that each call leaves.
--- Its proof is proofs/Table.
+-- Public: the specification's worked rows A to J (01, Sessions to check by hand), and the rows that 02 h and j name, as
+-- one table about the definitions that contracts cite. C to I and those of 02 j are runs of the calls on bytes: open on
+-- a store of zeros, then messages of bytes, with the answer, the record and every byte of store and output that each
+-- call leaves. Its proof is proofs/Table.
 -- Assumes nothing.
 use Prim.Native.Nat.{ℕ}
 use mathlib.Core.Path.{_≡_}

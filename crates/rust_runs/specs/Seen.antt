@@ -1,4 +1,5 @@
--- What is seen of a run of the transcribed Rust, in the numbers that the program station prints: the answer, the list held, floor, incarnation and flags.
+-- Public: what is seen of a run of the transcribed Rust, in the numbers that the program station prints: the answer,
+-- the list held, floor, incarnation and flags.
 -- Assumes nothing.
 use Prim.Native.Nat.{ℕ}
 use mathlib.Core.Bool.{Bool}

@@ -1,4 +1,5 @@
--- Sessions that the Rust has answered (compare/recorded), as equations of its transcription, by computation. tools/rust_runs.py writes this file.
+-- Public: sessions that the Rust has answered (compare/recorded), as equations of its transcription, by computation.
+-- tools/rust_runs.py writes this file.
 -- Assumes nothing.
 use mathlib.Core.Path.{_≡_, refl}
 use mathlib.Core.Bool.{true, false}

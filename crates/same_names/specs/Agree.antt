@@ -1,5 +1,5 @@
--- This port's names, ranges and kinds are the Rust's: the definitions that contracts cite beside those that the crate magnetar transcribes.
--- Each statement is one equation over every input; proofs/ has their proofs.
+-- Public: this port's names, ranges and kinds are the Rust's: the definitions that contracts cite beside those that the
+-- crate magnetar transcribes. Each statement is one equation over every input; proofs/ has their proofs.
 --
 -- Where the two sides have different types, a table takes one to the other: `paper` takes the Rust's errors to this port's refusals,
 -- `readOf`, `sourceOf`, `rangeOf`, `lengthTold` and `testTold` an answer of this port to the Rust's `Result`. The only conditions are on the

@@ -1,6 +1,6 @@
--- Demand 2: "For every run of messages that document 01's reader takes, on a full-size store and where none of the refusals that 01 names
--- as ours is due, answers, refusals and lists equal those of the Rust on the same bytes." By 02 j the store may have any size, and "we compare
--- runs whose pushes all fit".
+-- Public: demand 2: "For every run of messages that document 01's reader takes, on a full-size store and where none of
+-- the refusals that 01 names as ours is due, answers, refusals and lists equal those of the Rust on the same bytes." By
+-- 02 j the store may have any size, and "we compare runs whose pushes all fit".
 --
 -- A run is a list of calls; what it shows is a list too, of what is seen after each call (`Shown`), in the Rust's types on both sides. The
 -- port's run (`portRun`) goes by the definitions that the programs' contracts cite, on the bytes of record and store; the Rust's

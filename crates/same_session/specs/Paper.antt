@@ -1,4 +1,5 @@
--- The Rust's errors and the refusals of 01, one beside the other. Numbers are kept; of the texts the broker's alone is (`textOf`).
+-- Public: the Rust's errors and the refusals of 01, one beside the other. Numbers are kept; of the texts the broker's
+-- alone is (`textOf`).
 -- Assumes nothing.
 use mathlib.Core.List.{[]}
 use Rattle.refusal.specs.declared.Refusal.{Refusal}

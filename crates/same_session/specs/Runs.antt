@@ -1,3 +1,5 @@
+-- Internal: no claim cites it; whoever reads the claims may skip it.
+--
 -- Small runs of the Rust's session, by computation: what the transcription does where a reader of the sources may stumble. Their messages
 -- are bytes.
 -- Assumes nothing.

@@ -1,4 +1,5 @@
--- This port's values as the Rust's. A segment's name is not stored here: it is rebuilt from parent, range and id.
+-- Public: this port's values as the Rust's. A segment's name is not stored here: it is rebuilt from parent, range and
+-- id.
 -- Assumes nothing.
 use Prim.Native.Nat.{ℕ, zero, suc}
 use mathlib.Core.Bool.{cond}

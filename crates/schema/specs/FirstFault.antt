@@ -1,4 +1,5 @@
--- The first fault of a message (01, Fields; 02 b), over its row of fields: faults in byte order, then what is missing.
+-- Public: the first fault of a message (01, Fields; 02 b), over its row of fields: faults in byte order, then what is
+-- missing.
 --
 -- 3, 4 and 7 are found in byte order, also in a value that a later one overrides: "At one field the order is: its key (3), its type (4), .. then its length or
 -- value (3, or 7)." A field may come again. "Required fields are looked for after merging, when the whole message has been read, so 6 comes after any 3, 4 or 7."

@@ -1,4 +1,4 @@
--- Required fields: "Required fields are looked for after merging, when the whole message has been read" (02 b).
+-- Public: required fields: "Required fields are looked for after merging, when the whole message has been read" (02 b).
 --
 -- A message is given by its row of fields. A singular message that comes several times is one message, whose row is that of all its parts (`mergedFields` of
 -- the crate values); of a oneof the last member counts (`memberOf`); a message that may come again is looked at by itself, each time. `isComplete` is the

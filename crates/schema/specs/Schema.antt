@@ -1,4 +1,5 @@
--- The fields of the eight messages, as PulsarApi.proto has them. Each row: the field's number, its label and its type; its name stands behind it.
+-- Public: the fields of the eight messages, as PulsarApi.proto has them. Each row: the field's number, its label and
+-- its type; its name stands behind it.
 -- Assumes nothing.
 use Prim.Native.Nat.{ℕ}
 use mathlib.Core.Bool.{Bool, true, false, cond}

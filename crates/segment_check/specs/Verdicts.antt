@@ -1,3 +1,5 @@
+-- Internal: cited by the contracts of helpers alone; whoever reads the claims may skip it.
+--
 -- What the tests of one segment answer.
 -- Assumes nothing.
 use mathlib.Core.Path.{_≡_}

@@ -1,6 +1,6 @@
--- What `keyInSegment` answers, in 02's words. proofs/AnsweredLaws: it holds of every packed assignment and every id
--- (`answer-is`). A key and none exclude each other: a value that a segment with buckets takes lies in its range and in
--- a bucket.
+-- Public: what `keyInSegment` answers, in 02's words. proofs/AnsweredLaws: it holds of every packed assignment and
+-- every id (`answer-is`). A key and none exclude each other: a value that a segment with buckets takes lies in its
+-- range and in a bucket.
 -- Assumes nothing.
 use Prim.Native.Nat.{ℕ, _/_, _^_}
 use mathlib.Core.Path.{_≡_}

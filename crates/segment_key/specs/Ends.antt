@@ -1,4 +1,6 @@
--- How src/ finds the least value, by the ends of ranges. Internal: cited by the contracts of helpers alone.
+-- Internal: cited by the contracts of helpers alone; whoever reads the claims may skip it.
+--
+-- How src/ finds the least value, by the ends of ranges.
 -- Assumes nothing.
 use Prim.Native.Nat.{ℕ, min, max}
 use mathlib.Core.Bool.{cond}

@@ -1,4 +1,4 @@
--- The smallest hash that a segment takes (02, request i): its low 16 bits "lie in that segment and, where it has
+-- Public: the smallest hash that a segment takes (02, request i): its low 16 bits "lie in that segment and, where it has
 -- buckets, in a bucket".
 --
 -- `leastTaken` looks through the values of the segment's range, the lowest first. `LeastOf` says what the least value

@@ -1,5 +1,5 @@
--- A test key for a segment of a packed assignment (02, request i): the key of the least hash that the segment takes.
--- What an answer means, in 02's words, is said in specs/Answered.
+-- Public: a test key for a segment of a packed assignment (02, request i): the key of the least hash that the segment
+-- takes. What an answer means, in 02's words, is said in specs/Answered.
 -- Assumes nothing.
 use Prim.Native.Nat.{ℕ}
 use mathlib.Core.List.{List}

@@ -1,3 +1,5 @@
+-- Internal: no claim cites it; whoever reads the claims may skip it.
+--
 -- Messages that differ only in the order of their segments, by computation: two segments change places around an
 -- unknown field and the epoch.
 -- Assumes nothing.

@@ -1,4 +1,4 @@
--- "The broker may list segments in any order" (02 g): a law of the calls update and response, over any bytes.
+-- Public: "The broker may list segments in any order" (02 g): a law of the calls update and response, over any bytes.
 --
 -- Two messages "differ only in the order of their segments" where their rows of fields are the same except for their
 -- assignments, and the rows of the assignments are the same except for the places of the segments: a segment's field

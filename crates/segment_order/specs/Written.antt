@@ -1,6 +1,6 @@
--- "Customers' brokers write from hash maps" (02 g): an assignment whose segments were written in any order, carried by
--- an update or a response. Two such messages differ only in the order of their segments, so SegmentOrder speaks of
--- them.
+-- Public: "Customers' brokers write from hash maps" (02 g): an assignment whose segments were written in any order,
+-- carried by an update or a response. Two such messages differ only in the order of their segments, so SegmentOrder
+-- speaks of them.
 --
 -- The bytes are those of `assignmentMessage`: the epoch, then the segments' fields in the order of the list. Nothing is
 -- asked of the segments; the messages have fewer than 2 ^ 64 bytes, as every slice has. Proved in proofs/WrittenLaws.

@@ -1,4 +1,5 @@
--- The segment name reader `SegmentSource::new` and the parent of a name (01, Segment name: 7, 18 without prefix or slash, 12, 18, 9, 19).
+-- Public: the segment name reader `SegmentSource::new` and the parent of a name (01, Segment name: 7, 18 without prefix
+-- or slash, 12, 18, 9, 19).
 --
 -- `parseSegmentTopic` is the Rust's `parse_segment_topic`: the text behind `segment://` is split at its last '/' into the parent's path and a
 -- descriptor, the start and the end as four lower-case hex digits each and the id in decimal without leading zeros, joined by '-'.

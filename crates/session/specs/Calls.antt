@@ -1,4 +1,5 @@
--- The calls on bytes: what each gives over every record, store, message and output. The contracts of the programs are these equations.
+-- Public: the calls on bytes: what each gives over every record, store, message and output. The contracts of the
+-- programs are these equations.
 -- Assumes nothing.
 use Prim.Native.Nat.{ℕ, _*_}
 use mathlib.Core.Bool.{Bool, false, cond, _&&_}

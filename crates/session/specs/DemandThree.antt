@@ -1,4 +1,5 @@
--- Demand 3, for each reader (02 d): what a station holds, what its controller sent, and what that reader's uploader keeps are the same.
+-- Public: demand 3, for each reader (02 d): what a station holds, what its controller sent, and what that reader's
+-- uploader keeps are the same.
 --
 -- `DemandThree` is the claim, about any reader and any list of calls from any fresh record and any store; its proof is proofs/Claimed. Each call answers or refuses as 01 sets because
 -- `trace` goes by the very definitions that the programs' contracts cite (specs/Calls, specs/Link).

@@ -1,4 +1,4 @@
--- Drain: `take_replayed_updates`, one per call.
+-- Public: drain: `take_replayed_updates`, one per call.
 --
 -- "the next queue entry, from the position on, that differs from its predecessor (for the first, the baseline), as the byte place of its sheet in the store and the
 -- delta; the position moves just behind that entry. Else none, with the position at the queue's end. Unregistered: none, and nothing moves."

@@ -1,4 +1,5 @@
--- The identity slot (01, Store): "topic, subscription and name lengths 16 bits each, kind 8 bits: 0 stream, 1 checkpoint, then the texts".
+-- Public: the identity slot (01, Store): "topic, subscription and name lengths 16 bits each, kind 8 bits: 0 stream, 1
+-- checkpoint, then the texts".
 -- Assumes nothing.
 use Prim.Native.Nat.{ℕ, _+_}
 use mathlib.Core.Bool.{Bool, _&&_}

@@ -1,4 +1,4 @@
--- Begin and invalidate: `begin_incarnation` and `invalidate_authority`.
+-- Public: begin and invalidate: `begin_incarnation` and `invalidate_authority`.
 --
 -- "unregistered, queue and position 0, no store byte touched, floor kept. Begin sets the incarnation and clears invalidated; invalidate sets it." Begin: 25;
 -- "invalidate refuses nothing". The position is every reader's (02 d). Neither looks at the store.

@@ -1,4 +1,5 @@
--- The sender of demand 3 and the uploader of each reader, exactly as 01 and 02 d have them, and what else is told from outside. None of them sees the record.
+-- Public: the sender of demand 3 and the uploader of each reader, exactly as 01 and 02 d have them, and what else is
+-- told from outside. None of them sees the record.
 -- Assumes nothing.
 use Prim.Native.Nat.{ℕ}
 use mathlib.Core.Bool.{Bool, true, false, cond, not, _&&_, _||_}

@@ -1,4 +1,4 @@
--- Response: `handle_subscribe_response_for`.
+-- Public: response: `handle_subscribe_response_for`.
 --
 -- "an assignment outranks an error code. The queue is replayed over the baseline; one stale push refuses the whole response. Then baseline, last list and floor are
 -- set, the queue stays to be drained from position 0. For a registered session the queue counts as empty, and acceptance empties it."

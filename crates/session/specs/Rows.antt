@@ -1,4 +1,5 @@
--- Rows of the readers (02 d), by computing: the order of a drain's refusals, whose position moves, and who sets all of them to 0.
+-- Public: rows of the readers (02 d), by computing: the order of a drain's refusals, whose position moves, and who sets
+-- all of them to 0.
 -- Assumes nothing.
 use Prim.Native.Nat.{ℕ}
 use mathlib.Core.Path.{_≡_, refl}

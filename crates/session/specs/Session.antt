@@ -1,4 +1,5 @@
--- A session (01, Session): the record, and what the slots and queue entries in use hold. A call gives a reply, the next record, and the lists that it writes.
+-- Public: a session (01, Session): the record, and what the slots and queue entries in use hold. A call gives a reply,
+-- the next record, and the lists that it writes.
 -- Assumes nothing.
 use Prim.Native.Nat.{ℕ, zero, suc, _+_}
 use mathlib.Core.Bool.{Bool, true, false, cond, not, _&&_, _||_}

@@ -1,4 +1,5 @@
--- The words of a session's calls: those of the crate refusal (specs/Steps), where a refusal leaves the session as it was.
+-- Public: the words of a session's calls: those of the crate refusal (specs/Steps), where a refusal leaves the session
+-- as it was.
 -- Assumes nothing.
 use mathlib.Core.Bool.{Bool, cond}
 use mathlib.Core.List.{[]}

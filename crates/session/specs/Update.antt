@@ -1,4 +1,4 @@
--- Update: `handle_assignment_update_for`.
+-- Public: update: `handle_assignment_update_for`.
 --
 -- "unregistered, it joins the queue and answers none. Registered, a list equal in every field answers none; any other list with epoch not below is held, raises the
 -- floor, and answers the delta." Refused in order: 1, 2, 22, 3, 4, 7, 6, 23, 24, 9 to 11, 34, 12 to 15, then 26, 28 or 27.

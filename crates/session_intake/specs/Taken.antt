@@ -1,3 +1,5 @@
+-- Internal: cited by the contracts of helpers alone; whoever reads the claims may skip it.
+--
 -- What is told of the assignment in a session's message, and where it stands then.
 -- Assumes nothing.
 use Prim.Native.Nat.{ℕ, _-_, _≤_}

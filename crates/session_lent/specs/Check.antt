@@ -1,4 +1,4 @@
--- Whether record and store are a session's: what the calls over a store ask first.
+-- Public: whether record and store are a session's: what the calls over a store ask first.
 -- Assumes nothing.
 use Prim.Native.Nat.{ℕ}
 use mathlib.Core.Bool.{cond}

@@ -1,4 +1,4 @@
--- What the functions of src/ answer about the floor.
+-- Public: what the functions of src/ answer about the floor.
 -- Assumes nothing.
 use Prim.Native.Nat.{ℕ}
 use mathlib.Core.Bool.{Bool, false}

@@ -1,5 +1,6 @@
--- The record and the answer of a session's call as plain structs: the answer in numbers, the record with bytes for its flags. In order: the record, in
--- and out, and the laws that hold both to each other; the answer; what a call leaves.
+-- Public: the record and the answer of a session's call as plain structs: the answer in numbers, the record with bytes
+-- for its flags. In order: the record, in and out, and the laws that hold both to each other; the answer; what a call
+-- leaves.
 -- Assumes nothing.
 use Prim.Native.Nat.{ℕ}
 use mathlib.Core.Path.{_≡_}

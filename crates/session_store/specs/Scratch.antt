@@ -1,3 +1,5 @@
+-- Internal: cited by the contracts of helpers alone; whoever reads the claims may skip it.
+--
 -- A buffer of a slot's length with a packed assignment at its front.
 -- Assumes nothing.
 use Prim.Native.Nat.{ℕ}

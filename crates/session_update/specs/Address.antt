@@ -1,3 +1,5 @@
+-- Internal: cited by the contracts of helpers alone; whoever reads the claims may skip it.
+--
 -- What the functions of src/ answer: whether a valid update is for this session, before its assignment is looked at.
 -- Assumes nothing.
 use Prim.Native.Nat.{ℕ}

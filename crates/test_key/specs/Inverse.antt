@@ -1,4 +1,4 @@
--- The four-byte key that has a given hash (02, request i): each step of MurmurHash3 undone, the last first.
+-- Public: the four-byte key that has a given hash (02, request i): each step of MurmurHash3 undone, the last first.
 --
 -- Whoever reads the claims need not follow the steps: that `keyForHash` gives four bytes that have the hash, and that
 -- no others have it, is said in specs/OneKey of `murmur3` alone.

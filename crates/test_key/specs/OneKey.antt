@@ -1,4 +1,4 @@
--- What `keyForHash` gives, in 02's words and over `murmur3` alone. proofs/KeyLaws: it holds (`always-one`).
+-- Public: what `keyForHash` gives, in 02's words and over `murmur3` alone. proofs/KeyLaws: it holds (`always-one`).
 -- Assumes nothing.
 use Prim.Native.Nat.{ℕ, _^_, _<_}
 use mathlib.Core.Path.{_≡_}

@@ -1,3 +1,5 @@
+-- Internal: cited by the contracts of helpers alone; whoever reads the claims may skip it.
+--
 -- What the helpers of src/ answer: the end of a name in an array.
 -- Assumes nothing.
 use Prim.Native.Nat.{ℕ, _≤_}

@@ -1,4 +1,4 @@
--- The name builder (01, Name builder: 7, 9, 12, 21).
+-- Public: the name builder (01, Name builder: 7, 9, 12, 21).
 --
 -- An outcome is what a call with an output gives: its answer, and the output's bytes behind the call.
 -- Assumes nothing.

@@ -1,5 +1,5 @@
--- The name of a segment (01, Names): `segment://`, the parent's path, `/`, then "start and end as four lower-case hex digits each, decimal id
--- without leading zeros, joined by `-`".
+-- Public: the name of a segment (01, Names): `segment://`, the parent's path, `/`, then "start and end as four
+-- lower-case hex digits each, decimal id without leading zeros, joined by `-`".
 -- Assumes nothing.
 use Prim.Native.Nat.{ℕ, zero, suc, _+_, _/_, _%_}
 use mathlib.Core.Bool.{cond}

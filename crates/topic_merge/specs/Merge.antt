@@ -1,3 +1,5 @@
+-- Internal: cited by the contracts of helpers alone; whoever reads the claims may skip it.
+--
 -- A packed set without the topics of a packed list, and with them.
 -- Assumes nothing.
 use Prim.Native.Nat.{ℕ}

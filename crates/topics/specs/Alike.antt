@@ -1,4 +1,6 @@
--- Two topics gone through together. Internal: cited by the contracts of helpers alone.
+-- Internal: cited by the contracts of helpers alone; whoever reads the claims may skip it.
+--
+-- Two topics gone through together.
 -- Assumes nothing.
 use Prim.Native.Nat.{ℕ, _≤_}
 use mathlib.Core.Path.{_≡_}

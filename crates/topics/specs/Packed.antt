@@ -1,4 +1,4 @@
--- The packed form of a list of topics (01, Watch): "each topic a 16-bit length and UTF-8 bytes".
+-- Public: the packed form of a list of topics (01, Watch): "each topic a 16-bit length and UTF-8 bytes".
 -- Assumes nothing.
 use Prim.Native.Nat.{ℕ, zero, suc, _+_}
 use mathlib.Core.Bool.{Bool, true, false, _&&_}

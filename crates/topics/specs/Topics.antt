@@ -1,4 +1,5 @@
--- Topics in byte order, and sets of topics as rising lists: what the Rust keeps in a `BTreeSet<String>` is such a list.
+-- Public: topics in byte order, and sets of topics as rising lists: what the Rust keeps in a `BTreeSet<String>` is such
+-- a list.
 -- Assumes nothing.
 use Prim.Native.Nat.{ℕ}
 use mathlib.Core.Bool.{Bool, true, false, cond, _&&_, _||_}

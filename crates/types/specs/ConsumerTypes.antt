@@ -1,4 +1,4 @@
--- The kind of a consumer and its integer on the wire (01, The rest; PulsarApi.proto, ScalableConsumerType).
+-- Public: the kind of a consumer and its integer on the wire (01, The rest; PulsarApi.proto, ScalableConsumerType).
 -- Assumes nothing.
 use mathlib.Core.Bool.{cond}
 use lib.IntN.{ℤ, pos, negsuc}

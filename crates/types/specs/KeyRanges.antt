@@ -1,4 +1,4 @@
--- Ranges of the 16-bit key space (01, Ranges), and why two numbers are none.
+-- Public: ranges of the 16-bit key space (01, Ranges), and why two numbers are none.
 --
 -- `newKeyRange` is the Rust's `KeyRange::new`. `kindOf` and `numbersOf` give what a refusal attaches: the kind, 1 to 3, and that kind's own
 -- numbers in the order of the Rust's fields.

@@ -1,5 +1,5 @@
--- UTF-8 by Unicode's Table 3-7, "Well-Formed UTF-8 Byte Sequences" (01, Fields: "Texts are UTF-8"; 02, c: "row by row in
--- the table's order").
+-- Public: UTF-8 by Unicode's Table 3-7, "Well-Formed UTF-8 Byte Sequences" (01, Fields: "Texts are UTF-8"; 02, c: "row
+-- by row in the table's order").
 --
 -- `table` is that table, line by line: the spans of the first, second, third and fourth byte, and behind them the row's
 -- code points. A text is UTF-8 where it is sequences that fit a row, one behind the other. `isUtf8` is the name that

@@ -1,4 +1,5 @@
--- A varint's value as a 32-bit integer (01, Fields): "uint32 and int32 keep the low 32 bits, int32 as two's complement".
+-- Public: a varint's value as a 32-bit integer (01, Fields): "uint32 and int32 keep the low 32 bits, int32 as two's
+-- complement".
 -- Assumes nothing.
 use Prim.Native.Nat.{ℕ, _-_, _%_, _^_}
 use mathlib.Core.Bool.{cond}

@@ -1,4 +1,4 @@
--- What the functions of src/ answer: a field at the front of a part, and places in a message.
+-- Public: what the functions of src/ answer: a field at the front of a part, and places in a message.
 -- Assumes nothing.
 use Prim.Native.Nat.{ℕ, zero, suc, _+_, _-_, _≤_, _<_}
 use mathlib.Core.Path.{_≡_}

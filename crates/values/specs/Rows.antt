@@ -1,4 +1,4 @@
--- Worked rows: where a text stands, byte by byte. They hold by computation.
+-- Public: worked rows: where a text stands, byte by byte. They hold by computation.
 -- Assumes nothing.
 use Prim.Native.Nat.{ℕ}
 use native.Mathlib.Omega.{arith}

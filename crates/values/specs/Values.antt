@@ -1,4 +1,4 @@
--- The values of a message's fields, over its row of fields.
+-- Public: the values of a message's fields, over its row of fields.
 --
 -- `numbersOf` and `partsOf` give all values that a field holds, in byte order. "A singular scalar or text given twice now has its last value. A singular
 -- message given twice is merged: scalars by the last, repeated parts appended" (02 b): the last is `lastOf` and `lastPart`; the fields of a singular message are

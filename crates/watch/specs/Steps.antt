@@ -1,4 +1,6 @@
--- What the functions of src/ say of a diff where its set and its output are written. Internal: cited by the contracts of helpers alone.
+-- Internal: cited by the contracts of helpers alone; whoever reads the claims may skip it.
+--
+-- What the functions of src/ say of a diff where its set and its output are written.
 -- Assumes nothing.
 use Prim.Native.Nat.{ℕ, _+_, _^_, _≤_, _<_}
 use mathlib.Core.Path.{_≡_}

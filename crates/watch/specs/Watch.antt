@@ -1,4 +1,4 @@
--- The topics watch (01, Watch): `ScalableTopicsWatch::handle_update` on a lent set.
+-- Public: the topics watch (01, Watch): `ScalableTopicsWatch::handle_update` on a lent set.
 --
 -- "a lent set at the front of its buffer, its byte length given and answered ... A snapshot replaces; a diff removes, then adds." Refused in order: 30, 3, 4, 7, 6, 29, 16, 17,
 -- 31, 21; a refusal changes nothing.

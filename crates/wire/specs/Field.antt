@@ -1,4 +1,5 @@
--- A field at the front of a part: its key, and what stands behind the key (Protocol Buffers, "Encoding", "Message Structure"; 01, Fields).
+-- Public: a field at the front of a part: its key, and what stands behind the key (Protocol Buffers, "Encoding",
+-- "Message Structure"; 01, Fields).
 -- Assumes nothing.
 use Prim.Native.Nat.{ℕ, _+_, _/_, _%_}
 use mathlib.Core.Bool.{cond}

@@ -1,4 +1,4 @@
--- A message as the encoding page has it: a row of fields, one behind the other, whatever they mean.
+-- Public: a message as the encoding page has it: a row of fields, one behind the other, whatever they mean.
 --
 -- `fieldsOf` gives the fields of a part in byte order. A broken field is the row's last: nothing tells where another would start. The count of
 -- `fieldsAfter` is the bytes that still belong to the field before, so the definition goes down the list byte by byte.

@@ -1,4 +1,4 @@
--- A varint at the front of a part (Protocol Buffers, "Encoding", "Base 128 Varints"; 01, Fields).
+-- Public: a varint at the front of a part (Protocol Buffers, "Encoding", "Base 128 Varints"; 01, Fields).
 --
 -- A byte holds seven bits of the value, the low ones first, and 128 more where another byte follows. There are at most ten bytes; the tenth holds
 -- bit 63 alone, so it is 0 or 1. A part that ends before the varint does is broken.

@@ -1,4 +1,5 @@
--- Fields as bytes (Protocol Buffers, "Encoding"): varints without redundant bytes, keys, numbers, and length-delimited parts.
+-- Public: fields as bytes (Protocol Buffers, "Encoding"): varints without redundant bytes, keys, numbers, and
+-- length-delimited parts.
 --
 -- proofs/EncodeLaws says that what is written reads back: `varintOf` gives the number, `fieldsOf` the field and whatever follows it.
 -- Assumes nothing.

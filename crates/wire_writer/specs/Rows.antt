@@ -1,3 +1,5 @@
+-- Internal: no claim cites it; whoever reads the claims may skip it.
+--
 -- Published encodings (Protocol Buffers, "Encoding"), each by computation.
 -- Assumes nothing.
 use Prim.Native.Nat.{ℕ, _-_, _^_}

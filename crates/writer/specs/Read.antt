@@ -1,5 +1,5 @@
--- "so that what is written can be read" (02 e): the message that the writer wrote, carried by an update or a response, has no fault and comes
--- to the assignment that was lent. Proved in proofs/WrittenReads.antt.
+-- Public: "so that what is written can be read" (02 e): the message that the writer wrote, carried by an update or a
+-- response, has no fault and comes to the assignment that was lent. Proved in proofs/WrittenReads.antt.
 -- Assumes nothing.
 use Prim.Native.Nat.{ℕ, _^_, _<_}
 use mathlib.Core.Path.{_≡_}

@@ -1,4 +1,5 @@
--- The writer (01: 20, then where it has a segment 7 and 12, then 21; 02 e: 34 "in the writer after 20"), over any bytes.
+-- Public: the writer (01: 20, then where it has a segment 7 and 12, then 21; 02 e: 34 "in the writer after 20"), over
+-- any bytes.
 -- Assumes nothing.
 use Prim.Native.Nat.{ℕ}
 use mathlib.Core.Bool.{cond}

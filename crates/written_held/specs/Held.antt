@@ -1,4 +1,5 @@
--- From the bytes that `to_pb` writes to the call that takes them: the list that is held is the list that was written.
+-- Public: from the bytes that `to_pb` writes to the call that takes them: the list that is held is the list that was
+-- written.
 --
 -- What the writer wrote, carried by an update or a response, is lent to the very definitions that the calls' contracts cite. The conditions
 -- are those under which 1, 2, 22, 23, 24, 26, 27 and 28 are not due; that 3 to 7, 9 to 17 and 34 are not due is part of the claim. One
