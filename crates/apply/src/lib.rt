@@ -21,7 +21,7 @@ pub fn apply(assignment: &[u8], delta: &[u8], out: &mut [u8]) -> WriteAnswer
         return WriteAnswer::Refused(Refusal::MalformedInput);
     };
     let kept = Row {
-        at: 10,
+        at: packed::ASSIGNMENT_HEAD,
         left: count,
     };
     let lost = Row {
@@ -38,15 +38,23 @@ pub fn apply(assignment: &[u8], delta: &[u8], out: &mut [u8]) -> WriteAnswer
         delta,
         lost,
         gained,
-        packed::SLOT - 10,
+        packed::SLOT - packed::ASSIGNMENT_HEAD,
     ) else {
         return WriteAnswer::Refused(Refusal::AssignmentTooLong);
     };
-    if out.len() < 10 + size {
+    if out.len() < packed::ASSIGNMENT_HEAD + size {
         return WriteAnswer::Refused(Refusal::ResultTooLong);
     }
-    overlay::write_overlay(assignment, kept, delta, lost, gained, out, 10);
+    overlay::write_overlay(
+        assignment,
+        kept,
+        delta,
+        lost,
+        gained,
+        out,
+        packed::ASSIGNMENT_HEAD,
+    );
     packed_int::write_u16(out, 8, n as u16);
     packed_int::write_u64(out, 0, packed_int::read_u64(delta, 0));
-    WriteAnswer::Written(10 + size)
+    WriteAnswer::Written(packed::ASSIGNMENT_HEAD + size)
 }

@@ -29,9 +29,13 @@ encodeDelta d =
     bytesOf 8 (d .layoutEpoch)
     ++ (bytesOf 2 (length (d .lost)) ++ (bytesOf 2 (length (d .gained)) ++ (encodeIds (d .lost) ++ encodeSegments (d .gained))))
 
+-- the bytes before the ids: epoch and two counts
+abbrev pub deltaHead : ℕ
+deltaHead = 12
+
 -- how many bytes those are
 unfoldable pub sizeDelta : AssignmentDelta → ℕ
-sizeDelta d = 12 + 8 * length (d .lost) + sizeSegments (d .gained)
+sizeDelta d = deltaHead + 8 * length (d .lost) + sizeSegments (d .gained)
 
 -- ---- from bytes to a value, whatever the bytes are
 
@@ -41,7 +45,7 @@ idsOf (suc n) l = num 8 l ∷ idsOf n (drop 8 l)
 
 -- with so many lost ids and gained records
 abbrev pub deltaWith : ℕ → ℕ → List ℕ → AssignmentDelta
-deltaWith m n l = record { layoutEpoch = num 8 l; lost = idsOf m (drop 12 l); gained = segmentsOf n (drop (12 + 8 * m) l) }
+deltaWith m n l = record { layoutEpoch = num 8 l; lost = idsOf m (drop deltaHead l); gained = segmentsOf n (drop (deltaHead + 8 * m) l) }
 
 unfoldable pub deltaOf : List ℕ → AssignmentDelta
 deltaOf l = deltaWith (num 2 (drop 8 l)) (num 2 (drop 10 l)) l

@@ -19,6 +19,16 @@ use Rattle.packed_int.specs.Be.{be, bytesOf}
 abbrev pub slotSize : ℕ
 slotSize = 2048
 
+-- the bytes before the records of an assignment; of a record before its buckets; of a bucket
+abbrev pub assignmentHead : ℕ
+assignmentHead = 10
+
+abbrev pub recordHead : ℕ
+recordHead = 14
+
+abbrev pub bucketSize : ℕ
+bucketSize = 4
+
 -- ---- values
 
 pub record AssignedSegment : Type 0 where
@@ -57,14 +67,14 @@ encodeAssignment a = bytesOf 8 (a .layoutEpoch) ++ (bytesOf 2 (length (a .segmen
 -- ---- how many bytes those are
 
 unfoldable pub sizeSegment : AssignedSegment → ℕ
-sizeSegment g = 14 + 4 * length (g .buckets)
+sizeSegment g = recordHead + bucketSize * length (g .buckets)
 
 unfoldable pub sizeSegments : List AssignedSegment → ℕ
 sizeSegments [] = 0
 sizeSegments (g ∷ gs) = sizeSegment g + sizeSegments gs
 
 unfoldable pub sizeAssignment : ConsumerAssignment → ℕ
-sizeAssignment a = 10 + sizeSegments (a .segments)
+sizeAssignment a = assignmentHead + sizeSegments (a .segments)
 
 -- ---- from bytes to a value, whatever the bytes are
 
@@ -77,18 +87,18 @@ rangeOf l = keyRange (num 2 l) (num 2 (drop 2 l))
 
 unfoldable pub rangesOf : ℕ → List ℕ → List KeyRange
 rangesOf zero l = []
-rangesOf (suc n) l = rangeOf l ∷ rangesOf n (drop 4 l)
+rangesOf (suc n) l = rangeOf l ∷ rangesOf n (drop bucketSize l)
 
 unfoldable pub segmentOf : List ℕ → AssignedSegment
 segmentOf l =
-    record { segmentId = num 8 l; range = rangeOf (drop 8 l); buckets = rangesOf (num 2 (drop 12 l)) (drop 14 l) }
+    record { segmentId = num 8 l; range = rangeOf (drop 8 l); buckets = rangesOf (num 2 (drop 12 l)) (drop recordHead l) }
 
 unfoldable pub segmentsOf : ℕ → List ℕ → List AssignedSegment
 segmentsOf zero l = []
 segmentsOf (suc n) l = segmentOf l ∷ segmentsOf n (drop (sizeSegment (segmentOf l)) l)
 
 unfoldable pub assignmentOf : List ℕ → ConsumerAssignment
-assignmentOf l = record { layoutEpoch = num 8 l; segments = segmentsOf (num 2 (drop 8 l)) (drop 10 l) }
+assignmentOf l = record { layoutEpoch = num 8 l; segments = segmentsOf (num 2 (drop 8 l)) (drop assignmentHead l) }
 
 -- ---- which values are packed assignments
 

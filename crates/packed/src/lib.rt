@@ -15,6 +15,13 @@ use types::KeyRange;
 // The most bytes of a packed assignment: a slot.
 pub const SLOT: usize = 2048;
 
+// Bytes before the records of a packed assignment; of a record before its buckets; of a bucket.
+pub const ASSIGNMENT_HEAD: usize = 10;
+
+pub const RECORD_HEAD: usize = 14;
+
+pub const BUCKET: usize = 4;
+
 // Fewer buckets than these are compared pairwise: that is cheaper than to clear the marks.
 const MANY: usize = 32;
 
@@ -56,7 +63,7 @@ fn buckets_rise(s: &[u8], at: usize, n: usize) -> bool
             return false;
         }
         low = ranges::above(range);
-        p = p + 4;
+        p = p + BUCKET;
         left = left - 1;
     }
     true
@@ -73,7 +80,7 @@ fn bucket_overlaps(s: &[u8], at: usize, n: usize, range: KeyRange) -> bool
         if ranges::overlaps(range_at(s, p), range) {
             return true;
         }
-        p = p + 4;
+        p = p + BUCKET;
         left = left - 1;
     }
     false
@@ -91,7 +98,7 @@ fn buckets_apart(s: &[u8], at: usize, n: usize) -> bool
         if range.end < range.start {
             return false;
         }
-        p = p + 4;
+        p = p + BUCKET;
         left = left - 1;
         if bucket_overlaps(s, p, left, range) {
             return false;
@@ -120,7 +127,7 @@ fn buckets_marked(s: &[u8], at: usize, n: usize) -> bool
         if marks::mark(&mut words, range) {
             return false;
         }
-        p = p + 4;
+        p = p + BUCKET;
         left = left - 1;
     }
     true
@@ -145,20 +152,20 @@ pub fn record_at(s: &[u8], at: usize, end: usize) -> RecordRead
     requires { ⌜ (at ≤ end) × (end ≤ length (now s)) ⌝ }
     ensures { λ r. ⌜ r ≡ recordRead (now (s .entry)) at end ⌝ }
 {
-    if end - at < 14 {
+    if end - at < RECORD_HEAD {
         return RecordRead::Malformed;
     }
     let id = packed_int::read_u64(s, at);
     let range = range_at(s, at + 8);
     let count = packed_int::read_u16(s, at + 12) as usize;
-    if (end - at - 14) / 4 < count {
+    if (end - at - RECORD_HEAD) / BUCKET < count {
         return RecordRead::Malformed;
     }
     if range.end < range.start {
         return RecordRead::Malformed;
     }
-    if buckets_ok(s, at + 14, count) {
-        RecordRead::Record(id, 14 + 4 * count)
+    if buckets_ok(s, at + RECORD_HEAD, count) {
+        RecordRead::Record(id, RECORD_HEAD + BUCKET * count)
     } else {
         RecordRead::Malformed
     }
@@ -169,7 +176,7 @@ fn read_record(s: &[u8], at: usize, end: usize) -> RecordRead
     requires { ⌜ (at ≤ end) × (end ≤ length (now s)) ⌝ }
     ensures { λ r. ⌜ r ≡ recordRead (now (s .entry)) at end ⌝ }
 {
-    if end - at < 14 {
+    if end - at < RECORD_HEAD {
         return RecordRead::Malformed;
     }
     let id = packed_int::read_u64(s, at);
@@ -181,7 +188,7 @@ fn read_record(s: &[u8], at: usize, end: usize) -> RecordRead
     if range.end < range.start {
         return RecordRead::Malformed;
     }
-    RecordRead::Record(id, 14)
+    RecordRead::Record(id, RECORD_HEAD)
 }
 
 fn least(a: usize, b: usize) -> usize
@@ -195,11 +202,11 @@ pub fn read_front(s: &[u8]) -> Packed
     ensures { λ r. ⌜ r ≡ frontRead (now (s .entry)) ⌝ }
 {
     let end = least(s.len(), SLOT);
-    if end < 10 {
+    if end < ASSIGNMENT_HEAD {
         return Packed::Malformed;
     }
     let count = packed_int::read_u16(s, 8) as usize;
-    let mut p: usize = 10;
+    let mut p: usize = ASSIGNMENT_HEAD;
     let mut left = count;
     let mut first = true;
     let mut prev: u64 = 0;

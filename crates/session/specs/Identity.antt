@@ -17,6 +17,10 @@ pub record Identity : Type 0 where
   pub consumerName : List ℕ
   pub consumerType : ScalableConsumerType
 
+-- the bytes before the texts: three lengths and the kind
+abbrev pub identityHead : ℕ
+identityHead = 7
+
 -- the most bytes of the three texts together: a slot without its first seven
 abbrev pub maxTexts : ℕ
 maxTexts = 2041
@@ -45,13 +49,13 @@ abbrev pub nameLength : List ℕ → ℕ
 nameLength l = beAt 2 l 4
 
 unfoldable pub topicOf : List ℕ → List ℕ
-topicOf l = take (topicLength l) (drop 7 l)
+topicOf l = take (topicLength l) (drop identityHead l)
 
 unfoldable pub subscriptionOf : List ℕ → List ℕ
-subscriptionOf l = take (subscriptionLength l) (drop (7 + topicLength l) l)
+subscriptionOf l = take (subscriptionLength l) (drop (identityHead + topicLength l) l)
 
 unfoldable pub consumerNameOf : List ℕ → List ℕ
-consumerNameOf l = take (nameLength l) (drop (7 + topicLength l + subscriptionLength l) l)
+consumerNameOf l = take (nameLength l) (drop (identityHead + topicLength l + subscriptionLength l) l)
 
 abbrev pub kindOf : List ℕ → ℕ
 kindOf l = getD l 6 0

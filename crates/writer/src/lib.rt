@@ -52,7 +52,7 @@ fn bucket_outside(s: &[u8], at: usize, n: usize, range: KeyRange) -> Outside
         if range.end < bucket.end {
             return Outside::At(index);
         }
-        p = p + 4;
+        p = p + packed::BUCKET;
         index = index + 1;
     }
     Outside::Nothing
@@ -65,7 +65,7 @@ fn segment_outside(s: &[u8], p: usize) -> Outside
 {
     let range = packed::range_at(s, p + 8);
     let count = packed_int::read_u16(s, p + 12) as usize;
-    bucket_outside(s, p + 14, count, range)
+    bucket_outside(s, p + packed::RECORD_HEAD, count, range)
 }
 
 // The same of the m segments from a place on, the lowest id first.
@@ -125,7 +125,7 @@ fn buckets_size(s: &[u8], at: usize, n: usize) -> usize
     while 0 < left {
         let len = range_size(packed::range_at(s, p));
         size = size + wire_writer::part_head_size(5, len) + len;
-        p = p + 4;
+        p = p + packed::BUCKET;
         left = left - 1;
     }
     size
@@ -143,7 +143,7 @@ fn segment_size(s: &[u8], p: usize, path: &[u8]) -> usize
     let numbers = wire_writer::number_size(1, id)
         + wire_writer::number_size(2, range.start as u64)
         + wire_writer::number_size(3, range.end as u64);
-    let buckets = buckets_size(s, p + 14, count);
+    let buckets = buckets_size(s, p + packed::RECORD_HEAD, count);
     numbers + wire_writer::part_head_size(4, topic) + topic + buckets
 }
 
@@ -183,7 +183,7 @@ fn write_buckets(s: &[u8], at: usize, n: usize, out: &mut [u8], to: usize) -> us
         next = wire_writer::write_part_head(out, next, 5, range_size(range));
         next = wire_writer::write_number(out, next, 1, range.start as u64);
         next = wire_writer::write_number(out, next, 2, range.end as u64);
-        p = p + 4;
+        p = p + packed::BUCKET;
         left = left - 1;
     }
     next
@@ -216,7 +216,7 @@ fn write_segment(s: &[u8], p: usize, path: &[u8], out: &mut [u8], to: usize) -> 
     let head = wire_writer::write_number(out, end, 3, range.end as u64);
     let topic = wire_writer::write_part_head(out, head, 4, topic_size(path, range, id));
     let buckets = write_topic(path, range, id, out, topic);
-    write_buckets(s, p + 14, count, out, buckets)
+    write_buckets(s, p + packed::RECORD_HEAD, count, out, buckets)
 }
 
 // Writes the fields of the m segments from a place on to out, and answers the place behind them.
@@ -249,11 +249,12 @@ fn write_message(s: &[u8], m: usize, path: &[u8], out: &mut [u8]) -> WriteAnswer
     if out.len() < head {
         return WriteAnswer::Refused(Refusal::ResultTooLong);
     }
-    let Room::Size(size) = segments_room(s, 10, m, path, out.len() - head) else {
+    let Room::Size(size) = segments_room(s, packed::ASSIGNMENT_HEAD, m, path, out.len() - head)
+    else {
         return WriteAnswer::Refused(Refusal::ResultTooLong);
     };
     let next = wire_writer::write_number(out, 0, 1, epoch);
-    write_segments(s, 10, m, path, out, next);
+    write_segments(s, packed::ASSIGNMENT_HEAD, m, path, out, next);
     WriteAnswer::Written(head + size)
 }
 
@@ -268,7 +269,7 @@ pub fn to_pb(assignment: &[u8], parent: &[u8], out: &mut [u8]) -> WriteAnswer
     if count == 0 {
         return write_message(assignment, 0, parent, out);
     }
-    if let Held::Refused(x) = segments_outside(assignment, 10, count) {
+    if let Held::Refused(x) = segments_outside(assignment, packed::ASSIGNMENT_HEAD, count) {
         return WriteAnswer::Refused(x);
     }
     if !utf8::is_utf8(parent) {
