@@ -11,7 +11,8 @@ import usage
 ROOT = Path(__file__).resolve().parent.parent
 FILE = ROOT / "crates/rust_runs/specs/Sessions.antt"
 SESSIONS = 20
-HEAD = """-- Sessions that the Rust has answered (compare/recorded), as equations of its transcription, by computation. tools/rust_runs.py writes this file.
+HEAD = """-- Public: sessions that the Rust has answered (compare/recorded), as equations of its transcription, by computation.
+-- tools/rust_runs.py writes this file.
 -- Assumes nothing.
 use mathlib.Core.Path.{_≡_, refl}
 use mathlib.Core.Bool.{true, false}
