@@ -92,16 +92,18 @@ freshRecord consumer incarnation =
 abbrev pub notOpened : Refusal → SessionRecord → List ℕ → OpenOutcome
 notOpened x r store = record { answer = answer.Refused x; next = r; store = store }
 
+abbrev pub unopened : SessionRecord → (store : List ℕ) → Refusal → OpenOutcome
+unopened r store x = notOpened x r store
+
 abbrev pub allUtf8 : Identity → Bool
 allUtf8 i = isUtf8 (i .topic) && (isUtf8 (i .subscription) && isUtf8 (i .consumerName))
 
 unfoldable pub openOutcome : (consumer : ℕ) (incarnation : ControllerIncarnation) (i : Identity) (store : List ℕ) → OpenOutcome
 openOutcome consumer incarnation i store = do
   let fresh = freshRecord consumer incarnation
-  let refuse = λ (x : Refusal). notOpened x fresh store
-  refuseIf refuse (ltb (length store) minStore) StoreTooShort  -- 1
-  refuseUnless refuse (allUtf8 i) InvalidUtf8  -- 7
-  refuseUnless refuse (leb (textsLength i) maxTexts) IdentityTooLong  -- 8
+  refuseIf (unopened fresh store) (ltb (length store) minStore) StoreTooShort  -- 1
+  refuseUnless (unopened fresh store) (allUtf8 i) InvalidUtf8  -- 7
+  refuseUnless (unopened fresh store) (leb (textsLength i) maxTexts) IdentityTooLong  -- 8
   record { answer = answer.Accepted; next = fresh; store = put store 0 (encodeIdentity i) }
 
 -- ---- matches_registration: 1, then 22 for the identity slot alone
