@@ -102,6 +102,9 @@ static inline const char *cuddrewyn_version(void) { return CUDDREWYN_VERSION; }
 #define CUDDREWYN_TOPICS_UPDATE 77
 /* The bytes of an entry of an uploader's log. */
 #define CUDDREWYN_LOG_ENTRY 9
+/* What a saved session is longer than its part of the store, and the longest: 1,024 pushes of the longest list. */
+#define CUDDREWYN_SAVED_HEAD 111
+#define CUDDREWYN_MAX_SAVED 2105455
 /* The readers of the replays, from 0 on. */
 #define CUDDREWYN_READERS 8
 /* Where the baseline and the list held stand in the store, and where the queue begins: up to the store's end the pushes that wait, each a length of
@@ -249,6 +252,8 @@ enum cuddrewyn_refusal {
     CUDDREWYN_INVALID_LOG = 37,
     /* a lost count is above 65,535, or the window's own numbers point beyond its 256 places */
     CUDDREWYN_INVALID_WINDOW = 38,
+    /* a saved session has not the form, the length or the checksum of one */
+    CUDDREWYN_MALFORMED_SAVE = 64,
     /* tools/refusals.py: end */
 };
 
@@ -294,6 +299,7 @@ static inline const char *cuddrewyn_refusal_name(unsigned number) {
     case CUDDREWYN_CHARGE_TOO_LARGE: return "ChargeTooLarge";
     case CUDDREWYN_INVALID_LOG: return "InvalidLog";
     case CUDDREWYN_INVALID_WINDOW: return "InvalidWindow";
+    case CUDDREWYN_MALFORMED_SAVE: return "MalformedSave";
     /* tools/refusals.py: end */
     }
     return "unknown";
@@ -357,6 +363,16 @@ cuddrewyn_reply cuddrewyn_drain_for(cuddrewyn_record *CUDDREWYN_RESTRICT r, cons
 /* Whether record and store are a session's, as update, response and drain_for ask first: for those that were kept. Changes nothing. ACCEPTED; refuses
  * 1, 22. */
 cuddrewyn_reply cuddrewyn_check(cuddrewyn_record r, const uint8_t *store, size_t store_len);
+
+/* A session as bytes, to be kept where power is lost: the record, and the store's front up to the queue's end, with a length and a checksum. Lend an
+ * output of CUDDREWYN_SAVED_HEAD + store_len bytes, or of CUDDREWYN_MAX_SAVED. docs/SAVING.md says when to save.
+ * WRITTEN: first is the length. Refuses 1, 22, 21. */
+cuddrewyn_reply cuddrewyn_save(cuddrewyn_record r, const uint8_t *store, size_t store_len, uint8_t *CUDDREWYN_RESTRICT out, size_t out_len);
+
+/* Takes a session back from the bytes that a save wrote, all of them and no more: writes their part to the store's front, and gives the record. The
+ * store may have another length than the one that was saved.
+ * ACCEPTED: the record is the one that was saved. Refuses 64, 22, 1; the store is then as it was, and the record is no session's. */
+cuddrewyn_session_reply cuddrewyn_restore(const uint8_t *bytes, size_t bytes_len, uint8_t *CUDDREWYN_RESTRICT store, size_t store_len);
 
 /* Whether the store was opened with these texts and this kind. YES or NO; refuses 1, 22 (the identity slot is malformed). */
 cuddrewyn_reply cuddrewyn_matches_registration(const uint8_t *store, size_t store_len, const uint8_t *topic, size_t topic_len,

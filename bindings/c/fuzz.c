@@ -466,6 +466,31 @@ static void step_damage(session *s, script *in) {
     tallied(cuddrewyn_check(s->r, s->store.bytes, s->store.length));
 }
 
+/* The session saved, with just the room that always suffices, and taken back into another store; and the same form with
+ * one byte changed, or cut. */
+static void step_save(session *s, script *in) {
+    size_t place = (size_t)number(in, 2);
+    uint8_t change = (uint8_t)number(in, 1);
+    room form = lend(s->store.length + CUDDREWYN_SAVED_HEAD), store = lend(s->store.length);
+    remember(&form), remember(&store);
+    cuddrewyn_reply got = tallied(cuddrewyn_save(s->r, s->store.bytes, s->store.length, form.bytes, form.length));
+    size_t length = got.answer == CUDDREWYN_WRITTEN ? (size_t)got.first : 0;
+    HOLDS(same_from(&form, length) && same_from(&s->store, 0) && (!s->sound || length > 0));
+    form.bytes[length > 0 ? place % length : 0] ^= change;
+    cuddrewyn_session_reply wrong = cuddrewyn_restore(form.bytes, length, store.bytes, store.length);
+    bool changed = length == 0 || change != 0;
+    HOLDS(refused_with(tallied(wrong.reply), CUDDREWYN_MALFORMED_SAVE) == changed && (!changed || same_from(&store, 0)));
+    form.bytes[length > 0 ? place % length : 0] ^= change;
+    cuddrewyn_session_reply back = cuddrewyn_restore(form.bytes, length, store.bytes, store.length);
+    HOLDS((tallied(back.reply).answer == CUDDREWYN_ACCEPTED) == (length > 0));
+    if (length > 0) {
+        HOLDS(cuddrewyn_check(back.state, store.bytes, store.length).answer == CUDDREWYN_ACCEPTED);
+        HOLDS(memcmp(store.bytes, s->store.bytes, length - CUDDREWYN_SAVED_HEAD) == 0);
+        HOLDS(back.state.incarnation == s->r.incarnation && back.state.queue_count == s->r.queue_count);
+    }
+    give_back(&form), give_back(&store);
+}
+
 /* Another store and another output, filled anew. */
 static void step_lend(session *s, script *in) {
     size_t pushes = (size_t)number(in, 1) % 8, less = (size_t)number(in, 1), output = (size_t)number(in, 1);
@@ -759,6 +784,7 @@ static void (*const STEPS[])(session *, script *) = {
     step_open,  step_begin, step_invalidate, step_update,  step_response, step_drain,  step_damage,
     step_lend,  step_lists, step_held,       step_log,     step_names,    step_ranges, step_hours,
     step_churn, step_watch, step_set,        step_command, step_short,    step_keys,   step_read,
+    step_save,
 };
 
 int LLVMFuzzerTestOneInput(const uint8_t *data, size_t size) {

@@ -37,9 +37,10 @@ enum {
     COMMAND,
     SHORT,
     KEYS,
-    READ
+    READ,
+    SAVE
 };
-enum { SCRIPT = 8192, SEEDS = 9 };
+enum { SCRIPT = 8192, SEEDS = 10 };
 
 typedef struct {
     uint8_t bytes[SCRIPT];
@@ -302,9 +303,21 @@ static void seed_short(row *s) {
     put_step(s, DRAIN, "\0", 1);
 }
 
+/* A session saved before and behind its response, one byte of the form changed. */
+static void seed_saved(row *s) {
+    message push = update_with(4, 5), empty = response_of(1, 2, NULL);
+    put_step(s, SAVE, "\0\0\0", 3);
+    put_open(s, 3);
+    put_step(s, SAVE, "\0\0\1", 3);
+    put_call(s, UPDATE, 0, &push);
+    put_step(s, SAVE, "\1\0\x80", 3);
+    put_call(s, RESPONSE, 0, &empty);
+    put_step(s, SAVE, "\0\0\0", 3);
+}
+
 static void make_seeds(void) {
     static void (*const makers[SEEDS])(row *) = {seed_session, seed_links, seed_lists, seed_watch, seed_commands,
-                                                 seed_names,   seed_hours, seed_short, seed_wrong};
+                                                 seed_names,   seed_hours, seed_short, seed_wrong, seed_saved};
     for (int i = 0; i < SEEDS; i++) {
         makers[i](&seeds[i]);
     }

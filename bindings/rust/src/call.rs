@@ -82,6 +82,16 @@ pub(crate) fn check(record: Record, store: &[u8]) -> Reply {
     unsafe { raw::cuddrewyn_check(record, store.as_ptr(), store.len()) }
 }
 
+pub(crate) fn save(record: Record, store: &[u8], out: &mut [u8]) -> Reply {
+    // SAFETY: two slices as pointer and length of live references; `out`, the only one written, is exclusive.
+    unsafe { raw::cuddrewyn_save(record, store.as_ptr(), store.len(), out.as_mut_ptr(), out.len()) }
+}
+
+pub(crate) fn restore(bytes: &[u8], store: &mut [u8]) -> SessionReply {
+    // SAFETY: two slices as pointer and length of live references; `store`, the only one written, is exclusive.
+    unsafe { raw::cuddrewyn_restore(bytes.as_ptr(), bytes.len(), store.as_mut_ptr(), store.len()) }
+}
+
 pub(crate) fn matches_registration(store: &[u8], identity: Identity<'_>) -> Reply {
     let Identity { topic, subscription, consumer_name, kind } = identity;
     // SAFETY: four slices as pointer and length of live references; none is written.

@@ -37,6 +37,7 @@ pub(crate) fn own_text(number: u8) -> &'static str {
         36 => "the charge is beyond 64 bits, or the remainder is not below 235929600",
         37 => "the length of the log is no multiple of 9, or a filling bit is set",
         38 => "the lost count is above 65535, or the window points beyond its 256 places",
+        64 => "the saved session is cut short, damaged or none",
         // tools/refusals.py: end
         _ => "the call is refused",
     }
@@ -269,6 +270,8 @@ pub enum AssignmentErrorWith<M> {
     InvalidLog,
     /// 38: a lost count is above 65,535, or the window's own numbers point beyond its 256 places.
     InvalidWindow,
+    /// 64: a saved session has not the form, the length or the checksum of one.
+    MalformedSave,
     // tools/refusals.py: end
     /// A reply that this crate does not know: the archive is of another version.
     Unknown(Reply),
@@ -297,6 +300,7 @@ impl<M> AssignmentErrorWith<M> {
             Self::ChargeTooLarge => 36,
             Self::InvalidLog => 37,
             Self::InvalidWindow => 38,
+            Self::MalformedSave => 64,
             // tools/refusals.py: end
             Self::InvalidRange { .. } => 9,
             Self::InvalidBucketRange { .. } => 10,
@@ -339,6 +343,7 @@ impl<M> AssignmentErrorWith<M> {
             36 => Self::ChargeTooLarge,
             37 => Self::InvalidLog,
             38 => Self::InvalidWindow,
+            64 => Self::MalformedSave,
             // tools/refusals.py: end
             9..=14 | 34 => Self::of_segment(reply),
             16 => Self::Broker { code: signed(first), message },

@@ -64,7 +64,7 @@
 //! | `take_replayed_updates()`, all in a `Vec` | [`take_replayed_update`](ScalableConsumerSession::take_replayed_update)`(&mut out)?` until `None`, or [`for_each_replayed_update`](ScalableConsumerSession::for_each_replayed_update)`(&mut out, f)?`; for more readers than one [`take_replayed_update_for`](ScalableConsumerSession::take_replayed_update_for)`(reader, &mut out)?`, each [`Reader`] with a position of its own |
 //! | `begin_incarnation`, `invalidate_authority`, `is_registered`, `is_invalidated`, `incarnation`, `epoch_floor`, `matches_registration`, `topic`, `subscription`, `consumer_name`, `consumer_type` | the same |
 //! | `assignment()` | the same; the response's own list is also [`baseline`](ScalableConsumerSession::baseline)`()` |
-//! | `clone()`, to keep a session | [`into_parts`](ScalableConsumerSession::into_parts), [`from_parts`](ScalableConsumerSession::from_parts), [`resume`](ScalableConsumerSession::resume) |
+//! | `clone()`, to keep a session | [`into_parts`](ScalableConsumerSession::into_parts), [`from_parts`](ScalableConsumerSession::from_parts), [`resume`](ScalableConsumerSession::resume); where power is lost, [`save`](ScalableConsumerSession::save), [`restore`](ScalableConsumerSession::restore) |
 //! | `ConsumerAssignment::segments()`, a slice | an iterator of [`AssignedSegment`] |
 //! | `AssignmentDelta`'s fields `layout_epoch`, `gained`, `lost` | calls of the same names |
 //! | `AssignedSegment::segment_topic()` | [`segment_topic`](AssignedSegment::segment_topic)`(parent, &mut out)?`: names are rebuilt, not kept |
@@ -183,6 +183,12 @@ pub const MAX_STORE: usize = store_len(MAX_BUFFERED_ASSIGNMENT_UPDATES);
 
 /// The least bytes of an output for updates and replays: the longest delta of one change.
 pub const MIN_OUTPUT: usize = 3_210;
+
+/// What a saved session is longer than its part of the store.
+pub const SAVED_HEAD: usize = 111;
+
+/// The most bytes of a saved session.
+pub const MAX_SAVED: usize = SAVED_HEAD + MAX_STORE;
 
 /// The most pushes that are kept while the response is pending, however long the store is.
 pub const MAX_BUFFERED_ASSIGNMENT_UPDATES: usize = 1_024;

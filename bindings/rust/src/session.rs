@@ -7,7 +7,7 @@ use crate::error::AssignmentError;
 use crate::raw::{self, Part, Record, SessionReply};
 use crate::types::{ControllerIncarnation, Reader, ScalableConsumerType};
 use crate::views::{AssignmentDelta, ConsumerAssignment, front, known};
-use crate::{BASELINE, LIST};
+use crate::{BASELINE, LIST, SAVED_HEAD};
 
 /// One queued push that changed the list, handed out after the response.
 #[derive(Debug, Clone, Copy, PartialEq, Eq)]
@@ -83,6 +83,41 @@ impl<'s> ScalableConsumerSession<'s> {
         let reply = call::begin(&mut record, incarnation.0);
         match reply.answer {
             raw::ACCEPTED => Self::from_parts(record, store),
+            _ => Err(AssignmentError::from_reply(reply, "")),
+        }
+    }
+
+    /// Writes the session to the front of `out`, to be kept where power is lost: the record, and what is in use of the store, with a length and a
+    /// checksum. Gives the bytes written. [`Self::saved_len`] are always enough.
+    ///
+    /// # Errors
+    ///
+    /// [`AssignmentError::ResultTooLong`] (21); `out` is then as it was.
+    pub fn save<'o>(&self, out: &'o mut [u8]) -> Result<&'o [u8], AssignmentError<'static>> {
+        let reply = call::save(self.record, self.store, out);
+        match reply.answer {
+            raw::WRITTEN => known(front(out, reply.first), reply),
+            _ => Err(AssignmentError::from_reply(reply, "")),
+        }
+    }
+
+    /// How many bytes [`Self::save`] writes at most, on this session's store.
+    #[must_use]
+    pub const fn saved_len(&self) -> usize {
+        SAVED_HEAD + self.store.len()
+    }
+
+    /// The session that [`Self::save`] wrote, taken back into `store`, which may have another length than the one that was saved. Lend the bytes that
+    /// were written, all of them and no more.
+    ///
+    /// # Errors
+    ///
+    /// [`AssignmentError::MalformedSave`] (64) where the bytes are cut short, damaged or none of a session; [`AssignmentError::MalformedStore`] (22)
+    /// where what they hold is no session; [`AssignmentError::StoreTooShort`] (1) where `store` does not hold it. `store` is then as it was.
+    pub fn restore(bytes: &[u8], store: &'s mut [u8]) -> Result<Self, AssignmentError<'static>> {
+        let SessionReply { state, reply } = call::restore(bytes, store);
+        match reply.answer {
+            raw::ACCEPTED => Ok(Self { record: state, store }),
             _ => Err(AssignmentError::from_reply(reply, "")),
         }
     }

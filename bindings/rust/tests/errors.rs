@@ -96,6 +96,7 @@ fn texts_and_numbers_of_our_own() {
         (E::ChargeTooLarge, 36, "the charge is beyond 64 bits, or the remainder is not below 235929600"),
         (E::InvalidLog, 37, "the length of the log is no multiple of 9, or a filling bit is set"),
         (E::InvalidWindow, 38, "the lost count is above 65535, or the window points beyond its 256 places"),
+        (E::MalformedSave, 64, "the saved session is cut short, damaged or none"),
         (E::Unknown(reply), 77, "answer 9 with number 77 is not known to these bindings"),
     ];
     for (error, number, text) in rows {

@@ -39,6 +39,10 @@ pub enum Line {
     CheckLog,
     // What the outer message of a connection carries.
     Command,
+    // The session kept.
+    Save,
+    // The session that was saved last.
+    Restore,
     // It is no call, and why was written.
     Damaged,
 }
@@ -143,6 +147,8 @@ fn line_at(place: usize) -> Line {
         11 => Line::EarliestOpen,
         12 => Line::CheckLog,
         13 => Line::Command,
+        14 => Line::Save,
+        15 => Line::Restore,
         _ => Line::Damaged,
     }
 }
@@ -151,11 +157,11 @@ fn line_at(place: usize) -> Line {
 pub fn tested(at: u64, line: &[u8]) -> Line {
     let name = lines::word(line, 0);
     let place = lines::place_of(
-        b"open update response drain begin invalidate segment key charge churn is_open earliest_open check_log command",
+        b"open update response drain begin invalidate segment key charge churn is_open earliest_open check_log command save restore",
         name,
     );
     let form = lines::word(
-        b"cnnbbbk cnb cnb cn cn c cb cn cbnnn c cbn cbn cbb cb",
+        b"cnnbbbk cnb cnb cn cn c cb cn cbnnn c cbn cbn cbb cb c c",
         place,
     );
     if form.len() == 0 {

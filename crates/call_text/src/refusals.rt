@@ -9,13 +9,14 @@ use reply::Reply;
 // The names by the specification's numbers, word 0 for none.
 fn named(number: usize) {
     text(lines::word(
-        b" StoreTooShort OutputTooShort InvalidWireFormat WrongWireType - MissingField \
-              InvalidUtf8 IdentityTooLong InvalidRange InvalidBucketRange OverlappingBucketRanges \
-              InvalidParent AttachmentMismatch DuplicateSegment AssignmentTooLong Broker Empty InvalidSegment \
-              SegmentIdMismatch MalformedInput ResultTooLong MalformedStore IncarnationMismatch \
-              ConsumerMismatch NonAdvancingIncarnation CrossIncarnationEpochRegression StaleEpoch \
-              PreBaselineBufferFull WatchMismatch MalformedSet SetTooLong \
-              KeyTooLong UnknownReader BucketOutsideSegment InvalidContract ChargeTooLarge InvalidLog InvalidWindow",
+        b" StoreTooShort OutputTooShort InvalidWireFormat WrongWireType - MissingField InvalidUtf8 \
+              IdentityTooLong InvalidRange InvalidBucketRange OverlappingBucketRanges InvalidParent \
+              AttachmentMismatch DuplicateSegment AssignmentTooLong Broker Empty InvalidSegment SegmentIdMismatch \
+              MalformedInput ResultTooLong MalformedStore IncarnationMismatch ConsumerMismatch \
+              NonAdvancingIncarnation CrossIncarnationEpochRegression StaleEpoch PreBaselineBufferFull \
+              WatchMismatch MalformedSet SetTooLong KeyTooLong UnknownReader BucketOutsideSegment InvalidContract \
+              ChargeTooLarge InvalidLog InvalidWindow - - - - - - - - - - - - - - - - - - - - - - - - - \
+              MalformedSave",
         number,
     ));
 }

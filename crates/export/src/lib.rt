@@ -1,8 +1,8 @@
 // The calls for C and Rust: every call of the port under the prefix cuddrewyn_, over numbers, slices and plain structs. docs/EXPORTS.md says what each
 // takes and answers.
 //
-// A session's record is lent, as store, message and output are: a call that is taken writes it back, a refusal leaves it as it was, byte by byte. `open`
-// gives one, and `check` takes a copy. A slice is a pointer and a length.
+// A session's record is lent, as store, message and output are: a call that is taken writes it back, a refusal leaves it as it was, byte by byte. `open` and `restore`
+// give one, and `check` and `save` take a copy. A slice is a pointer and a length.
 ghost use mathlib.Core.Path.{_≡_};
 
 mod charge_calls;
@@ -14,6 +14,7 @@ mod list_calls;
 mod log_calls;
 mod name_calls;
 mod range_calls;
+mod save_calls;
 mod session_calls;
 mod watch_calls;
 

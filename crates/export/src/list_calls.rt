@@ -7,7 +7,7 @@ ghost use Rattle.export.specs.Exports.{writeReply, writeOf};
 use output::WriteAnswer;
 use reply::Reply;
 
-fn write_reply(a: WriteAnswer) -> Reply
+pub fn write_reply(a: WriteAnswer) -> Reply
     ensures { λ x. ⌜ x ≡ writeReply a ⌝ }
 {
     match a {

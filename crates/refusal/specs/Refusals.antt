@@ -2,7 +2,8 @@
 --
 -- `numberOf` is 01's number. `valuesOf` are the attached numbers, "those of the Rust's variant, else none", in the order of the Rust's fields,
 -- as integers: bucket ends and broker codes may be negative. Of an invalid range the kind comes before that kind's own numbers. 34 (02 e) has
--- "segment id and bucket index (from 0)". "Number 5 is retired" (02 b): no refusal has it.
+-- "segment id and bucket index (from 0)". "Number 5 is retired" (02 b): no refusal has it. Numbers from 64 on are
+-- no paper's but this project's own.
 -- Assumes nothing.
 use Prim.Native.Nat.{ℕ}
 use mathlib.Core.List.{List, [], _∷_, map}
@@ -20,7 +21,7 @@ use Rattle.refusal.specs.declared.Refusal.the-variants.{SegmentIdMismatc
 use Rattle.refusal.specs.declared.Refusal.the-variants.{ConsumerMismatch, NonAdvancingIncarnation, CrossIncarnationEpochRegression, StaleEpoch}
 use Rattle.refusal.specs.declared.Refusal.the-variants.{PreBaselineBufferFull, WatchMismatch, MalformedSet, SetTooLong, KeyTooLong}
 use Rattle.refusal.specs.declared.Refusal.the-variants.{UnknownReader, BucketOutsideSegment, InvalidContract, ChargeTooLarge, InvalidLog}
-use Rattle.refusal.specs.declared.Refusal.the-variants.{InvalidWindow}
+use Rattle.refusal.specs.declared.Refusal.the-variants.{InvalidWindow, MalformedSave}
 
 abbrev pub numberOf : Refusal → ℕ
 numberOf StoreTooShort = 1
@@ -62,6 +63,7 @@ numberOf InvalidContract = 35
 numberOf ChargeTooLarge = 36
 numberOf InvalidLog = 37
 numberOf InvalidWindow = 38
+numberOf MalformedSave = 64
 
 -- the kind of an invalid range, then that kind's numbers
 abbrev pub sourceValues : KeyRangeError → List ℤ
@@ -113,3 +115,4 @@ valuesOf InvalidContract = []
 valuesOf ChargeTooLarge = []
 valuesOf InvalidLog = []
 valuesOf InvalidWindow = []
+valuesOf MalformedSave = []

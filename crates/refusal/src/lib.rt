@@ -1,9 +1,9 @@
 // Why a call is refused: one enum for every call.
 //
 // The variants that come from the Rust have its names and those of its fields that are numbers; texts are left out. The others are refusals of
-// this port's own and have no fields, but for 34. The number before each variant is the one that the specification gives it; `numberOf` and
-// `valuesOf` of specs/ say the same formally, and every promise about a refusal goes through those two. No variant has 5, which request b of
-// document 02 retired.
+// this port's own and have no fields, but for 34. The number before each variant is the one that the specification gives it, and from 64 on the
+// project's own; `numberOf` and `valuesOf` of specs/ say the same formally, and every promise about a refusal goes through those two. No variant
+// has 5, which request b of document 02 retired.
 ghost use mathlib.Core.Path.{_≡_};
 ghost use Rattle.refusal.specs.Refusals.{numberOf};
 use types::ControllerIncarnation;
@@ -137,6 +137,8 @@ pub enum Refusal {
     InvalidLog,
     // 38: a lost count is above 65,535, or the window's own numbers point beyond its 256 places.
     InvalidWindow,
+    // 64: a saved session has not the form, the length or the checksum of one.
+    MalformedSave,
 }
 
 // The specification's number of a refusal.
@@ -206,5 +208,6 @@ pub fn number(refusal: Refusal) -> u8
         Refusal::ChargeTooLarge => 36,
         Refusal::InvalidLog => 37,
         Refusal::InvalidWindow => 38,
+        Refusal::MalformedSave => 64,
     }
 }

@@ -68,7 +68,7 @@ bucket-reply {x = x} {n = n} {index = index} {id = id} {start = start} {end = en
 
 -- the tags of the variants without values
 abbrev bare : List ℕ
-bare = 0 ∷ 1 ∷ 2 ∷ 3 ∷ 4 ∷ 5 ∷ 6 ∷ 11 ∷ 14 ∷ 18 ∷ 20 ∷ 21 ∷ 22 ∷ 30 ∷ 31 ∷ 32 ∷ 33 ∷ 35 ∷ 36 ∷ 37 ∷ 38 ∷ []
+bare = 0 ∷ 1 ∷ 2 ∷ 3 ∷ 4 ∷ 5 ∷ 6 ∷ 11 ∷ 14 ∷ 18 ∷ 20 ∷ 21 ∷ 22 ∷ 30 ∷ 31 ∷ 32 ∷ 33 ∷ 35 ∷ 36 ∷ 37 ∷ 38 ∷ 39 ∷ []
 
 pub no-values : (x : Refusal) → OneOf bare (tagOf the-type x) → valuesOf x ≡ []
 no-values refusal.StoreTooShort h = refl
@@ -110,3 +110,4 @@ no-values refusal.InvalidContract h = refl
 no-values refusal.ChargeTooLarge h = refl
 no-values refusal.InvalidLog h = refl
 no-values refusal.InvalidWindow h = refl
+no-values refusal.MalformedSave h = refl

@@ -131,6 +131,7 @@ room-told refusal.InvalidContract = refl
 room-told refusal.ChargeTooLarge = refl
 room-told refusal.InvalidLog = refl
 room-told refusal.InvalidWindow = refl
+room-told refusal.MalformedSave = refl
 
 ours-told : (a : Answer) → isOurs (answerReply a) ≡ rust.isOurs a
 unfolding answerReply refusedReply replyWith

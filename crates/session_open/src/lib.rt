@@ -66,7 +66,8 @@ fn write_identity(
     packed_int::write_u16(store, 0, topic.len() as u16);
 }
 
-fn fresh(consumer_id: u64, incarnation: ControllerIncarnation) -> SessionRecord
+// The record of a session that was just opened.
+pub fn fresh(consumer_id: u64, incarnation: ControllerIncarnation) -> SessionRecord
     ensures { λ r. ⌜ r ≡ freshRecord «consumer_id» incarnation ⌝ }
 {
     SessionRecord {

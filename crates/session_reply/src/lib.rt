@@ -72,7 +72,7 @@ fn has_floor(floor: Floor) -> bool
     }
 }
 
-fn export_record(r: SessionRecord) -> Record
+pub fn export_record(r: SessionRecord) -> Record
     ensures { λ x. ⌜ x ≡ exportRecord r ⌝ }
 {
     let link = r.incarnation;

@@ -188,7 +188,7 @@ module _ (r : SessionRecord) (st : List ℕ) (e : not (damaged (view r st)) ≡ 
 -- ---- where the queue ends, and an entry of it where it lies
 
 -- a list that fills its length
-sheet-few : (l : List ℕ) → startsEntry l ≡ true → num 2 l ≤ 2048
+pub sheet-few : (l : List ℕ) → startsEntry l ≡ true → num 2 l ≤ 2048
 unfolding isAssignment startsAssignment
 sheet-few l h =
     let a = assignmentOf (sheetIn l) in

@@ -86,6 +86,13 @@ pub fn call(
     }
 }
 
+// The session that was saved; a refusal leaves the one that is open.
+pub fn restored(r: Record, bytes: &[u8], store: &mut [u8]) -> SessionReply {
+    let restored = saved::restore(bytes, store);
+    let answer = restored.answer;
+    opened(r, session_reply::open_reply(answer, restored.next))
+}
+
 // The broker's text in the message of a response.
 pub fn show_broker_text(line: &[u8], store: &[u8]) {
     let mut message = io::large_buffer();

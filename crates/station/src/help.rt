@@ -30,6 +30,8 @@ with # are passed over, but counted.
   earliest_open CONTRACT SECOND                             the earliest open second from it on
   check_log DELTAS LOG                                      whether a log passes; needs no session
   command BYTES                                             what an outer message carries; likewise
+  save                                                      the session kept, for a restore
+  restore                                                   the session that was saved last
 
 CONSUMER, INCARNATION, READER, ID, SECONDS, RATE, REMAINDER and SECOND are decimal numbers below
 2^64; a READER is one of 0 to 7, each of which is handed every push of the queue.
@@ -48,12 +50,13 @@ For each call a line LINE CALL ANSWER, where LINE is its number in the log and A
 
   accepted
   none                                       nothing changed; no segment; no key; no open second
+  saved N                                    the session has N bytes
   ID                                         the segment that takes the key
   0xBYTES                                    the four-byte key with the smallest hash of the segment
   charged N remainder M                      N millionths of a euro; M goes into the next charge
-  lost S largest M                           of the latest 256 deltas since the last open, begin or
-                                             invalidate, a replay counted once for all readers: the
-                                             sum of their lost counts, and the largest
+  lost S largest M                           of the latest 256 deltas since the last open, restore,
+                                             begin or invalidate, a replay counted once for all
+                                             readers: the sum of their lost counts, and the largest
   yes, no                                    whether the second is open; whether the log passes
   SECOND                                     the earliest open second
   update at START length N consumer ID       what a command carries, where, and the number to route

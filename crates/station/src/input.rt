@@ -26,6 +26,7 @@ fn run_lines(
     lines_read: &[u8],
     store: &mut [u8],
     window: &mut [u8],
+    kept: &mut [u8],
 ) -> Run {
     let mut next = run;
     let mut at: usize = 0;
@@ -35,7 +36,7 @@ fn run_lines(
             return with_waiting(next, lines_read.len() - at);
         }
         let behind = end + 1;
-        next = step::run_line(options, next, &lines_read[at..end], store, window);
+        next = step::run_line(options, next, &lines_read[at..end], store, window, kept);
         if next.is_over {
             return next;
         }
@@ -45,12 +46,19 @@ fn run_lines(
 }
 
 // Runs the last line, which no line break ends.
-fn run_last(options: Options, run: Run, line: &[u8], store: &mut [u8], window: &mut [u8]) -> Run {
+fn run_last(
+    options: Options,
+    run: Run,
+    line: &[u8],
+    store: &mut [u8],
+    window: &mut [u8],
+    kept: &mut [u8],
+) -> Run {
     let mut next = run;
     if 0 < line.len() {
-        next = step::run_line(options, run, line, store, window);
+        next = step::run_line(options, run, line, store, window, kept);
     } else if run.is_cut {
-        next = step::run_line(options, run, line, store, window);
+        next = step::run_line(options, run, line, store, window, kept);
     }
     next.is_over = true;
     next
@@ -87,6 +95,7 @@ fn read_and_run(
     buffer: &mut [u8],
     store: &mut [u8],
     window: &mut [u8],
+    kept: &mut [u8],
 ) -> Run {
     let waiting = run.waiting;
     if buffer.len() <= waiting {
@@ -96,9 +105,9 @@ fn read_and_run(
     }
     let end = waiting + read_behind(buffer, waiting);
     if end == waiting {
-        return run_last(options, run, &buffer[..waiting], store, window);
+        return run_last(options, run, &buffer[..waiting], store, window, kept);
     }
-    let next = run_lines(options, run, &buffer[..end], store, window);
+    let next = run_lines(options, run, &buffer[..end], store, window, kept);
     let left = next.waiting;
     if left <= end {
         move_down(buffer, end - left, left);
@@ -107,11 +116,17 @@ fn read_and_run(
 }
 
 // A proved loop has to end, and nothing says that the input does: the turns are counted down from a number that no run uses up.
-fn run_input(options: Options, buffer: &mut [u8], store: &mut [u8], window: &mut [u8]) -> Run {
+fn run_input(
+    options: Options,
+    buffer: &mut [u8],
+    store: &mut [u8],
+    window: &mut [u8],
+    kept: &mut [u8],
+) -> Run {
     let mut run = step::at_start();
     let mut turns = u64::MAX;
     while 0 < turns {
-        run = read_and_run(options, run, buffer, store, window);
+        run = read_and_run(options, run, buffer, store, window, kept);
         if run.is_over {
             return run;
         }
@@ -120,14 +135,20 @@ fn run_input(options: Options, buffer: &mut [u8], store: &mut [u8], window: &mut
     run
 }
 
-fn run_over(options: Options, buffer: &mut [u8; BUFFER], store: &mut [u8], window: &mut [u8]) {
-    if !step::show_sum(run_input(options, buffer, store, window)) {
+fn run_over(
+    options: Options,
+    buffer: &mut [u8; BUFFER],
+    store: &mut [u8],
+    window: &mut [u8],
+    kept: &mut [u8],
+) {
+    if !step::show_sum(run_input(options, buffer, store, window, kept)) {
         os::fail(b"standard output");
     }
 }
 
-// Runs the log in standard input on a store, with a window of lost counts beside it.
-pub fn run_log(options: Options, store: &mut [u8], window: &mut [u8]) {
+// Runs the log in standard input on a store, with a window of lost counts and a buffer for a saved session beside it.
+pub fn run_log(options: Options, store: &mut [u8], window: &mut [u8], kept: &mut [u8]) {
     let mut buffer = [0u8; BUFFER];
-    run_over(options, &mut buffer, store, window);
+    run_over(options, &mut buffer, store, window, kept);
 }

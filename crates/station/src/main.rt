@@ -17,6 +17,9 @@
 //     is_open CONTRACT SECOND
 //     earliest_open CONTRACT SECOND
 //     check_log DELTAS LOG
+//     command BYTES
+//     save
+//     restore
 //
 // Each call is answered by a line `LINE CALL ANSWER`; a line that is none by `LINE damaged: REASON`, and the run goes on. The whole page is `help`.
 //
@@ -34,8 +37,12 @@ mod window;
 // The bytes of a full-size store: three slots, and a queue of 1,024 lists of up to 2,046 bytes.
 const STORE: usize = 2103296;
 
-// Does what the program's arguments ask: runs the log in standard input on a store, with a window of lost counts beside it, or shows the help page.
-fn start(store: &mut [u8; STORE], window: &mut [u8; churn::WINDOW]) {
+// The bytes of a session of that store, saved.
+const KEPT: usize = STORE + saved::FRAME;
+
+// Does what the program's arguments ask: runs the log in standard input on a store, with a window of lost counts and a buffer for a saved session
+// beside it, or shows the help page.
+fn start(store: &mut [u8; STORE], window: &mut [u8; churn::WINDOW], kept: &mut [u8; KEPT]) {
     let options = arguments::given();
     if options.is_wrong {
         return;
@@ -44,11 +51,12 @@ fn start(store: &mut [u8; STORE], window: &mut [u8; churn::WINDOW]) {
         help::show();
         return;
     }
-    input::run_log(options, store, window);
+    input::run_log(options, store, window, kept);
 }
 
 fn main() {
     let mut store = [0u8; STORE];
     let mut window = [0u8; churn::WINDOW];
-    start(&mut store, &mut window);
+    let mut kept = [0u8; KEPT];
+    start(&mut store, &mut window, &mut kept);
 }

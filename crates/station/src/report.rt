@@ -13,6 +13,7 @@ use hours::EarliestAnswer;
 use hours::OpenAnswer;
 use log_entries::LogAnswer;
 use lookup::SegmentAnswer;
+use output::WriteAnswer;
 use packed::SLOT;
 use reply::Reply;
 use segment_key::KeyAnswer;
@@ -56,6 +57,14 @@ pub fn show_answer(r: Reply, line: &[u8], store: &[u8], out: &[u8]) {
     }
     if r.answer == reply::REPLAY {
         show_replay(r.first, out);
+    }
+}
+
+// How long a saved session is.
+pub fn show_saved(answer: WriteAnswer) {
+    match answer {
+        WriteAnswer::Written(n) => labelled(b"saved ", n as u64),
+        WriteAnswer::Refused(x) => call_text::refused(x),
     }
 }
 

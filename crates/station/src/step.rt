@@ -22,6 +22,7 @@ use hours::OpenAnswer;
 use libc::STDOUT_FILENO;
 use log_entries::LogAnswer;
 use lookup::SegmentAnswer;
+use output::WriteAnswer;
 use reply::Reply;
 use segment_key::KeyAnswer;
 use session_reply::Record;
@@ -42,6 +43,8 @@ pub struct Run {
     // How many bytes are read that are no whole line yet.
     pub waiting: usize,
     pub is_over: bool,
+    // How many bytes the session has that was saved last: none where none was.
+    pub kept: usize,
 }
 
 pub fn at_start() -> Run {
@@ -65,6 +68,7 @@ pub fn at_start() -> Run {
         is_cut: false,
         waiting: 0,
         is_over: false,
+        kept: 0,
     }
 }
 
@@ -253,6 +257,45 @@ fn run_command(run: Run, line: &[u8]) -> Run {
     }
 }
 
+// Saves the session, in place of the one that was saved before.
+fn run_save(run: Run, line: &[u8], store: &[u8], kept: &mut [u8]) -> Run {
+    let record = run.record;
+    let answer = saved::save(session_reply::record_of(record), store, kept);
+    show_name(run.line, line);
+    report::show_saved(answer);
+    newline();
+    if let WriteAnswer::Written(n) = answer {
+        let mut next = run;
+        next.kept = n;
+        counted(next, false)
+    } else {
+        counted(run, true)
+    }
+}
+
+// The first n bytes, or all where there are fewer.
+fn front(s: &[u8], n: usize) -> &[u8] {
+    if n <= s.len() { &s[..n] } else { s }
+}
+
+// Takes the session back that was saved last. It has no lost counts.
+fn run_restore(
+    options: Options,
+    run: Run,
+    line: &[u8],
+    store: &mut [u8],
+    window: &mut [u8],
+    kept: &[u8],
+) -> Run {
+    let changed = calls::restored(run.record, front(kept, run.kept), store);
+    let told = changed.reply;
+    window::after_restore(told, window);
+    show_call(run.line, told, line, store, kept);
+    let next = settled(run, changed);
+    show_details(options, next, told, store, window, kept);
+    next
+}
+
 // The run behind a damaged line.
 fn with_damaged(options: Options, run: Run) -> Run {
     let mut next = run;
@@ -291,6 +334,7 @@ fn needs_session(tested: Line) -> bool {
         Line::Call(name) => !opens(name),
         Line::Segment => true,
         Line::Key => true,
+        Line::Save => true,
         _ => false,
     }
 }
@@ -303,6 +347,7 @@ fn run_tested(
     line: &[u8],
     store: &mut [u8],
     window: &mut [u8],
+    kept: &mut [u8],
 ) -> Run {
     match tested {
         Line::Damaged => with_damaged(options, run),
@@ -314,6 +359,8 @@ fn run_tested(
         Line::EarliestOpen => run_earliest_open(run, line),
         Line::CheckLog => run_check_log(run, line),
         Line::Command => run_command(run, line),
+        Line::Save => run_save(run, line, store, kept),
+        Line::Restore => run_restore(options, run, line, store, window, kept),
         Line::Call(name) => run_call(options, run, name, line, store, window),
     }
 }
@@ -325,6 +372,7 @@ pub fn run_line(
     line: &[u8],
     store: &mut [u8],
     window: &mut [u8],
+    kept: &mut [u8],
 ) -> Run {
     let mut next = run;
     next.line = one_more(run.line);
@@ -340,7 +388,7 @@ pub fn run_line(
     if needs_session(tested) && !next.is_open {
         return without_session(options, next);
     }
-    run_tested(options, next, tested, line, store, window)
+    run_tested(options, next, tested, line, store, window, kept)
 }
 
 // `C calls: A accepted, R refused; D damaged lines`. Whether standard output takes it.

@@ -1,5 +1,6 @@
 // The window of lost counts that stands beside the session: what a call does to it.
 use call_line::CallName;
+use reply::Reply;
 use session::READERS;
 use session_reply::Record;
 use session_reply::SessionReply;
@@ -36,6 +37,13 @@ fn furthest(r: Record) -> usize {
 fn replayed(before: Record, next: Record, out: &[u8], window: &mut [u8]) {
     if furthest(before) < furthest(next) {
         churn::push(window, list_text::lost_count(out));
+    }
+}
+
+// The window behind a restore: no form has lost counts.
+pub fn after_restore(told: Reply, window: &mut [u8]) {
+    if told.answer == reply::ACCEPTED {
+        churn::clear(window);
     }
 }
 

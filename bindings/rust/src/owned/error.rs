@@ -36,6 +36,7 @@ impl crate::AssignmentError<'_> {
             Self::ChargeTooLarge => AssignmentError::ChargeTooLarge,
             Self::InvalidLog => AssignmentError::InvalidLog,
             Self::InvalidWindow => AssignmentError::InvalidWindow,
+            Self::MalformedSave => AssignmentError::MalformedSave,
             // tools/refusals.py: end
             Self::Broker { code, message } => AssignmentError::Broker { code, message: message.into() },
             Self::Empty { request_id } => AssignmentError::Empty { request_id },

@@ -6,11 +6,11 @@ use Rattle.station.proofs.input.run_input.Statement.{statement}
 use Rattle.station.proofs.input.run_input.Tie as tie
 
 abbrev Inv-loop : tie.InvT-loop
-Inv-loop options buffer₀ store₀ window₀ run₀ turns₀ buffer store window run turns =
-    (length buffer ≡ length buffer₀) × (length store ≡ length store₀) × (length window ≡ length window₀)
+Inv-loop options buffer₀ store₀ window₀ kept₀ run₀ turns₀ buffer store window kept run turns =
+    (length buffer ≡ length buffer₀) × (length store ≡ length store₀) × (length window ≡ length window₀) × (length kept ≡ length kept₀)
 
 abbrev μ-loop : tie.MeasureT-loop
-μ-loop options buffer₀ store₀ window₀ run₀ turns₀ buffer store window run turns = turns
+μ-loop options buffer₀ store₀ window₀ kept₀ run₀ turns₀ buffer store window kept run turns = turns
 
 pub run-input-spec : {M : Type 1} → statement M
 run-input-spec =
@@ -21,6 +21,8 @@ run-input-spec =
     (λ c κs. search needs)
     (λ c. search needs)
     (λ c κs. search needs)
+    (λ c. search needs)
+    (λ c. search needs)
     (λ c. search needs)
     (λ c. search needs)
     (λ c. search needs)

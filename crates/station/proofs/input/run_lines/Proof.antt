@@ -7,11 +7,11 @@ use Rattle.station.proofs.input.run_lines.Statement.{statement}
 use Rattle.station.proofs.input.run_lines.Tie as tie
 
 abbrev Inv-loop : tie.InvT-loop
-Inv-loop options lines-read store₀ window₀ next₀ at₀ store window next at =
-    (at ≤ length lines-read) × (length store ≡ length store₀) × (length window ≡ length window₀)
+Inv-loop options lines-read store₀ window₀ kept₀ next₀ at₀ store window kept next at =
+    (at ≤ length lines-read) × (length store ≡ length store₀) × (length window ≡ length window₀) × (length kept ≡ length kept₀)
 
 abbrev μ-loop : tie.MeasureT-loop
-μ-loop options lines-read store₀ window₀ next₀ at₀ store window next at = length lines-read - at
+μ-loop options lines-read store₀ window₀ kept₀ next₀ at₀ store window kept next at = length lines-read - at
 
 loop-less : tie.Need-loop-less Inv-loop μ-loop
 loop-less c = search needs
@@ -36,13 +36,16 @@ run-lines-spec =
     (λ c. search needs)
     (λ c. search needs)
     (λ c. search needs)
+    (λ c. search needs)
     (λ c κs. search needs)
+    (λ c. search needs)
     (λ c. search needs)
     (λ c. search needs)
     (λ c. search needs)
     loop-less
     loop-again
     (λ c κs. search needs)
+    (λ c. search needs)
     (λ c. search needs)
     (λ c. search needs)
     (λ c. search needs))
