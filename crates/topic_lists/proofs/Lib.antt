@@ -1,5 +1,5 @@
 pub mod SurveyLaws
-mod SpanLaws
+pub mod SpanLaws
 pub mod SizeLaws
 mod PutWindowLaws
 pub mod WalkLaws

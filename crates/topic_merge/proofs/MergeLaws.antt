@@ -55,7 +55,6 @@ raised m z used = take used (drop z m)
 -- the new topics behind the place `at` are still to come
 pub record Merged (m new b : List ℕ) (used to from at : ℕ) : Type 0 where
   pub bytes : Bytes m
-  pub new-bytes : Bytes new
   pub out : List (List ℕ)
   pub j : ℕ
   pub split : insertAll (topicsOf new) (topicsOf (raised m (length new) used))
@@ -89,15 +88,13 @@ module _ (o m : List ℕ) (z used : ℕ) (k : used + z ≤ length o) (e : m ≡ 
       ∙ ap (λ (i : ℕ). take i (drop z (put o z (take used o)))) (sym length-used)
       ∙ take-put o z (take used o) (omega arith)
 
-pub merge-start : (o m new : List ℕ) (used : ℕ) → used + length new ≤ length o → m ≡ put o (0 + length new) (take (used - 0) (drop 0 o))
-    → length m ≡ length o → Bytes m → Bytes new → Rises (take used o) → Rises new → Apart (topicsOf new) (topicsOf (take used o))
-    → Merged m new m used 0 (length new) 0
+-- the set's bytes are moved up, and nothing is written
+pub merge-begin : (m new s : List ℕ) (used : ℕ) → raised m (length new) used ≡ s → used + length new ≤ length m → Bytes m → Rises s → Rises new
+    → Apart (topicsOf new) (topicsOf s) → Merged m new m used 0 (length new) 0
 unfolding encodeTopics sizeTopics
-merge-start o m new used k e l bm bn ro rn ap′ =
-    let f : raised m (length new) used ≡ take used o = raised-is o m (length new) used k e in
+merge-begin m new s used f k bm rs rn ap′ =
     record {
       bytes = bm;
-      new-bytes = bn;
       out = [];
       j = 0;
       split = refl;
@@ -108,11 +105,17 @@ merge-start o m new used k e l bm bn ro rn ap′ =
       inside = omega arith;
       room = omega arith;
       long = refl;
-      rises = subst Rises (sym f) ro;
+      rises = subst Rises (sym f) rs;
       passed = omega arith;
       new-rises = rn;
       apart = subst (λ (x : List ℕ). Apart (topicsOf new) (topicsOf x)) (sym f) ap′;
     }
+
+pub merge-start : (o m new : List ℕ) (used : ℕ) → used + length new ≤ length o → m ≡ put o (0 + length new) (take (used - 0) (drop 0 o))
+    → length m ≡ length o → Bytes m → Rises (take used o) → Rises new → Apart (topicsOf new) (topicsOf (take used o))
+    → Merged m new m used 0 (length new) 0
+merge-start o m new used k e l bm ro rn ap′ =
+    merge-begin m new (take used o) used (raised-is o m (length new) used k e) (omega arith) bm ro rn ap′
 
 module _ {m new b : List ℕ} {used to from at : ℕ} (v : Merged m new b used to from at) where
   abbrev rest : List ℕ
@@ -183,13 +186,13 @@ module _ {m new b : List ℕ} {used to from at : ℕ} (v : Merged m new b used t
     absent u k = v .apart u (ap (has u) new-next ∙ k)
 
     -- the topic with its length, as it lies
-    pub piece : take (at + 2 + n - at) (drop at new) ≡ encodeTopic topic
-    piece =
+    pub piece : Bytes new → take (at + 2 + n - at) (drop at new) ≡ encodeTopic topic
+    piece nb =
         let i : at + 2 + n - at ≡ 2 + n = omega arith in
-        ap (λ (x : ℕ). take x (drop at new)) i ∙ sym (entry-bytes new at n h e new-fits (v .new-bytes))
+        ap (λ (x : ℕ). take x (drop at new)) i ∙ sym (entry-bytes new at n h e new-fits nb)
 
-    pub piece-length : length (take (at + 2 + n - at) (drop at new)) ≡ 2 + n
-    piece-length = ap length piece ∙ length-encodeTopic topic ∙ ap (λ (i : ℕ). 2 + i) (entry-length new at n h e new-fits)
+    pub piece-length : Bytes new → length (take (at + 2 + n - at) (drop at new)) ≡ 2 + n
+    piece-length nb = ap length (piece nb) ∙ length-encodeTopic topic ∙ ap (λ (i : ℕ). 2 + i) (entry-length new at n h e new-fits)
 
     module _ (p : Place)
         (q : p ≡ placeOf (take (at + 2 + n - (at + 2)) (drop (at + 2) new)) 0 (topicsOf (take (used + length new - from) (drop from b)))) where
@@ -239,7 +242,7 @@ module _ {m new b : List ℕ} {used to from at : ℕ} (v : Merged m new b used t
           (sym (has-append u (lower topic olds) (upper topic olds)) ∙ ap (has u) (sym (lower-upper topic olds)) ∙ absent u f)
 
       pub merge-next : (b₁ b₂ : List ℕ) → b₁ ≡ put b to (take (p .at) (drop from b))
-          → b₂ ≡ put b₁ (to + p .at) (take (at + 2 + n - at) (drop at new)) → length b₂ ≡ length m
+          → b₂ ≡ put b₁ (to + p .at) (encodeTopic topic) → length b₂ ≡ length m
           → Merged m new b₂ used (to + p .at + 2 + n) (from + p .at) (at + 2 + n)
       unfolding encodeTopics sizeTopics
       merge-next b₁ b₂ e₁ e₂ l =
@@ -260,7 +263,6 @@ module _ {m new b : List ℕ} {used to from at : ℕ} (v : Merged m new b used t
           e₁ ∙ ap (put b to) lower-moved ∙ more b (encodeTopics (v .out)) (v .wrote) (encodeTopics low) to (sym written) (omega arith) in
           let w₂ : b₂ ≡ put m 0 ((encodeTopics (v .out) ++ encodeTopics low) ++ encodeTopic topic) =
           e₂
-          ∙ ap (put b₁ (to + p .at)) piece
           ∙ more b₁ (encodeTopics (v .out) ++ encodeTopics low) w₁ (encodeTopic topic) (to + p .at) (sym ll)
           (omega (arith, v .reads, v .writes, new-fits)) in
           let shape : (encodeTopics (v .out) ++ encodeTopics low) ++ encodeTopic topic ≡ encodeTopics front =
@@ -274,7 +276,6 @@ module _ {m new b : List ℕ} {used to from at : ℕ} (v : Merged m new b used t
           ∙ omega (arith, v .end, is-at) in
           record {
             bytes = v .bytes;
-            new-bytes = v .new-bytes;
             out = front;
             j = v .j + p .at;
             split =
@@ -297,32 +298,38 @@ module _ {m new b : List ℕ} {used to from at : ℕ} (v : Merged m new b used t
           }
 
   -- what is left is in place already
-  pub merge-end : (o : List ℕ) → used + length new ≤ length o → m ≡ put o (0 + length new) (take (used - 0) (drop 0 o)) → length new ≤ at
-      → b ≡ put o 0 (encodeTopics (insertAll (topicsOf new) (topicsOf (take used o))))
-  unfolding insertAll
-  merge-end o k e h =
-      let A : List ℕ = encodeTopics (v .out) in
-      let la : length A ≡ to = written in
-      let lr : length rest ≡ used - v .j = rest-length in
-      let here : to ≡ from = omega (arith, v .reads, v .writes, v .passed) in
-      let z : 0 + length A ≡ from = omega arith in
-      let lx : length (A ++ rest) ≡ used + length new = length-append A rest ∙ omega (arith, v .writes, v .passed, v .inside) in
-      let lq : length rest ≡ used + length new - from = omega (arith, v .reads) in
-      let there : take (length rest) (drop (0 + length A) b) ≡ rest = ap₂ (λ (x y : ℕ). take x (drop y b)) lq z ∙ part-rest in
-      let stays : b ≡ put m 0 (A ++ rest) =
-      sym (put-same b (0 + length A) rest there)
-      ∙ ap (λ (x : List ℕ). put x (0 + length A) rest) (v .wrote)
-      ∙ put-after m 0 A rest (omega (arith, v .room, v .reads, v .inside)) in
-      let all : insertAll (topicsOf new) (topicsOf (take used o)) ≡ v .out ++ topicsOf rest =
-      ap (λ (x : List ℕ). insertAll (topicsOf new) (topicsOf x)) (sym (raised-is o m (length new) used k e))
-      ∙ v .split
-      ∙ ap (λ (x : List (List ℕ)). v .out ++ insertAll x (topicsOf rest)) (topics-end new at h) in
-      let X : List ℕ = A ++ rest in
-      let is : X ≡ encodeTopics (insertAll (topicsOf new) (topicsOf (take used o))) =
-      sym (ap encodeTopics all
-      ∙ encode-append (v .out) (topicsOf rest)
-      ∙ ap (λ (x : List ℕ). A ++ x) (write-back rest rest-bytes (v .rises .whole))) in
-      stays
-      ∙ ap (λ (x : List ℕ). put x 0 X) (moved-is o m (length new) used k e)
-      ∙ put-over o (length new) (take used o) X (omega (arith, length-used o m (length new) used k e)) (omega arith)
-      ∙ ap (put o 0) is
+  module _ (h : length new ≤ at) where
+    abbrev all : List (List ℕ)
+    all = insertAll (topicsOf new) (topicsOf (raised m (length new) used))
+
+    all-bytes : encodeTopics all ≡ encodeTopics (v .out) ++ rest
+    unfolding insertAll
+    all-bytes =
+        ap encodeTopics (v .split ∙ ap (λ (x : List (List ℕ)). v .out ++ insertAll x (topicsOf rest)) (topics-end new at h))
+        ∙ encode-append (v .out) (topicsOf rest)
+        ∙ ap (λ (x : List ℕ). encodeTopics (v .out) ++ x) (write-back rest rest-bytes (v .rises .whole))
+
+    pub merge-long : length (encodeTopics all) ≡ used + length new
+    merge-long =
+        ap length all-bytes
+        ∙ length-append (encodeTopics (v .out)) rest
+        ∙ omega (arith, written, rest-length, v .writes, v .passed, v .inside)
+
+    pub merge-stays : b ≡ put m 0 (encodeTopics all)
+    merge-stays =
+        let A : List ℕ = encodeTopics (v .out) in
+        let z : 0 + length A ≡ from = omega (arith, written, v .reads, v .writes, v .passed) in
+        let lq : length rest ≡ used + length new - from = omega (arith, rest-length, v .reads) in
+        let there : take (length rest) (drop (0 + length A) b) ≡ rest = ap₂ (λ (x y : ℕ). take x (drop y b)) lq z ∙ part-rest in
+        sym (put-same b (0 + length A) rest there)
+        ∙ ap (λ (x : List ℕ). put x (0 + length A) rest) (v .wrote)
+        ∙ put-after m 0 A rest (omega (arith, rest-length, z, v .room, v .reads, v .inside))
+        ∙ ap (put m 0) (sym all-bytes)
+
+    pub merge-end : (o : List ℕ) → used + length new ≤ length o → m ≡ put o (0 + length new) (take (used - 0) (drop 0 o))
+        → b ≡ put o 0 (encodeTopics (insertAll (topicsOf new) (topicsOf (take used o))))
+    merge-end o k e =
+        merge-stays
+        ∙ ap (λ (x : List ℕ). put x 0 (encodeTopics all)) (moved-is o m (length new) used k e)
+        ∙ put-over o (length new) (take used o) (encodeTopics all) (omega (arith, merge-long, length-used o m (length new) used k e)) (omega arith)
+        ∙ ap (λ (x : List ℕ). put o 0 (encodeTopics (insertAll (topicsOf new) (topicsOf x)))) (raised-is o m (length new) used k e)

@@ -1,4 +1,4 @@
-mod FreshLaws
+pub mod FreshLaws
 mod GatherLaws
-mod SortLaws
+pub mod SortLaws
 mod WriteLaws

@@ -7,5 +7,5 @@ mod BoundLaws
 pub mod ReadLaws
 mod FillLaws
 mod MarkLaws
-mod SiftLaws
+pub mod SiftLaws
 mod BatchLaws

@@ -89,10 +89,10 @@ pub fn compare(a: &[u8], b: &[u8]) -> Order
     while 8 <= n - i {
         let x = packed_int::read_u64(a, i);
         let y = packed_int::read_u64(b, i);
-        if x < y {
-            return Order::Less;
-        }
-        if y < x {
+        if x != y {
+            if x < y {
+                return Order::Less;
+            }
             return Order::Greater;
         }
         i += 8;

@@ -1,6 +1,6 @@
 -- What the writes come to, over plain bytes: a snapshot's output, a diff's lists in the output, and its set in the buffer.
 --
--- In order: a part that is written whole (`put-rest`, `put-prefix`); a snapshot (`snapshot-written`); the four writes of a diff's output
+-- In order: a part that is written whole (`put-prefix`); a snapshot (`snapshot-written`); the three writes of a diff's output
 -- (`lists-..`), and the lists read back from it (`output-..`).
 -- Assumes nothing.
 use Prim.Native.Nat.{ℕ, _+_, _-_, _≤_}
@@ -13,22 +13,10 @@ use borrow.Rule.Slice.PartMut.{putMid}
 use Rattle.packed_int.specs.Be.{bytesOf}
 use Rattle.packed_int.specs.Put.{put}
 use Rattle.packed_int.proofs.BeLaws.{length-bytesOf}
-use Rattle.packed_int.proofs.PutLaws.{length-put, put-one, put-after, put-before, take-put}
+use Rattle.packed_int.proofs.PutLaws.{length-put, put-one, put-before, take-put}
+use Rattle.topic_chunks.proofs.DiffLaws.{put-rest}
 
 -- ---- a part of a slice
-
--- the elements from a on, written from the first of them on
-pub put-rest : (s : List ℕ) (a : ℕ) (vs w : List ℕ) → a + length vs ≤ length s → w ≡ put (take (length s - a) (drop a s)) 0 vs
-    → putMid a (length s - a) s w ≡ put s a vs
-unfolding put
-put-rest s a vs w h ew =
-    let t : take (length s - a) (drop a s) ≡ drop a s = take-all (length s - a) (drop a s) (rw length-drop (omega arith)) in
-    let n : a + (0 + length vs) ≡ a + length vs = omega arith in
-    let x : w ≡ vs ++ drop (a + length vs) s =
-    ew ∙ ap (λ (l : List ℕ). vs ++ drop (0 + length vs) l) t
-    ∙ ap (λ (l : List ℕ). vs ++ l) (drop-drop (0 + length vs) a s ∙ ap (λ (i : ℕ). drop i s) n) in
-    let z : drop (length s - a) (drop a s) ≡ [] = drop-of-length-le (drop a s) {i = length s - a} (rw length-drop (omega arith)) in
-    ap₂ (λ (u r : List ℕ). take a s ++ (u ++ r)) x z ∙ ap (λ (l : List ℕ). take a s ++ l) (append-nil (vs ++ drop (a + length vs) s))
 
 -- the front of a slice is written, up to n elements of it
 pub put-prefix : (b : List ℕ) (n : ℕ) (vs r : List ℕ) → length vs ≤ n → n ≤ length b → r ≡ put (take n b) 0 vs → r ++ drop n b ≡ put b 0 vs
@@ -74,50 +62,35 @@ module _ (o A R : List ℕ) (z g : ℕ) (ez : z ≡ length A) (eg : g ≡ length
   abbrev at : ℕ
   at = 5 + z
 
-  pub lists-room : z ≤ length (take (length o - 5) (drop 5 o))
+  pub lists-room : z + g ≤ length (take (length o - 5) (drop 5 o))
   lists-room = rw (length-take, length-drop) (omega arith)
 
-  module _ (x : List ℕ) (ex : x ≡ put (take (length o - 5) (drop 5 o)) 0 A) where
+  module _ (x : List ℕ) (ex : x ≡ put (take (length o - 5) (drop 5 o)) 0 (A ++ R)) where
     abbrev o1 : List ℕ
     o1 = putMid 5 (length o - 5) o x
 
-    first-is : o1 ≡ put o 5 A
-    first-is = put-rest o 5 A x (omega arith) ex
+    both-is : o1 ≡ put o 5 (A ++ R)
+    both-is = put-rest o 5 (A ++ R) x (omega (arith, length-append A R)) ex
 
-    pub first-long : length o1 ≡ length o
-    first-long = ap length first-is ∙ length-put o 5 A (omega arith)
+    pub both-long : length o1 ≡ length o
+    both-long = ap length both-is ∙ length-put o 5 (A ++ R) (omega (arith, length-append A R))
 
-    pub lists-room-removed : g ≤ length (take (length o1 - at) (drop at o1))
-    lists-room-removed = rw (length-take, length-drop, first-long) (omega arith)
+    module _ (w : List ℕ) (ew : w ≡ put o1 1 (bytesOf 4 z)) where
+      pub lists-written : set w 0 1 ≡ put o 0 (1 ∷ (bytesOf 4 z ++ (A ++ R)))
+      lists-written =
+          let B : List ℕ = bytesOf 4 z in
+          let lb : length B ≡ 4 = length-bytesOf 4 z in
+          let la : length (A ++ R) ≡ length A + length R = length-append A R in
+          let lc : length (B ++ (A ++ R)) ≡ length B + length (A ++ R) = length-append B (A ++ R) in
+          ap (λ (s : List ℕ). set s 0 1)
+          (ew ∙ ap (λ (s : List ℕ). put s 1 B) both-is ∙ put-before o 1 5 B (A ++ R) (omega arith) (omega arith))
+          ∙ front-byte o (B ++ (A ++ R)) 1 (omega arith)
 
-    module _ (y : List ℕ) (ey : y ≡ put (take (length o1 - at) (drop at o1)) 0 R) where
-      abbrev o2 : List ℕ
-      o2 = putMid at (length o1 - at) o1 y
-
-      second-is : o2 ≡ put o 5 (A ++ R)
-      second-is =
-          put-rest o1 at R y (omega (arith, first-long)) ey
-          ∙ ap₂ (λ (s : List ℕ) (i : ℕ). put s (5 + i) R) first-is ez ∙ put-after o 5 A R (omega arith)
-
-      pub second-long : length o2 ≡ length o
-      second-long = ap length second-is ∙ length-put o 5 (A ++ R) (omega (arith, length-append A R))
-
-      module _ (w : List ℕ) (ew : w ≡ put o2 1 (bytesOf 4 z)) where
-        pub lists-written : set w 0 1 ≡ put o 0 (1 ∷ (bytesOf 4 z ++ (A ++ R)))
-        lists-written =
-            let B : List ℕ = bytesOf 4 z in
-            let lb : length B ≡ 4 = length-bytesOf 4 z in
-            let la : length (A ++ R) ≡ length A + length R = length-append A R in
-            let lc : length (B ++ (A ++ R)) ≡ length B + length (A ++ R) = length-append B (A ++ R) in
-            ap (λ (s : List ℕ). set s 0 1)
-            (ew ∙ ap (λ (s : List ℕ). put s 1 B) second-is ∙ put-before o 1 5 B (A ++ R) (omega arith) (omega arith))
-            ∙ front-byte o (B ++ (A ++ R)) 1 (omega arith)
-
-        pub lists-long : length (set w 0 1) ≡ length o
-        lists-long =
-            let B : List ℕ = bytesOf 4 z in
-            ap length lists-written
-            ∙ length-put o 0 (1 ∷ (B ++ (A ++ R))) (omega (arith, length-bytesOf 4 z, length-append A R, length-append B (A ++ R)))
+      pub lists-long : length (set w 0 1) ≡ length o
+      lists-long =
+          let B : List ℕ = bytesOf 4 z in
+          ap length lists-written
+          ∙ length-put o 0 (1 ∷ (B ++ (A ++ R))) (omega (arith, length-bytesOf 4 z, length-append A R, length-append B (A ++ R)))
 
   -- the lists, read back from the output
   module _ (w : List ℕ) (ew : w ≡ put o 0 (1 ∷ (bytesOf 4 z ++ (A ++ R)))) where

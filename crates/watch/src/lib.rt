@@ -19,6 +19,7 @@ use readers::Event;
 use refusal::Refusal;
 use schema::Checked;
 use schema::MessageKind;
+use topic_chunks::Lists;
 use topic_window::Listing;
 use topic_window::Orders;
 
@@ -30,12 +31,6 @@ pub enum WatchAnswer {
     Changed(usize, usize),
     // Nothing was changed.
     Refused(Refusal),
-}
-
-// The lengths of a diff's lists, packed.
-struct Lists {
-    added: usize,
-    removed: usize,
 }
 
 // Whether there is room for a diff's set and output.
@@ -125,15 +120,10 @@ fn write_lists(set: &[u8], orders: Orders, p: &[u8], out: &mut [u8]) -> Lists
         × (r .removed ≡ sizeTopics (removedIn (topicsOf (now (set .entry))) (now (p .entry))))
         × (now (out .exit) ≡ put (now (out .entry)) 0 (diffIn (topicsOf (now (set .entry))) (now (p .entry)) .output)) ⌝ }
 {
-    let z = topic_lists::write_list(Listing::Added, orders, set, p, 3, &mut out[5..]);
-    let at = 5 + z;
-    let gone = topic_lists::write_list(Listing::Removed, orders, set, p, 3, &mut out[at..]);
-    packed_int::write_u32(out, 1, z as u32);
+    let l = topic_chunks::write_lists(orders, set, p, 3, &mut out[5..]);
+    packed_int::write_u32(out, 1, l.added as u32);
     out[0] = 1;
-    Lists {
-        added: z,
-        removed: gone,
-    }
+    l
 }
 
 // The set at the front of buffer after a diff, whose lists stand packed in `added` and `removed`. Answers its length.
@@ -191,9 +181,9 @@ fn write_diff(
     WatchAnswer::Changed(n, end)
 }
 
-// Each list of a diff that is packed is no longer than the n bytes of the message: so the set and the output fit without being measured.
+// Both lists of a diff, packed, are together no longer than the n bytes of the message: so the set and the output fit without being measured.
 fn fits_lists(n: usize, set: usize, out: usize) -> bool
-    ensures { λ r. ⌜ (r ≡ true → (n ≤ set) × (n < 2 ^ 32) × (5 + n + n ≤ out)) ⌝ }
+    ensures { λ r. ⌜ (r ≡ true → (n ≤ set) × (n < 2 ^ 32) × (5 + n ≤ out)) ⌝ }
 {
     if set < n {
         return false;
@@ -204,10 +194,7 @@ fn fits_lists(n: usize, set: usize, out: usize) -> bool
     if out < 5 {
         return false;
     }
-    if out - 5 < n {
-        return false;
-    }
-    n <= out - 5 - n
+    n <= out - 5
 }
 
 // Whether the set after a diff and its output fit rooms of so many bytes.

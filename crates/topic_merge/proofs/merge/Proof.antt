@@ -3,11 +3,13 @@
 use Prim.Native.Nat.{_+_, _-_, _≤_}
 use native.Mathlib.Omega.{arith}
 use borrow.Author.Needs.{needs}
-use mathlib.Core.Path.{_≡_, refl, _∙_}
+use mathlib.Core.Path.{_≡_, refl, ap, _∙_}
 use lib.ListN.{length}
+use Rattle.parts.proofs.PartLaws.{Bytes}
+use Rattle.packed_int.specs.Put.{put}
 use Rattle.topics.proofs.WalkLaws.{entry-two}
 use Rattle.topic_merge.proofs.MergeLaws.{Merged, merge-start, merge-down, merge-within, part-whole, merge-next, merge-end}
-use Rattle.topic_merge.proofs.MergeLaws.{new-fits, piece-length, place-room, write-room}
+use Rattle.topic_merge.proofs.MergeLaws.{new-fits, piece, piece-length, place-room, write-room}
 use Rattle.topic_merge.proofs.merge.Statement.{statement}
 use Rattle.topic_merge.proofs.merge.Tie as tie
 
@@ -46,6 +48,9 @@ used-here : (l : tie.At-loop Inv-loop μ-loop) → let a = l .before .before .be
     a .used + length (a .new .now) ≤ length (l .loop .b)
 used-here l = let v = l .loop .inv in omega (arith, v .room, v .long)
 
+new-bytes : (l : tie.At-loop Inv-loop μ-loop) → Bytes (l .before .before .before .before .before .before .before .args .new .now)
+new-bytes l i = l .before .before .before .before .before .shared-slice-known .given i .fits
+
 add-end : tie.Need-add-end Inv-loop μ-loop
 add-end c = search needs
 
@@ -58,7 +63,7 @@ loop-holds c =
     let a = s .args in
     let u = c .before .before .move-up in
     merge-start (a .b .now) (u .last .0) (a .new .now) (a .used) (s .pre .0) (u .ensures) (u .kept .0)
-    (λ i. c .slice-known2 .given i .fits) (λ i. c .before .before .before .before .shared-slice-known .given i .fits)
+    (λ i. c .slice-known2 .given i .fits)
     (s .pre .1 .0 .0) (s .pre .1 .0 .1) (s .pre .1 .1)
 
 read-u16-requires : tie.Need-read-u16-requires Inv-loop μ-loop
@@ -129,7 +134,13 @@ put-bytes-requires c κs =
     let l = r .before .before in
     let d = c .before .before .before .before .before .before .move-down in
     let e : length (d .last .0) ≡ length (l .loop .b) = d .kept .0 in
-    omega (arith, write-here q, used-here l, piece-length (l .loop .inv) (r .before .loop-test .taken) (r .read-u16 .result) (r .read-u16 .ensures))
+    omega (
+      arith,
+      write-here q,
+      used-here l,
+      piece-length (l .loop .inv) (r .before .loop-test .taken) (r .read-u16 .result) (r .read-u16 .ensures)
+          (new-bytes l),
+    )
 
 add-to-2 : tie.Need-add-to-2 Inv-loop μ-loop
 add-to-2 c = omega (arith, write-here (c .before .before .before .before .before .before .before .before .before .before .before))
@@ -150,7 +161,9 @@ loop-again c =
     let d = c .before .before .before .before .before .before .before .before .before .move-down in
     let w = c .before .before .put-bytes in
     merge-next (l .loop .inv) (r .before .loop-test .taken) (r .read-u16 .result) (r .read-u16 .ensures) (q .find .result) (q .find .ensures)
-    (d .last .0) (w .last .0) (d .ensures) (w .ensures) (w .kept .0 ∙ d .kept .0 ∙ l .loop .inv .long)
+    (d .last .0) (w .last .0) (d .ensures)
+    (w .ensures ∙ ap (put _ _) (piece (l .loop .inv) (r .before .loop-test .taken) (r .read-u16 .result) (r .read-u16 .ensures) (new-bytes l)))
+    (w .kept .0 ∙ d .kept .0 ∙ l .loop .inv .long)
 
 same-length : tie.Need-same-length Inv-loop μ-loop
 same-length c =
@@ -161,7 +174,7 @@ returns : tie.Need-returns Inv-loop μ-loop
 returns c =
     let l = c .before in
     let s = l .before .before .before .before .before .before .before in
-    (refl, merge-end (l .loop .inv) (s .args .b .now) (s .pre .0) (l .before .before .before .move-up .ensures) (omega arith))
+    (refl, merge-end (l .loop .inv) (omega arith) (s .args .b .now) (s .pre .0) (l .before .before .before .move-up .ensures))
 
 pub merge-spec : {M : Type 1} → statement M
 merge-spec =

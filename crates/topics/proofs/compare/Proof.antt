@@ -40,7 +40,7 @@ read-u64-requires-2 c κs = omega (arith, c .before .before .loop .inv .0, c .be
 
 returns-2 : tie.Need-returns-2 Inv-loop μ-loop
 returns-2 c =
-    let r = c .before in
+    let r = c .before .before in
     let l = r .before .before .before in
     let h = l .before .before in
     let k = h .before in
@@ -74,14 +74,14 @@ returns-3 c =
     (omega (arith, x, y))))
 
 add-i : tie.Need-add-i Inv-loop μ-loop
-add-i c = omega (arith, c .before .before .before .before .before .loop .inv .0)
+add-i c = omega (arith, c .before .before .before .before .loop .inv .0)
 
 loop-less : tie.Need-loop-less Inv-loop μ-loop
-loop-less c = omega (arith, c .before .before .before .before .before .loop .inv .0)
+loop-less c = omega (arith, c .before .before .before .before .loop .inv .0)
 
 loop-again : tie.Need-loop-again Inv-loop μ-loop
 loop-again c =
-    let r = c .before .before in
+    let r = c .before in
     let l = r .before .before .before in
     let h = l .before .before in
     let k = h .before in

@@ -2,7 +2,6 @@
 -- Assumes nothing.
 use Prim.Native.Nat.{_-_}
 use native.Mathlib.Omega.{arith}
-use borrow.Author.Needs.{needs}
 use borrow.Author.Tests.{leb-true}
 use mathlib.Core.Bool.{false≢true}
 use Rattle.watch.proofs.fits_lists.Statement.{statement}
@@ -18,14 +17,8 @@ returns-3 : tie.Need-returns-3
 returns-3 c = λ e. absurd (false≢true e)
 
 returns-4 : tie.Need-returns-4
-returns-4 c = λ e. absurd (false≢true e)
-
-sub-result : tie.Need-sub-result
-sub-result c = search needs
-
-returns-5 : tie.Need-returns-5
-returns-5 c = λ e. let a = c .before .before .before .before .args in let k = leb-true (a .n) (a .out - 5 - a .n) e in
+returns-4 c = λ e. let a = c .before .before .before .args in let k = leb-true (a .n) (a .out - 5) e in
     (omega arith, omega arith, omega (arith, k))
 
 pub fits-lists-spec : {M : Type 1} → statement M
-fits-lists-spec = tie.close (tie.spec returns returns-2 returns-3 returns-4 sub-result returns-5)
+fits-lists-spec = tie.close (tie.spec returns returns-2 returns-3 returns-4)

@@ -1,0 +1,5 @@
+mod ChosenLaws
+mod MarkLaws
+mod MergeWindowLaws
+mod ChunkLaws
+pub mod DiffLaws
