@@ -1,5 +1,5 @@
 mod Again
-mod BitLaws
+pub mod BitLaws
 mod LendRow
 pub mod LentSlice
 pub mod MarkLaws

@@ -5,3 +5,4 @@ mod MarkedLaws
 pub mod RoundLaws
 pub mod RowLaws
 pub mod WholeLaws
+mod WordLaws

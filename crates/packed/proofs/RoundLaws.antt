@@ -67,7 +67,7 @@ read-range r l f =
     cc (be-front 2 a (bytesOf 2 b ++ l) (f .start), drop-front 2 a (bytesOf 2 b ++ l), be-front 2 b l (f .end)) in
     ap rangeOf (append-assoc (bytesOf 2 a) (bytesOf 2 b) l) ∙ e
 
-read-ranges : (rs : List KeyRange) (l : List ℕ) → FitRanges rs → rangesOf (length rs) (encodeRanges rs ++ l) ≡ rs
+pub read-ranges : (rs : List KeyRange) (l : List ℕ) → FitRanges rs → rangesOf (length rs) (encodeRanges rs ++ l) ≡ rs
 unfolding rangesOf encodeRanges
 read-ranges [] l f = refl
 read-ranges (r ∷ rs) l f =

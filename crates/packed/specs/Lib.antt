@@ -4,3 +4,4 @@ pub mod Answers
 pub mod Rest
 pub mod Fit
 pub mod Rows
+pub mod Words

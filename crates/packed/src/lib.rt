@@ -3,13 +3,14 @@
 // `read_front` tests the one at the front of a slot, `read_whole` one that is lent alone. Both are linear. Buckets that rise are told in one pass; others are
 // compared pairwise where they are few, and marked where they are many.
 ghost use mathlib.Core.Path.{_≡_};
-ghost use Prim.Native.Nat.{_+_, _*_, _≤_, min};
+ghost use Prim.Native.Nat.{_+_, _*_, _%_, _≤_, min};
 ghost use mathlib.Core.Bool.{not, _&&_};
 ghost use lib.ListN.{length, drop};
 ghost use Rattle.types.specs.KeyRanges.{keyRange};
 ghost use Rattle.ranges.specs.Overlap.{overlapsAny, risingFrom};
 ghost use Rattle.packed.specs.Assignment.{rangeOf, rangesOf, okBuckets};
 ghost use Rattle.packed.specs.Answers.{recordRead, frontRead, wholeRead};
+ghost use Rattle.packed.specs.Words.{topsOf, WordRises};
 use types::KeyRange;
 
 // The most bytes of a packed assignment: a slot.
@@ -24,6 +25,11 @@ pub const BUCKET: usize = 4;
 
 // Fewer buckets than these are compared pairwise: that is cheaper than to clear the marks.
 const MANY: usize = 32;
+
+// A word with the places 56 and 24 set, and the same less 1 at the places 32 and 0.
+const PLACES: u64 = 72057594054705152;
+
+const LESS: u64 = 72057589759737855;
 
 // What stands at a record's place.
 pub enum RecordRead {
@@ -49,12 +55,12 @@ pub fn range_at(s: &[u8], at: usize) -> KeyRange
     KeyRange { start, end }
 }
 
-// The n ranges from a place on rise.
-fn buckets_rise(s: &[u8], at: usize, n: usize) -> bool
+// The n ranges from a place on rise, and start at a value or above.
+fn buckets_rise(s: &[u8], at: usize, n: usize, from: u64) -> bool
     requires { ⌜ at + 4 * n ≤ length (now s) ⌝ }
-    ensures { λ r. ⌜ r ≡ risingFrom 0 (rangesOf n (drop at (now (s .entry)))) ⌝ }
+    ensures { λ r. ⌜ r ≡ risingFrom from (rangesOf n (drop at (now (s .entry)))) ⌝ }
 {
-    let mut low: u64 = 0;
+    let mut low = from;
     let mut p = at;
     let mut left = n;
     while 0 < left {
@@ -67,6 +73,55 @@ fn buckets_rise(s: &[u8], at: usize, n: usize) -> bool
         left = left - 1;
     }
     true
+}
+
+// The lowest values above the two ranges of a word, at its places 32 and 0.
+fn tops(x: u64) -> u64
+    ensures { λ r. ⌜ r ≡ topsOf x ⌝ }
+{
+    x / 4294967296 % 65536 * 4294967296 + x % 65536 + 4294967297
+}
+
+// Whether the two ranges of a word rise from the value at the place 0 of low: the places 56 and 24 say it, of each range by itself.
+fn word_rises(x: u64, low: u64) -> u64
+    requires { ⌜ low % 4294967296 ≤ 65536 ⌝ }
+    ensures { λ r. ⌜ WordRises x (low % 4294967296) r ⌝ }
+{
+    let starts = x / 281474976710656 * 4294967296 + x / 65536 % 65536;
+    let ends = tops(x);
+    let lows = low % 4294967296 * 4294967296 + ends / 4294967296;
+    (ends + LESS - starts) & (starts + PLACES - lows)
+}
+
+// The n ranges from a place on rise: told of four at a time, and of the last by `buckets_rise`. A word is read a turn before it is used, so that the
+// compiler makes one read of it.
+fn rise_by_words(s: &[u8], at: usize, n: usize) -> bool
+    requires { ⌜ at + 4 * n ≤ length (now s) ⌝ }
+    ensures { λ r. ⌜ r ≡ risingFrom 0 (rangesOf n (drop at (now (s .entry)))) ⌝ }
+{
+    if n < 8 {
+        return buckets_rise(s, at, n, 0);
+    }
+    let mut x = packed_int::read_u64(s, at);
+    let mut y = packed_int::read_u64(s, at + 8);
+    let mut low: u64 = 0;
+    let mut p = at;
+    let mut left = n;
+    while 7 < left {
+        let word = PLACES & word_rises(x, low) & word_rises(y, tops(x));
+        if word / 72057594037927936 % 2 != 1 {
+            return false;
+        }
+        if word / 16777216 % 2 != 1 {
+            return false;
+        }
+        low = tops(y);
+        p = p + 16;
+        left = left - 4;
+        x = packed_int::read_u64(s, p);
+        y = packed_int::read_u64(s, p + 8);
+    }
+    buckets_rise(s, p, left, low % 4294967296)
 }
 
 // One of the n ranges from a place on shares a value with the range.
@@ -138,7 +193,7 @@ pub fn buckets_ok(s: &[u8], at: usize, n: usize) -> bool
     requires { ⌜ at + 4 * n ≤ length (now s) ⌝ }
     ensures { λ r. ⌜ r ≡ okBuckets (rangesOf n (drop at (now (s .entry)))) ⌝ }
 {
-    if buckets_rise(s, at, n) {
+    if rise_by_words(s, at, n) {
         return true;
     }
     if n < MANY {

@@ -14,11 +14,11 @@ use Rattle.packed.proofs.buckets_rise.Statement.{statement}
 use Rattle.packed.proofs.buckets_rise.Tie as tie
 
 abbrev Inv-loop : tie.InvT-loop
-Inv-loop s at n low₀ p₀ left₀ low p left =
-    (p + 4 * left ≡ at + 4 * n) × (risingFrom 0 (rangesOf n (drop at s)) ≡ risingFrom low (rangesOf left (drop p s)))
+Inv-loop s at n from low₀ p₀ left₀ low p left =
+    (p + 4 * left ≡ at + 4 * n) × (risingFrom from (rangesOf n (drop at s)) ≡ risingFrom low (rangesOf left (drop p s)))
 
 abbrev μ-loop : tie.MeasureT-loop
-μ-loop s at n low₀ p₀ left₀ low p left = left
+μ-loop s at n from low₀ p₀ left₀ low p left = left
 
 loop-holds : tie.Need-loop-holds Inv-loop μ-loop
 loop-holds c = (refl, refl)
