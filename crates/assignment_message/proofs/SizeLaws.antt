@@ -11,8 +11,8 @@ use mathlib.Core.List.{List, [], _∷_}
 use lib.ListN.{length, length-append, length-drop}
 use lib.Dec.{leb}
 use borrow.Author.Tests.{leb-true}
+use Rattle.parts.specs.BoolLaws.{both-true}
 use Rattle.types.specs.declared.KeyRange.{KeyRange}
-use Rattle.ranges.specs.Meaning.{both-true}
 use Rattle.parents.specs.Parents.{pathOf}
 use Rattle.topic.proofs.NameLaws.{descriptor-short, segmentTopic-length}
 use Rattle.wire_writer.specs.Encode.{varintBytes, numberKey, partKey, numberField, partHead, partField}

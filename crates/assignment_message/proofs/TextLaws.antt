@@ -11,11 +11,11 @@ use mathlib.Core.List.{List, [], _∷_, _++_}
 use lib.ListN.{length, drop, getD, take-append-drop}
 use lib.Dec.{leb, eqb, ltb}
 use borrow.Author.Tests.{leb-true, eqb-false}
+use Rattle.parts.specs.BoolLaws.{both-true}
 use Rattle.types.specs.declared.KeyRange.{KeyRange}
 use Rattle.types.specs.declared.SegmentId.{SegmentId}
 use Rattle.parts.specs.Same.{startsWith}
 use Rattle.parts.proofs.SameLaws.{same-eq}
-use Rattle.ranges.specs.Meaning.{both-true}
 use Rattle.utf8.specs.Table.{Span, table, within, fits, sequenceIn, sequenceOf, textAfter, isUtf8}
 use Rattle.utf8.proofs.RowLaws.{lead, lead-row, sequence-le}
 use Rattle.utf8.proofs.TextLaws.{text-end, plain-next}

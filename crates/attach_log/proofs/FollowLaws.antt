@@ -14,7 +14,7 @@ use lib.ListN.{length, take, drop, length-drop}
 use lib.Seq.{drop-drop}
 use lib.Dec.{leb, eqb}
 use borrow.Author.Tests.{le-leb, lt-leb, eq-eqb, ne-eqb}
-use Rattle.ranges.specs.Meaning.{both-true}
+use Rattle.parts.specs.BoolLaws.{both-true}
 use Rattle.refusal.specs.declared.Refusal.the-variants.{MalformedInput, InvalidLog}
 use Rattle.packed.specs.Assignment.{AssignedSegment, segmentsOf}
 use Rattle.delta.specs.Delta.{AssignmentDelta, idsOf, deltaOf, sizeDelta, okDelta, startsDelta}

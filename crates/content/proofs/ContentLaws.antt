@@ -12,11 +12,11 @@ use mathlib.Core.List.{List, [], map}
 use mathlib.Core.Option.{Option, some, none}
 use lib.Dec.{leb}
 use borrow.Author.Tests.{le-leb, lt-leb, leb-true}
+use Rattle.parts.specs.BoolLaws.{both-true}
 use Rattle.refusal.specs.declared.Refusal.{Refusal}
 use Rattle.refusal.specs.declared.Refusal.the-variants.{AssignmentTooLong}
 use Rattle.readers.specs.Messages.{WireAssignment}
 use Rattle.packed.specs.Assignment.{AssignedSegment, ConsumerAssignment, slotSize, sizeSegments, sizeAssignment, okFrom, okAssignment}
-use Rattle.ranges.specs.Meaning.{both-true}
 use Rattle.packed.proofs.RoundLaws.{FitAssignment}
 use Rattle.content.specs.Content.{firstRefusal, assignedSegment, inIdOrder, consumerAssignment, refused, taken, contentBy, contentOf}
 use Rattle.keyed.proofs.EachLaws.{Each}

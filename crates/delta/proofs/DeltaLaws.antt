@@ -13,7 +13,7 @@ use mathlib.Core.Option.{Option, some, none, Option·map}
 use lib.ListN.{length}
 use lib.Dec.{eqb, leb}
 use borrow.Author.Tests.{eqb-true, leb-true}
-use Rattle.ranges.specs.Meaning.{both-true}
+use Rattle.parts.specs.BoolLaws.{both-true}
 use Rattle.keyed.specs.Keyed.{self, orElse, isSome, only, filter, Above, Rising, find, holds, insertAll}
 use Rattle.keyed.proofs.KeyedLaws.{find-below, find-insertAll, find-filter, find-keys, find-without, only-at}
 use Rattle.keyed.proofs.KeyedLaws.{rising-insertAll, rising-filter, rising-keys, extensional}

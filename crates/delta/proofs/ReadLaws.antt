@@ -14,7 +14,7 @@ use mathlib.Core.List.{List}
 use lib.ListN.{length, drop}
 use lib.Dec.{leb}
 use borrow.Author.Tests.{not-true, not-false, le-leb, lt-leb, leb-true, eq-eqb, ne-eqb}
-use Rattle.ranges.specs.Meaning.{both-true}
+use Rattle.parts.specs.BoolLaws.{both-true}
 use Rattle.packed_int.specs.Be.{beAt}
 use Rattle.packed.specs.Assignment.{sizeSegments, num, segmentsOf, okFrom}
 use Rattle.packed.specs.Answers.{recordRead}

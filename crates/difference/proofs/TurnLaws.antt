@@ -14,8 +14,8 @@ use lib.ListN.{length, take, drop, length-append, length-drop}
 use lib.Seq.{take-all, take-at, take-take}
 use lib.Dec.{leb}
 use borrow.Author.Tests.{leb-true}
+use Rattle.parts.specs.BoolLaws.{both-true}
 use Rattle.parts.proofs.PartLaws.{Bytes, Bytes-drop}
-use Rattle.ranges.specs.Meaning.{both-true}
 use Rattle.packed_int.specs.Be.{beAt, bytesOf}
 use Rattle.packed_int.specs.Put.{put}
 use Rattle.packed_int.proofs.BeLaws.{length-bytesOf}

@@ -10,15 +10,16 @@ use mathlib.Core.Path.{_≡_, refl}
 use mathlib.Core.Bool.{Bool, true, false, cond, and-false, true≢false}
 use lib.Dec.{leb, eqb}
 use borrow.Author.Tests.{leb-true, le-leb, lt-leb, eqb-true, ne-eqb}
+use Rattle.parts.specs.BoolLaws.{both-true}
 use Rattle.parents.specs.Classes.{between, classOf, isHexDigit}
 use Rattle.digits.specs.Digits.{hexDigitValue, hexDigitOf}
-use Rattle.digits.proofs.TestLaws.{and-both, cond-first, cond-second}
+use Rattle.digits.proofs.TestLaws.{cond-first, cond-second}
 
 -- ---- the bytes of a class
 
 between-bounds : (low high b : ℕ) → between low high b ≡ true → (low ≤ b) × (b ≤ high)
 between-bounds low high b e =
-    let p = and-both (leb low b) (leb b high) e in
+    let p = both-true (leb low b) (leb b high) e in
     (leb-true low b (p .0), leb-true b high (p .1))
 
 -- the classes that are tested behind digits and letters

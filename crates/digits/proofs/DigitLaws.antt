@@ -17,11 +17,12 @@ use lib.ListN.{length, drop, getD, drop-of-length-le}
 use lib.Seq.{drop-cons}
 use lib.Dec.{eqb}
 use borrow.Author.Tests.{lt-ltb, le-ltb, eq-eqb, eqb-true, ne-eqb}
+use Rattle.parts.specs.BoolLaws.{both-true}
 use Rattle.parents.specs.Classes.{isDigit, isHexDigit}
 use Rattle.digits.specs.declared.Number.the-variants.{Is, None}
 use Rattle.digits.specs.Digits.{every, allDigits, allHexDigits, valueFrom, digitValue, hexDigitValue, decimalValue, hexValue}
 use Rattle.digits.specs.Digits.{isHexWord, isSegmentId, hexWord, segmentIdOf}
-use Rattle.digits.proofs.TestLaws.{and-both, cond-first, cond-second}
+use Rattle.digits.proofs.TestLaws.{cond-first, cond-second}
 use Rattle.digits.proofs.ClassLaws.{hex-value-bound}
 
 -- ---- a loop over digits
@@ -157,11 +158,11 @@ value-bound : (n a : ℕ) (l : List ℕ) → allHexDigits l ≡ true → a < n �
 unfolding every valueFrom
 value-bound n a [] e h = omega arith
 value-bound n a (b ∷ l) e h =
-    let p = and-both (isHexDigit b) (allHexDigits l) e in
+    let p = both-true (isHexDigit b) (allHexDigits l) e in
     rw (pow-succ', ← mul-assoc) (value-bound (n * 16) (a * 16 + hexDigitValue b) l (p .1) (omega (arith, hex-value-bound b (p .0))))
 
 pub word-bound : (s : List ℕ) → isHexWord s ≡ true → hexValue s < 65536
 unfolding isHexWord hexValue
 word-bound s e =
-    let p = and-both (eqb (length s) 4) (allHexDigits s) e in
+    let p = both-true (eqb (length s) 4) (allHexDigits s) e in
     subst (λ (n : ℕ). hexValue s < 1 * 16 ^ n) (eqb-true (length s) 4 (p .0)) (value-bound 1 0 s (p .1) (omega arith))

@@ -14,6 +14,7 @@ use mathlib.Core.List.{List, [], _∷_, _++_, append-assoc, append-nil}
 use lib.ListN.{length, getD, length-append, List·getD-append}
 use lib.Dec.{ltb, eqb}
 use borrow.Author.Tests.{lt-ltb, le-ltb, ltb-true, ltb-false, eqb-true, eq-eqb, ne-eqb}
+use Rattle.parts.specs.BoolLaws.{both-true}
 use Rattle.parents.specs.Classes.{classOf, isDigit, isHexDigit}
 use Rattle.parents.specs.Parents.{nonEmpty}
 use Rattle.topic.specs.Names.{hexDigit, hex4, decimalWithin, decimal}
@@ -21,7 +22,6 @@ use Rattle.topic.proofs.NameLaws.{decimal-end, digits-fewer, decimal-nonempty}
 use Rattle.digits.specs.declared.Number.the-variants.{Is}
 use Rattle.digits.specs.Digits.{every, allDigits, allHexDigits, valueFrom, digitValue, hexDigitValue, decimalValue, hexValue}
 use Rattle.digits.specs.Digits.{isHexWord, isSegmentId, hexWord, segmentIdOf}
-use Rattle.digits.proofs.TestLaws.{and-both}
 use Rattle.digits.proofs.ClassLaws.{class-digit, class-letter, digit-bounds, letter-bounds, hex-value-bound}
 use Rattle.digits.proofs.DigitLaws.{word-is, id-is}
 
@@ -94,10 +94,10 @@ word-written v h =
 word-read-4 : (a b c d : ℕ) → allHexDigits (a ∷ b ∷ c ∷ d ∷ []) ≡ true → hex4 (hexValue (a ∷ b ∷ c ∷ d ∷ [])) ≡ a ∷ b ∷ c ∷ d ∷ []
 unfolding hex4 hexValue valueFrom every
 word-read-4 a b c d e =
-    let A = and-both (isHexDigit a) _ e in
-    let B = and-both (isHexDigit b) _ (A .1) in
-    let C = and-both (isHexDigit c) _ (B .1) in
-    let D = and-both (isHexDigit d) _ (C .1) in
+    let A = both-true (isHexDigit a) _ e in
+    let B = both-true (isHexDigit b) _ (A .1) in
+    let C = both-true (isHexDigit c) _ (B .1) in
+    let D = both-true (isHexDigit d) _ (C .1) in
     let x = hexDigitValue a in
     let y = hexDigitValue b in
     let z = hexDigitValue c in
@@ -116,7 +116,7 @@ word-read-4 a b c d e =
 pub word-read : (l : List ℕ) → isHexWord l ≡ true → hex4 (hexValue l) ≡ l
 unfolding isHexWord
 word-read l e =
-    let p = and-both (eqb (length l) 4) (allHexDigits l) e in
+    let p = both-true (eqb (length l) 4) (allHexDigits l) e in
     go l (eqb-true (length l) 4 (p .0)) (p .1)
   where
     go : (l : List ℕ) → length l ≡ 4 → allHexDigits l ≡ true → hex4 (hexValue l) ≡ l
@@ -208,7 +208,7 @@ decimal-behind k a [] h e =
     let z : k + 0 ≡ k = omega arith in
     ap (λ (n : ℕ). decimalWithin n a) z ∙ sym (append-nil (decimalWithin k a))
 decimal-behind k a (b ∷ l) h e =
-    let p = and-both (isDigit b) (allDigits l) e in
+    let p = both-true (isDigit b) (allDigits l) e in
     let q = digit-bounds b (eqb-true (classOf b) 1 (p .0)) in
     let v : ℕ = a * 10 + digitValue b in
     let f : k + suc (length l) ≡ suc k + length l = omega arith in
@@ -236,15 +236,15 @@ id-parts : (l : List ℕ) → isSegmentId l ≡ true
     → (allDigits l ≡ true) × ((eqb (length l) 1 || not (eqb (getD l 0 0) 0x30)) ≡ true) × (valueFrom 10 digitValue 0 l < 2 ^ 64)
 unfolding isSegmentId decimalValue
 id-parts l e =
-    let p = and-both (nonEmpty l) _ e in
-    let q = and-both (allDigits l) _ (p .1) in
-    let r = and-both (eqb (length l) 1 || not (eqb (getD l 0 0) 0x30)) _ (q .1) in
+    let p = both-true (nonEmpty l) _ e in
+    let q = both-true (allDigits l) _ (p .1) in
+    let r = both-true (eqb (length l) 1 || not (eqb (getD l 0 0) 0x30)) _ (q .1) in
     (q .0, r .0, ltb-true (valueFrom 10 digitValue 0 l) (2 ^ 64) (r .1))
 
 first-bounds : (b : ℕ) (m : List ℕ) → allDigits (b ∷ m) ≡ true → (0x30 ≤ b) × (b ≤ 0x39) × (allDigits m ≡ true)
 unfolding every
 first-bounds b m e =
-    let p = and-both (isDigit b) (allDigits m) e in
+    let p = both-true (isDigit b) (allDigits m) e in
     let q = digit-bounds b (eqb-true (classOf b) 1 (p .0)) in
     (q .0, q .1, p .1)
 

@@ -1,12 +1,7 @@
--- Laws of tests, for reading a definition backwards: both parts of a passed `&&` (`and-both`), and the side of a choice that its value is
--- from (`cond-first`, `cond-second`).
+-- Laws of tests, for reading a definition backwards: the side of a choice that its value is from (`cond-first`, `cond-second`).
 -- Assumes nothing.
 use mathlib.Core.Path.{_≡_, refl, sym}
 use mathlib.Core.Bool.{Bool, true, false, cond, _&&_, true≢false}
-
-pub and-both : (t u : Bool) → (t && u) ≡ true → (t ≡ true) × (u ≡ true)
-and-both true u e = (refl, e)
-and-both false u e = absurd (true≢false (sym e))
 
 module _ {A : Type 0} (t : Bool) (x y z : A) where
   pub cond-first : (y ≡ z → ⊥) → cond t x y ≡ z → (t ≡ true) × (x ≡ z)

@@ -14,8 +14,8 @@ use lib.ListN.{length, take, drop, length-take, length-drop, drop-of-length-le}
 use lib.Seq.{drop-drop, drop-append-le}
 use lib.Dec.{eqb, leb}
 use borrow.Author.Tests.{leb-true, leb-false, eqb-true, eqb-false, eq-eqb, ne-eqb}
+use Rattle.parts.specs.BoolLaws.{both-true}
 use Rattle.parts.proofs.PartLaws.{drop-take}
-use Rattle.ranges.specs.Meaning.{both-true}
 use Rattle.output.specs.Output.{Outcome, written}
 use Rattle.output.specs.declared.WriteAnswer.the-variants.{Written}
 use Rattle.packed_int.specs.Be.{bytesOf}

@@ -14,7 +14,7 @@ use lib.ListN.{length, take, drop, length-append, take-append-drop, length-map, 
 use lib.Seq.{take-at, drop-at, drop-drop, length-take-le}
 use lib.Dec.{leb, eqb}
 use borrow.Author.Tests.{le-leb, leb-true, eq-eqb, ne-eqb, eqb-true}
-use Rattle.ranges.specs.Meaning.{both-true}
+use Rattle.parts.specs.BoolLaws.{both-true}
 use Rattle.packed.specs.Assignment.{AssignedSegment, okFrom}
 use Rattle.packed.proofs.AssignmentLaws.{ok-head, ok-tail}
 use Rattle.delta.specs.Delta.{AssignmentDelta, idsFrom, okDelta}

@@ -14,7 +14,7 @@ use mathlib.Core.Logic.{⊎-elim}
 use lib.ListN.{length}
 use lib.Dec.{leb}
 use borrow.Author.Tests.{leb-true, le-ltb}
-use Rattle.ranges.specs.Meaning.{both-true}
+use Rattle.parts.specs.BoolLaws.{both-true}
 use Rattle.packed.specs.Assignment.{AssignedSegment, slotSize, sizeAssignment, okSegment, okFrom, okAssignment}
 use Rattle.packed.specs.Assignment.{assignmentOf, startsAssignment, isAssignment}
 use Rattle.lookup.specs.Lookup.{longestKey, keyHash, takes, firstTaking, segmentForKey}

@@ -14,8 +14,9 @@ use lib.Dec.{leb}
 use lib.ListN.{length, getD, take, drop, take-append-drop, replicate}
 use lib.Seq.{take-suc, take-all, drop-cons}
 use borrow.Author.Tests.{leb-true, le-leb}
+use Rattle.parts.specs.BoolLaws.{both-true}
 use Rattle.types.specs.declared.KeyRange.{KeyRange}
-use Rattle.ranges.specs.Meaning.{Within, both-true, common, shared}
+use Rattle.ranges.specs.Meaning.{Within, common, shared}
 use Rattle.ranges.specs.Overlap.{overlap, overlapsAny, anyOverlap}
 use Rattle.ranges.proofs.OverlapLaws.{crossOverlap, overlaps-any-append, any-append}
 use Rattle.marks.specs.Marks.{marked, point, Good, AllGood, more, Holds, Marking, RowMarking}

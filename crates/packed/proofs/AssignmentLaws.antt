@@ -19,9 +19,9 @@ use lib.ListN.{length, drop}
 use lib.Seq.{drop-drop}
 use lib.Dec.{leb}
 use borrow.Author.Tests.{le-leb, lt-leb, leb-true, leb-false}
+use Rattle.parts.specs.BoolLaws.{both-true}
 use Rattle.types.specs.declared.KeyRange.{KeyRange}
 use Rattle.types.specs.KeyRanges.{keyRange}
-use Rattle.ranges.specs.Meaning.{both-true}
 use Rattle.ranges.specs.Overlap.{overlap, overlapsAny, anyOverlap, startsFrom, risingFrom}
 use Rattle.ranges.proofs.OverlapLaws.{rising-apart}
 use Rattle.packed_int.specs.Be.{beAt}

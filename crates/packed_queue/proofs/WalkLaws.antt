@@ -14,7 +14,7 @@ use lib.ListN.{length, take, drop, length-drop}
 use lib.Seq.{drop-drop, length-take-le}
 use lib.Dec.{leb}
 use borrow.Author.Tests.{le-leb, lt-leb, leb-true, eqb-true}
-use Rattle.ranges.specs.Meaning.{both-true}
+use Rattle.parts.specs.BoolLaws.{both-true}
 use Rattle.packed_int.specs.Be.{beAt}
 use Rattle.packed.specs.Assignment.{num, assignmentOf, sizeAssignment, startsAssignment, isAssignment}
 use Rattle.packed.specs.Answers.{wholeRead}

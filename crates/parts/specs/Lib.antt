@@ -1,2 +1,3 @@
+pub mod BoolLaws
 pub mod Same
 pub mod Bytes

@@ -6,6 +6,7 @@ use native.Mathlib.Omega.{arith}
 use mathlib.Core.Bool.{Bool, true, false, _&&_}
 use lib.Dec.{leb}
 use borrow.Author.Tests.{leb-true, le-leb}
+use Rattle.parts.specs.BoolLaws.{both-true}
 use Rattle.types.specs.declared.KeyRange.{KeyRange}
 use Rattle.ranges.specs.Overlap.{overlap}
 
@@ -13,10 +14,6 @@ use Rattle.ranges.specs.Overlap.{overlap}
 pub record Within (v : ℕ) (r : KeyRange) : Type 0 where
   pub low : r .start ≤ v
   pub high : v ≤ r .end
-
-pub both-true : (s t : Bool) → s && t ≡ true → (s ≡ true) × (t ≡ true)
-both-true true t e = (refl, e)
-both-true false t e = let z : _≡_ {A = Bool} true false = cc in (cc, cc)
 
 pub common : (a b : KeyRange) → a .start ≤ a .end → b .start ≤ b .end → overlap a b ≡ true → (v : ℕ) × Within v a × Within v b
 common a b ha hb e =

@@ -12,10 +12,10 @@ use mathlib.Core.List.{List, _++_}
 use lib.ListN.{length, take, drop, take-append-drop}
 use lib.Dec.{leb}
 use borrow.Author.Tests.{leb-true}
+use Rattle.parts.specs.BoolLaws.{both-true}
 use Rattle.parts.specs.Same.{sameBytes}
 use Rattle.parts.proofs.PartLaws.{Bytes}
 use Rattle.parts.proofs.SameLaws.{same-refl, same-eq}
-use Rattle.ranges.specs.Meaning.{both-true}
 use Rattle.packed_int.specs.Be.{beAt}
 use Rattle.packed.specs.Assignment.{AssignedSegment, segmentOf, segmentsOf, assignmentOf, encodeSegment, encodeAssignment}
 use Rattle.packed.specs.Assignment.{sizeSegment, sizeSegments, sizeAssignment, startsAssignment}

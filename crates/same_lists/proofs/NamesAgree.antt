@@ -11,11 +11,11 @@ use mathlib.Core.List.{List, [], _∷_, map}
 use lib.ListN.{length}
 use lib.Dec.{eqb, leb}
 use borrow.Author.Tests.{leb-true, eq-eqb}
+use Rattle.parts.specs.BoolLaws.{both-true}
 use Rattle.types.specs.KeyRanges.{maxHash}
 use Rattle.types.proofs.KeyRangeLaws.{valid-new}
 use Rattle.parts.specs.Same.{startsWith}
 use Rattle.parts.proofs.PartLaws.{Bytes}
-use Rattle.ranges.specs.Meaning.{both-true}
 use Rattle.utf8.specs.Table.{isUtf8}
 use Rattle.parents.specs.Parents.{topicScheme, isPath, isParent, pathOf}
 use Rattle.topic.specs.Build as build

@@ -13,10 +13,10 @@ use mathlib.Core.List.{List, [], _∷_, map}
 use lib.ListN.{length, take}
 use lib.Dec.{leb}
 use borrow.Author.Tests.{lt-ltb}
+use Rattle.parts.specs.BoolLaws.{both-true}
 use Rattle.types.specs.declared.KeyRange.{KeyRange}
 use Rattle.parts.specs.Same.{startsWith}
 use Rattle.parts.proofs.PartLaws.{Bytes}
-use Rattle.ranges.specs.Meaning.{both-true}
 use Rattle.utf8.specs.Table.{isUtf8}
 use Rattle.parents.specs.Parents.{topicScheme, hasThreeParts, frontClean, isPath, isParent, pathOf}
 use Rattle.wire.specs.Fields.{fieldsOf}

@@ -13,11 +13,11 @@ use lib.ListN.{length, take, drop, getD, length-drop, take-append-drop}
 use lib.Seq.{take-at, drop-append-add, getD-at, getD-drop, drop-cons, drop-drop}
 use lib.Dec.{eqb, ltb}
 use borrow.Author.Tests.{eqb-true, ltb-true, ne-eqb, lt-ltb}
+use Rattle.parts.specs.BoolLaws.{both-true}
 use Rattle.parents.specs.Classes.{classOf, isDash, isDigit, isHexDigit}
 use Rattle.parents.specs.Parents.{nonEmpty}
 use Rattle.digits.specs.Digits.{every, allDigits, allHexDigits, decimalValue, hexValue, isHexWord, isSegmentId}
 use Rattle.segment_source.specs.Parse.{startPart, endPart, idPart, isDescriptor}
-use Rattle.digits.proofs.TestLaws.{and-both}
 use Rattle.digits.proofs.DigitLaws.{word-bound}
 use Rattle.magnetar.specs.Result.{Result, Ok, Err, _>>=_, ok-or}
 use Rattle.magnetar.specs.Text.{Text, text-eq, contains, starts-with, all-bytes, head-longer, split}
@@ -37,7 +37,7 @@ every-agrees f g h (b ∷ s) = rw (h b, every-agrees f g h s)
 word-number : (s : Text) → isHexWord s ≡ true → u32-from-str-radix 16 s ≡ some (hexValue s)
 unfolding isHexWord
 word-number s e =
-    let p = and-both (eqb (length s) 4) (allHexDigits s) e in
+    let p = both-true (eqb (length s) 4) (allHexDigits s) e in
     let b : ltb (hexValue s) (2 ^ 32) ≡ true = lt-ltb (hexValue s) (2 ^ 32) (omega (arith, word-bound s e)) in
     hex-number (2 ^ 32) s (omega (arith, eqb-true (length s) 4 (p .0))) (p .1) ∙ rw b
 
@@ -98,7 +98,7 @@ every-no-dash : (test : ℕ → Bool) → test dash ≡ false → (s : Text) →
 unfolding every
 every-no-dash test h [] e = refl
 every-no-dash test h (b ∷ s) e =
-    let p = and-both (test b) (every test s) e in
+    let p = both-true (test b) (every test s) e in
     rw (ne-eqb b dash (λ q. true≢false (sym (p .0) ∙ ap test q ∙ h))) (every-no-dash test h s (p .1))
 
 or-neither : (t u : Bool) → (t || u) ≡ false → (t ≡ false) × (u ≡ false)
@@ -167,17 +167,17 @@ parts-told (a ∷ (b ∷ (c ∷ (d ∷ l)))) x e = cc
 
 word-length : (s : Text) → isHexWord s ≡ true → length s ≡ 4
 unfolding isHexWord
-word-length s e = eqb-true (length s) 4 (and-both (eqb (length s) 4) (allHexDigits s) e .0)
+word-length s e = eqb-true (length s) 4 (both-true (eqb (length s) 4) (allHexDigits s) e .0)
 
 word-no-dash : (s : Text) → isHexWord s ≡ true → contains dash s ≡ false
 unfolding isHexWord classOf
-word-no-dash s e = every-no-dash isHexDigit refl s (and-both (eqb (length s) 4) (allHexDigits s) e .1)
+word-no-dash s e = every-no-dash isHexDigit refl s (both-true (eqb (length s) 4) (allHexDigits s) e .1)
 
 id-no-dash : (s : Text) → isSegmentId s ≡ true → contains dash s ≡ false
 unfolding isSegmentId classOf
 id-no-dash s e =
-    let p = and-both (nonEmpty s) (allDigits s && (led s && ltb (decimalValue s) (2 ^ 64))) e in
-    every-no-dash isDigit refl s (and-both (allDigits s) (led s && ltb (decimalValue s) (2 ^ 64)) (p .1) .0)
+    let p = both-true (nonEmpty s) (allDigits s && (led s && ltb (decimalValue s) (2 ^ 64))) e in
+    every-no-dash isDigit refl s (both-true (allDigits s) (led s && ltb (decimalValue s) (2 ^ 64)) (p .1) .0)
 
 -- behind a word and a '-'
 drop-five : (a r : Text) → length a ≡ 4 → drop 5 (a ++ (dash ∷ r)) ≡ r
@@ -191,8 +191,8 @@ record Sound (x : Descriptor) : Type 0 where
 
 sound-told : (x : Descriptor) → sound x ≡ true → Sound x
 sound-told x e =
-    let p = and-both (isHexWord (x .start)) (isHexWord (x .end) && isSegmentId (x .id)) e in
-    let q = and-both (isHexWord (x .end)) (isSegmentId (x .id)) (p .1) in
+    let p = both-true (isHexWord (x .start)) (isHexWord (x .end) && isSegmentId (x .id)) e in
+    let q = both-true (isHexWord (x .end)) (isSegmentId (x .id)) (p .1) in
     record { start = p .0; end = q .0; id = q .1 }
 
 module _ (x : Descriptor) (S : Sound x) where
@@ -224,16 +224,16 @@ dash-is b e = eqb-true b dash (sym (dash-test b) ∙ e)
 
 id-long : (s : Text) → isSegmentId s ≡ true → 0 < length s
 unfolding isSegmentId
-id-long s e = ltb-true 0 (length s) (and-both (nonEmpty s) (allDigits s && (led s && ltb (decimalValue s) (2 ^ 64))) e .0)
+id-long s e = ltb-true 0 (length s) (both-true (nonEmpty s) (allDigits s && (led s && ltb (decimalValue s) (2 ^ 64))) e .0)
 
 -- a descriptor is its parts joined, and they are sound
 descriptor-parts : (d : Text) → isDescriptor d ≡ true → Sound (partsOf d) × (d ≡ rowOf (partsOf d))
 unfolding isDescriptor
 descriptor-parts d e =
-    let A = and-both (isHexWord (startPart d)) _ e in
-    let B = and-both (isDash (getD d 4 0)) _ (A .1) in
-    let C = and-both (isHexWord (endPart d)) _ (B .1) in
-    let D = and-both (isDash (getD d 9 0)) (isSegmentId (idPart d)) (C .1) in
+    let A = both-true (isHexWord (startPart d)) _ e in
+    let B = both-true (isDash (getD d 4 0)) _ (A .1) in
+    let C = both-true (isHexWord (endPart d)) _ (B .1) in
+    let D = both-true (isDash (getD d 9 0)) (isSegmentId (idPart d)) (C .1) in
     let n : 10 < length d = omega (arith, id-long (idPart d) (D .1), length-drop 10 d) in
     let nine : drop 9 d ≡ dash ∷ drop 10 d =
     drop-cons d 9 0 (omega arith) ∙ ap (λ (c : ℕ). c ∷ drop 10 d) (dash-is (getD d 9 0) (D .0)) in

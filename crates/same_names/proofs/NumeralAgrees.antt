@@ -11,10 +11,10 @@ use mathlib.Core.Option.{Option, some, none}
 use lib.ListN.{length}
 use lib.Dec.{eqb, ltb}
 use borrow.Author.Tests.{lt-ltb, le-ltb, ltb-true, le-leb, lt-leb, eqb-true, ne-eqb}
+use Rattle.parts.specs.BoolLaws.{both-true}
 use Rattle.parents.specs.Classes.{classOf, isDigit, isHexDigit}
 use Rattle.topic.specs.Names.{hex4, decimalWithin, decimal}
 use Rattle.digits.specs.Digits.{every, allDigits, allHexDigits, valueFrom, digitValue, hexDigitValue, decimalValue, hexValue}
-use Rattle.digits.proofs.TestLaws.{and-both}
 use Rattle.digits.proofs.ClassLaws.{digit-bounds, letter-bounds}
 use Rattle.magnetar.specs.Text.{Text}
 use Rattle.magnetar.specs.Numerals.{digits, from-digit, display, zero-padded, lower-hex-4, and-then, to-digit, digits-behind, from-str-radix}
@@ -106,7 +106,7 @@ module _ (radix : ℕ) (test : ℕ → Bool) (value : ℕ → ℕ) (is : (b : �
   unfolding every valueFrom
   behind-agrees a [] e = refl
   behind-agrees a (b ∷ s) e =
-      let p = and-both (test b) (every test s) e in
+      let p = both-true (test b) (every test s) e in
       rw (is b (p .0)) (behind-agrees (a * radix + value b) s (p .1))
 
   number-agrees : (values : ℕ) (s : Text) → 0 < length s → every test s ≡ true
@@ -114,7 +114,7 @@ module _ (radix : ℕ) (test : ℕ → Bool) (value : ℕ → ℕ) (is : (b : �
   unfolding every
   number-agrees values [] h e = absurd (omega arith)
   number-agrees values (b ∷ s) h e =
-      let p = and-both (test b) (every test s) e in
+      let p = both-true (test b) (every test s) e in
       let n : eqb b 0x2B ≡ false = ne-eqb b 0x2B (λ q. true≢false (sym (p .0) ∙ ap test q ∙ sign)) in
       rw n (ap (λ (o : Option ℕ). and-then o (λ number. cond (ltb number values) (some number) none)) (behind-agrees 0 (b ∷ s) e))
 

@@ -13,13 +13,13 @@ use mathlib.Core.Option.{Option, some, none, Option·map}
 use lib.ListN.{length, take, drop}
 use lib.Dec.{eqb}
 use borrow.Author.Tests.{eq-eqb, ne-eqb, eqb-true, eqb-false, lt-ltb, not-true}
+use Rattle.parts.specs.BoolLaws.{both-true}
 use Rattle.parts.specs.Same.{sameBytes, startsWith}
 use Rattle.parents.specs.Classes.{classOf, isSlash}
 use Rattle.parents.specs.Parents.{topicScheme, beforeSlash, behindSlash, clean, nonEmpty, endsInSlash, isLocalName, hasThreeParts, frontClean}
 use Rattle.parents.specs.Parents.{isPath, isParent, pathOf}
 use Rattle.topic.specs.Names.{segmentScheme, hex4, decimal, descriptor, segmentTopic}
 use Rattle.segment_source.specs.Parse.{hasSlash}
-use Rattle.digits.proofs.TestLaws.{and-both}
 use Rattle.types.specs.declared.KeyRange.{KeyRange}
 use Rattle.types.specs.declared.SegmentId.{SegmentId}
 use Rattle.magnetar.specs.Result.{Result, Ok, Err, _>>=_, ok-or}
@@ -170,8 +170,8 @@ parent-agrees t m =
 pub marked-differs : MarkedDiffers
 unfolding isPath isParent
 marked-differs t m =
-    let p = and-both (startsWith topicScheme t) (isMarkedPath (pathOf t)) m in
-    let q = and-both (hasThreeParts (pathOf t)) (not (frontClean (pathOf t))) (p .1) in
+    let p = both-true (startsWith topicScheme t) (isMarkedPath (pathOf t)) m in
+    let q = both-true (hasThreeParts (pathOf t)) (not (frontClean (pathOf t))) (p .1) in
     let taken : tested t (pathOf t) ≡ Ok (pathOf t) = rw (path-agrees, q .0) in (
       ap (λ (o : Option Text). ok-or (InvalidParent t) o >>= tested t) (strip-agrees topicScheme t) ∙ rw (p .0) taken,
       rw (p .0, q .0, not-true (frontClean (pathOf t)) (q .1)),

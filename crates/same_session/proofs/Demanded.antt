@@ -11,7 +11,7 @@ use mathlib.Core.Option.{none}
 use lib.ListN.{length}
 use lib.Dec.{ltb}
 use borrow.Author.Tests.{not-true}
-use Rattle.ranges.specs.Meaning.{both-true}
+use Rattle.parts.specs.BoolLaws.{both-true}
 use Rattle.keyed.proofs.KeyedLaws.{choose}
 use Rattle.keyed.proofs.EachLaws.{Each}
 use Rattle.delta.specs.Join.{Proper}

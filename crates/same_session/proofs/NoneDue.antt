@@ -11,6 +11,7 @@ use mathlib.Core.Option.{Option, some, none}
 use lib.ListN.{length}
 use lib.Dec.{eqb, ltb, leb}
 use borrow.Author.Tests.{not-true, leb-true, le-leb, lt-leb, le-ltb, ltb-true, ltb-false, eqb-false}
+use Rattle.parts.specs.BoolLaws.{both-true}
 use Rattle.types.specs.declared.ControllerIncarnation.{ControllerIncarnation}
 use Rattle.refusal.specs.declared.Refusal.{Refusal}
 use Rattle.schema.specs.declared.MessageKind.the-variants.{CommandScalableTopicAssignmentUpdate, CommandScalableTopicSubscribeResponse}
@@ -20,7 +21,6 @@ use Rattle.schema.specs.FirstFault.{firstFault}
 use Rattle.readers.specs.declared.ErrorCode.{ErrorCode}
 use Rattle.readers.specs.declared.ErrorCode.the-variants.{Given, Absent}
 use Rattle.readers.specs.Messages.{WireAssignment, WireResponse, updateOf, responseOf}
-use Rattle.ranges.specs.Meaning.{both-true}
 use Rattle.keyed.proofs.KeyedLaws.{choose}
 use Rattle.packed.specs.Assignment.{ConsumerAssignment, slotSize, sizeAssignment}
 use Rattle.packed.specs.Equal.{sameAssignment}

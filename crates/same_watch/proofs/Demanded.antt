@@ -8,11 +8,11 @@ use mathlib.Core.Path.{_≡_, refl, sym, ap, ap₂, _∙_}
 use mathlib.Core.Bool.{Bool, true, false, cond, _&&_}
 use mathlib.Core.List.{List, [], _∷_}
 use lib.ListN.{take}
+use Rattle.parts.specs.BoolLaws.{both-true}
 use Rattle.parts.proofs.PartLaws.{Bytes, Bytes-take}
 use Rattle.readers.specs.Messages.{watchUpdateOf}
 use Rattle.topics.specs.Topics.{rising, allShort}
 use Rattle.topics.specs.Packed.{topicsOf, isWhole, allUtf8, isSet}
-use Rattle.topics.proofs.SetLaws.{both-true}
 use Rattle.topics.proofs.PackedLaws.{read-short}
 use Rattle.watch.specs.Watch.{Outcome}
 use Rattle.magnetar.specs.Watch.{ScalableTopicsWatch, handle-update}

@@ -12,6 +12,7 @@ use lib.ListN.{length, take}
 use lib.Seq.{length-take-le}
 use lib.Dec.{eqb, leb, ltb}
 use borrow.Author.Tests.{not-true, leb-true, le-leb, ltb-true, lt-ltb}
+use Rattle.parts.specs.BoolLaws.{both, both-true}
 use Rattle.parts.proofs.PartLaws.{Bytes-take}
 use Rattle.packed_int.proofs.PutLaws.{length-put}
 use Rattle.schema.specs.declared.MessageKind.the-variants.{CommandWatchScalableTopicsUpdate}
@@ -22,7 +23,6 @@ use Rattle.readers.specs.Messages.{WireEvent, none, snapshot, diff, WireWatchUp
 use Rattle.keyed.proofs.KeyedLaws.{choose}
 use Rattle.topics.specs.Topics.{insertAll, sorted, rising, allShort}
 use Rattle.topics.specs.Packed.{topicsOf, encodeTopics, sizeTopics, isWhole, allUtf8, isSet}
-use Rattle.topics.proofs.SetLaws.{both-true, both}
 use Rattle.topics.proofs.PackedLaws.{length-encode, size-append, size-topics, read-short}
 use Rattle.topic_lists.proofs.SizeLaws.{size-insertAll, size-filter}
 use Rattle.values.specs.Values.{partsOf}

@@ -11,7 +11,7 @@ use mathlib.Core.List.{List}
 use lib.ListN.{length, take, drop}
 use lib.Dec.{eqb}
 use borrow.Author.Tests.{lt-ltb, le-ltb, lt-leb, le-leb, leb-true, eq-eqb, ne-eqb, not-true, not-false}
-use Rattle.ranges.specs.Meaning.{both-true}
+use Rattle.parts.specs.BoolLaws.{both-true}
 use Rattle.refusal.specs.declared.Refusal.{Refusal}
 use Rattle.refusal.specs.declared.Refusal.the-variants.{StoreTooShort, MalformedStore, MalformedSave, ResultTooLong}
 use Rattle.packed_int.specs.Be.{beAt}

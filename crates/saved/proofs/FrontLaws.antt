@@ -12,8 +12,8 @@ use lib.ListN.{length, take, drop, length-take, length-drop}
 use lib.Seq.{take-take, length-take-le}
 use lib.Dec.{leb, ltb}
 use borrow.Author.Tests.{le-leb}
+use Rattle.parts.specs.BoolLaws.{both-true}
 use Rattle.parts.proofs.PartLaws.{drop-take}
-use Rattle.ranges.specs.Meaning.{both-true}
 use Rattle.packed_int.specs.Be.{be}
 use Rattle.packed.specs.Assignment.{ConsumerAssignment, num, assignmentOf, isAssignment, startsAssignment}
 use Rattle.packed_queue.specs.Entries.{sheetIn, entryEnd, entriesOf, entriesEnd, startsEntry, startEntries}

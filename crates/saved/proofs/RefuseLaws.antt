@@ -10,9 +10,9 @@ use lib.ListN.{length, take, drop, getD, set, length-set, length-drop}
 use lib.Seq.{take-all, take-take, take-set-le, take-set-lt, drop-set-lt, getD-take, getD-drop, getD-set-same, length-take-le}
 use lib.Dec.{leb, eqb}
 use borrow.Author.Tests.{eqb-true}
+use Rattle.parts.specs.BoolLaws.{both-true}
 use Rattle.parts.specs.Bytes.{Bytes}
 use Rattle.parts.proofs.PartLaws.{Bytes-take, Bytes-drop, drop-take}
-use Rattle.ranges.specs.Meaning.{both-true}
 use Rattle.packed_int.specs.Be.{be, beAt, bytesOf}
 use Rattle.packed_int.proofs.BeLaws.{bytesOf-be}
 use Rattle.crc32.specs.Crc.{crc32}

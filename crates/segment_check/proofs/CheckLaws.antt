@@ -12,6 +12,7 @@ use mathlib.Core.List.{List, [], _∷_, map}
 use mathlib.Core.Option.{Option, some, none}
 use lib.ListN.{length, take, drop}
 use borrow.Author.Tests.{leb-true}
+use Rattle.parts.specs.BoolLaws.{both-true}
 use Rattle.parts.specs.Same.{sameBytes}
 use Rattle.parts.proofs.PartLaws.{rest}
 use Rattle.types.specs.declared.KeyRange.{KeyRange}
@@ -23,7 +24,6 @@ use Rattle.types.specs.KeyRanges.{keyRange, newKeyRange}
 use Rattle.refusal.specs.declared.Refusal.{Refusal}
 use Rattle.refusal.specs.declared.Refusal.the-variants.{InvalidRange, InvalidBucketRange, OverlappingBucketRanges}
 use Rattle.refusal.specs.declared.Refusal.the-variants.{InvalidParent, AttachmentMismatch, BucketOutsideSegment}
-use Rattle.ranges.specs.Meaning.{both-true}
 use Rattle.ranges.specs.Overlap.{anyOverlap}
 use Rattle.marks.specs.Marks.{AllGood, more}
 use Rattle.packed.specs.Assignment.{inOrder, allInOrder}

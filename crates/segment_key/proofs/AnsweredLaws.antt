@@ -14,10 +14,11 @@ use mathlib.Core.Option.{Option, some, none, Option·none-ne-some, Option·some-
 use lib.ListN.{length}
 use lib.Dec.{leb, eqb}
 use borrow.Author.Tests.{leb-true}
+use Rattle.parts.specs.BoolLaws.{both-true}
 use Rattle.types.specs.declared.KeyRange.{KeyRange}
 use Rattle.parts.proofs.PartLaws.{Bytes}
 use Rattle.ranges.specs.Overlap.{overlap, overlapsAny}
-use Rattle.ranges.specs.Meaning.{both-true, common}
+use Rattle.ranges.specs.Meaning.{common}
 use Rattle.key_range.specs.Calls.{holds}
 use Rattle.keyed.specs.Keyed.{find}
 use Rattle.packed.specs.Assignment.{AssignedSegment, idOf, slotSize, assignmentOf, sizeAssignment, inOrder, allInOrder}

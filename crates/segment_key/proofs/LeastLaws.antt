@@ -13,8 +13,9 @@ use mathlib.Core.Bool.{Bool, true, false, cond, _&&_, _||_, true≢false, and-fa
 use mathlib.Core.List.{List, [], _∷_}
 use lib.Dec.{leb}
 use borrow.Author.Tests.{le-leb, lt-leb, leb-true, leb-false}
+use Rattle.parts.specs.BoolLaws.{both-true}
 use Rattle.types.specs.declared.KeyRange.{KeyRange}
-use Rattle.ranges.specs.Meaning.{Within, both-true}
+use Rattle.ranges.specs.Meaning.{Within}
 use Rattle.key_range.specs.Calls.{holds}
 use Rattle.packed.specs.Assignment.{AssignedSegment}
 use Rattle.lookup.specs.Lookup.{anyHolds, inBuckets, takes}

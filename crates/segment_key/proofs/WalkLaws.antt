@@ -12,9 +12,9 @@ use mathlib.Core.List.{List, []}
 use lib.ListN.{length, drop}
 use lib.Dec.{leb}
 use borrow.Author.Tests.{leb-true, eq-eqb, ne-eqb}
+use Rattle.parts.specs.BoolLaws.{both-true}
 use Rattle.types.specs.declared.KeyRange.{KeyRange}
 use Rattle.refusal.specs.declared.Refusal.the-variants.{MalformedInput}
-use Rattle.ranges.specs.Meaning.{both-true}
 use Rattle.keyed.specs.Keyed.{find}
 use Rattle.packed_int.specs.Be.{beAt}
 use Rattle.packed.specs.Assignment.{AssignedSegment, idOf, rangeOf, rangesOf, segmentOf, segmentsOf, sizeSegment, okSegment, okFrom, isAssignment}

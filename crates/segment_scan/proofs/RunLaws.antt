@@ -13,9 +13,9 @@ use mathlib.Core.Option.{some, none}
 use lib.ListN.{length}
 use lib.Dec.{leb}
 use borrow.Author.Tests.{le-leb}
+use Rattle.parts.specs.BoolLaws.{both-true}
 use Rattle.types.specs.declared.SegmentId.{SegmentId}
 use Rattle.refusal.specs.declared.Refusal.the-variants.{InvalidBucketRange}
-use Rattle.ranges.specs.Meaning.{both-true}
 use Rattle.ranges.specs.Overlap.{anyOverlap, startsFrom, risingFrom}
 use Rattle.ranges.proofs.OverlapLaws.{rising-apart}
 use Rattle.packed.specs.Assignment.{allInOrder}

@@ -13,6 +13,7 @@ use mathlib.Core.List.{List, _++_}
 use lib.ListN.{length, take, drop, getD, length-append, length-drop}
 use lib.Seq.{drop-drop, length-take-le}
 use borrow.Author.Tests.{eq-eqb, ne-eqb, le-leb, lt-leb}
+use Rattle.parts.specs.BoolLaws.{both-true}
 use Rattle.types.specs.declared.KeyRange.{KeyRange}
 use Rattle.types.specs.declared.KeyRangeError.{KeyRangeError}
 use Rattle.types.specs.declared.SegmentId.{SegmentId}
@@ -40,7 +41,7 @@ use Rattle.digits.specs.Digits.{decimalValue, hexValue, isSegmentId, hexWord, s
 use Rattle.segment_source.specs.Parse.{hasSlash, beforeLast, lastSlash, startPart, endPart, idPart, isDescriptor}
 use Rattle.segment_source.specs.Parse.{rangeStage, descriptorStage, parentStage, parseSegmentTopic, parseText}
 use Rattle.segment_source.specs.Parse.{sourceStage, segmentSource, parentOutcome, parentTopic}
-use Rattle.digits.proofs.TestLaws.{and-both, cond-first}
+use Rattle.digits.proofs.TestLaws.{cond-first}
 use Rattle.digits.proofs.DigitLaws.{word-told, word-none, id-empty, id-told, id-none}
 use Rattle.segment_source.proofs.SlashLaws.{slash-told, slash-none, before-last-inside, before-last-take}
 
@@ -188,7 +189,7 @@ pub name-told : (t : List ℕ) (n : ℕ) (range : KeyRange) (id : SegmentId) →
 unfolding parseSegmentTopic rangeStage
 name-told t n range id e =
     let one = cond-first (startsWith segmentScheme t && hasSlash (drop 10 t)) _ _ (Name n range id) refused-name e in
-    let two = and-both (startsWith segmentScheme t) (hasSlash (drop 10 t)) (one .0) in
+    let two = both-true (startsWith segmentScheme t) (hasSlash (drop 10 t)) (one .0) in
     let three = cond-first (isPath (beforeLast (drop 10 t))) _ _ (Name n range id) refused-name (one .1) in
     let four = cond-first (isDescriptor (descriptorOf t)) _ _ (Name n range id) refused-name (three .1) in
     let five = range-told _ _ _ n range id (four .1) in

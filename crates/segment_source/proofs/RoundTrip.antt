@@ -13,6 +13,7 @@ use lib.ListN.{length, take, drop, getD, length-append, length-drop, take-append
 use lib.Seq.{take-append-seam, drop-append-add, getD-append-seam, drop-cons, drop-drop}
 use lib.Dec.{eqb}
 use borrow.Author.Tests.{eqb-true, ltb-true}
+use Rattle.parts.specs.BoolLaws.{both-true}
 use Rattle.types.specs.declared.KeyRange.{KeyRange}
 use Rattle.types.specs.declared.SegmentId.{SegmentId}
 use Rattle.types.specs.KeyRanges.{maxHash, keyRange}
@@ -27,7 +28,6 @@ use Rattle.segment_source.specs.declared.Parsed.the-variants.{Name}
 use Rattle.digits.specs.Digits.{every, allDigits, allHexDigits, decimalValue, hexValue, isHexWord, isSegmentId}
 use Rattle.segment_source.specs.Parse.{hasSlash, beforeLast, lastSlash, startPart, endPart, idPart, isDescriptor}
 use Rattle.segment_source.specs.Parse.{descriptorStage, parseSegmentTopic}
-use Rattle.digits.proofs.TestLaws.{and-both}
 use Rattle.digits.proofs.ClassLaws.{slash-byte, dash-byte}
 use Rattle.digits.proofs.DigitLaws.{word-told, id-told}
 use Rattle.digits.proofs.NumeralLaws.{word-written, word-read, id-written, id-read}
@@ -52,7 +52,7 @@ digits-no-slash : (test : ℕ → Bool) → ((b : ℕ) → test b ≡ true → i
 unfolding every hasSlash
 digits-no-slash test h [] e = refl
 digits-no-slash test h (b ∷ l) e =
-    let p = and-both (test b) (every test l) e in
+    let p = both-true (test b) (every test l) e in
     rw (h b (p .0)) (digits-no-slash test h l (p .1))
 
 slash-append : (l m : List ℕ) → hasSlash (l ++ m) ≡ (hasSlash l || hasSlash m)
@@ -74,14 +74,14 @@ word-no-slash : (v : ℕ) → v < 65536 → hasSlash (hex4 v) ≡ false
 unfolding isHexWord
 word-no-slash v h =
     let p = word-told (hex4 v) v (word-written v h) .0 in
-    digits-no-slash isHexDigit hex-no-slash (hex4 v) (and-both (eqb (length (hex4 v)) 4) (allHexDigits (hex4 v)) p .1)
+    digits-no-slash isHexDigit hex-no-slash (hex4 v) (both-true (eqb (length (hex4 v)) 4) (allHexDigits (hex4 v)) p .1)
 
 id-no-slash : (v : ℕ) → v < 2 ^ 64 → hasSlash (decimal v) ≡ false
 unfolding isSegmentId
 id-no-slash v h =
     let p = id-told (decimal v) v (id-written v h) .0 in
-    let q = and-both (nonEmpty (decimal v)) _ p .1 in
-    digits-no-slash isDigit digit-no-slash (decimal v) (and-both (allDigits (decimal v)) _ q .0)
+    let q = both-true (nonEmpty (decimal v)) _ p .1 in
+    digits-no-slash isDigit digit-no-slash (decimal v) (both-true (allDigits (decimal v)) _ q .0)
 
 module _ (s e i : ℕ) (hs : s < 65536) (he : e < 65536) (hi : i < 2 ^ 64) where
   behind-no-slash : hasSlash (behindPath s e i) ≡ false
@@ -152,11 +152,11 @@ descriptor-split : (d : List ℕ) → isDescriptor d ≡ true
     → d ≡ behindPath (hexValue (startPart d)) (hexValue (endPart d)) (decimalValue (idPart d))
 unfolding isDescriptor isSegmentId
 descriptor-split d e =
-    let A = and-both (isHexWord (startPart d)) _ e in
-    let B = and-both (isDash (getD d 4 0)) _ (A .1) in
-    let C = and-both (isHexWord (endPart d)) _ (B .1) in
-    let D = and-both (isDash (getD d 9 0)) (isSegmentId (idPart d)) (C .1) in
-    let k = ltb-true 0 (length (idPart d)) (and-both (nonEmpty (idPart d)) _ (D .1) .0) in
+    let A = both-true (isHexWord (startPart d)) _ e in
+    let B = both-true (isDash (getD d 4 0)) _ (A .1) in
+    let C = both-true (isHexWord (endPart d)) _ (B .1) in
+    let D = both-true (isDash (getD d 9 0)) (isSegmentId (idPart d)) (C .1) in
+    let k = ltb-true 0 (length (idPart d)) (both-true (nonEmpty (idPart d)) _ (D .1) .0) in
     let n : 10 < length d = omega (arith, length-drop 10 d) in
     let x : getD d 4 0 ≡ 0x2D = dash-byte (getD d 4 0) (eqb-true (classOf (getD d 4 0)) 4 (B .0)) in
     let y : getD d 9 0 ≡ 0x2D = dash-byte (getD d 9 0) (eqb-true (classOf (getD d 9 0)) 4 (D .0)) in

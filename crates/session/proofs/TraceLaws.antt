@@ -16,10 +16,10 @@ use lib.Seq.{take-at}
 use lib.Dec.{eqb, ltb, leb}
 use lib.Pow.{areBytes}
 use borrow.Author.Tests.{ltb-true, ltb-false, eqb-false}
+use Rattle.parts.specs.BoolLaws.{both-true}
 use Rattle.types.specs.declared.ControllerIncarnation.{ControllerIncarnation}
 use Rattle.refusal.specs.declared.Refusal.{Refusal}
 use Rattle.parts.proofs.PartLaws.{Bytes}
-use Rattle.ranges.specs.Meaning.{both-true}
 use Rattle.schema.specs.declared.MessageKind.the-variants.{CommandScalableTopicAssignmentUpdate, CommandScalableTopicSubscribeResponse}
 use Rattle.schema.specs.declared.Checked.{Checked}
 use Rattle.schema.specs.declared.Checked.the-variants as checked

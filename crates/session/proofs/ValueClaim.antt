@@ -8,8 +8,8 @@ use mathlib.Core.Logic.{inl, inr}
 use mathlib.Core.Option.{Option, some, none, Option·map, Option·none-ne-some}
 use lib.ListN.{length}
 use lib.Dec.{eqb}
+use Rattle.parts.specs.BoolLaws.{both-true}
 use Rattle.types.specs.declared.ControllerIncarnation.{ControllerIncarnation}
-use Rattle.ranges.specs.Meaning.{both-true}
 use Rattle.packed.specs.Assignment.{ConsumerAssignment}
 use Rattle.delta.specs.Delta.{AssignmentDelta}
 use Rattle.delta.specs.Join.{Proper, applyAll}

@@ -14,7 +14,7 @@ use lib.ListN.{length, take, length-append}
 use lib.Seq.{take-all}
 use lib.Dec.{eqb, ltb, leb}
 use borrow.Author.Tests.{ltb-false, eqb-true, eqb-false, le-ltb, not-false}
-use Rattle.ranges.specs.Meaning.{both-true}
+use Rattle.parts.specs.BoolLaws.{both-true}
 use Rattle.packed.specs.Assignment.{ConsumerAssignment, assignmentOf, sizeAssignment, startsAssignment}
 use Rattle.packed.proofs.RoundLaws.{FitAssignment}
 use Rattle.delta.specs.Change.{deltaBetween}

@@ -11,12 +11,12 @@ use mathlib.Core.List.{List, _++_}
 use lib.ListN.{length, take, drop}
 use lib.Dec.{ltb, leb}
 use borrow.Author.Tests.{le-ltb, ltb-false, leb-true, eq-eqb, eqb-true}
+use Rattle.parts.specs.BoolLaws.{both-true}
 use Rattle.types.specs.declared.ControllerIncarnation.{ControllerIncarnation}
 use Rattle.types.specs.declared.ScalableConsumerType.{ScalableConsumerType}
 use Rattle.types.specs.declared.ScalableConsumerType.the-variants.{Stream, Checkpoint}
 use Rattle.refusal.specs.declared.Refusal.{Refusal}
 use Rattle.refusal.specs.declared.Refusal.the-variants.{StoreTooShort, InvalidUtf8, IdentityTooLong}
-use Rattle.ranges.specs.Meaning.{both-true}
 use Rattle.parts.specs.Same.{sameBytes}
 use Rattle.parts.proofs.SameLaws.{same-refl, same-eq}
 use Rattle.packed_int.specs.Put.{put}

@@ -14,8 +14,8 @@ use lib.ListN.{length, take, drop, length-drop}
 use lib.Seq.{drop-drop}
 use lib.Dec.{leb, ltb}
 use borrow.Author.Tests.{le-ltb, lt-ltb, ltb-false, leb-true, not-true, not-false}
+use Rattle.parts.specs.BoolLaws.{both-true}
 use Rattle.parts.proofs.PartLaws.{Bytes, rest}
-use Rattle.ranges.specs.Meaning.{both-true}
 use Rattle.packed_int.specs.Be.{beAt, bytesOf}
 use Rattle.packed.specs.Assignment.{num, encodeAssignment, assignmentOf, sizeAssignment, okAssignment, startsAssignment, isAssignment}
 use Rattle.packed.specs.Answers.{frontRead}

@@ -7,12 +7,13 @@ use mathlib.Core.Bool.{Bool, true, false, _&&_, _||_, or-true, false≢true}
 use mathlib.Core.List.{List, [], _∷_, _++_}
 use lib.ListN.{length}
 use lib.Dec.{leb}
+use Rattle.parts.specs.BoolLaws.{both, both-true}
 use Rattle.parts.specs.Same.{sameBytes}
 use Rattle.keyed.specs.Keyed.{filter}
 use Rattle.utf8.specs.Table.{isUtf8}
 use Rattle.topics.specs.Topics.{has, insertAll, maxTopic, allShort}
 use Rattle.topics.specs.Packed.{allUtf8}
-use Rattle.topics.proofs.SetLaws.{both-true, both, has-first, has-cases, has-append, has-insertAll, has-filter}
+use Rattle.topics.proofs.SetLaws.{has-first, has-cases, has-append, has-insertAll, has-filter}
 
 either : (a b : Bool) {P : Type 0} → (a || b) ≡ true → (a ≡ true → P) → (b ≡ true → P) → P
 either true b e f g = f refl

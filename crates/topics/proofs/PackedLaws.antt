@@ -12,12 +12,12 @@ use lib.ListN.{length, take, drop, length-append, length-drop, length-take, take
 use lib.Seq.{take-at, drop-at, length-take-le, take-add}
 use lib.Dec.{leb}
 use borrow.Author.Tests.{leb-true, le-leb}
+use Rattle.parts.specs.BoolLaws.{both, both-true}
 use Rattle.parts.proofs.PartLaws.{Bytes, Bytes-take, Bytes-drop}
 use Rattle.packed_int.specs.Be.{be, bytesOf}
 use Rattle.packed_int.proofs.BeLaws.{length-bytesOf, be-front, drop-front, bytesOf-front, be-below}
 use Rattle.topics.specs.Topics.{maxTopic, allShort}
 use Rattle.topics.specs.Packed.{encodeTopic, encodeTopics, sizeTopics, lengthAt, topicsAfter, topicsOf, wholeAfter, isWhole}
-use Rattle.topics.proofs.SetLaws.{both-true, both}
 use Rattle.topics.proofs.EachLaws.{short-parts}
 
 -- ---- sizes

@@ -5,6 +5,7 @@ use Prim.Native.Nat.{ℕ}
 use mathlib.Core.Path.{_≡_, refl, sym, ap, _∙_}
 use mathlib.Core.Bool.{Bool, true, false, cond, _&&_, _||_, and-false, or-assoc, or-true, or-false, or-self-left, false≢true}
 use mathlib.Core.List.{List, [], _∷_, _++_}
+use Rattle.parts.specs.BoolLaws.{both, both-true}
 use Rattle.parts.specs.Same.{sameBytes}
 use Rattle.parts.proofs.SameLaws.{same-refl, same-eq}
 use Rattle.keyed.specs.Keyed.{filter}
@@ -12,14 +13,6 @@ use Rattle.topics.specs.declared.Order.{Order}
 use Rattle.topics.specs.declared.Order.the-variants.{Less, Equal, Greater}
 use Rattle.topics.specs.Topics.{order, byOrder, before, has, insert, insertAll, sorted, leads, rising}
 use Rattle.topics.proofs.OrderLaws.{order-equal, order-trans, greater-flip, same-less, same-greater, before-is, is-before}
-
-pub both-true : (a b : Bool) → (a && b) ≡ true → (a ≡ true) × (b ≡ true)
-both-true true b e = (refl, e)
-both-true false b e = absurd (false≢true e)
-
-pub both : (a b : Bool) → a ≡ true → b ≡ true → (a && b) ≡ true
-both true b e f = f
-both false b e f = e
 
 -- ---- members
 

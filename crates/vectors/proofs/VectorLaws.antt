@@ -4,7 +4,7 @@ use native.Mathlib.Omega.{arith}
 use mathlib.Core.Path.{_≡_, refl, _∙_}
 use mathlib.Core.Bool.{Bool, true, false}
 use mathlib.Core.List.{List}
-use Rattle.ranges.specs.Meaning.{both-true}
+use Rattle.parts.specs.BoolLaws.{both-true}
 use Rattle.packed.specs.Assignment.{startsAssignment, isAssignment}
 use Rattle.packed.specs.Answers.{wholeRead}
 use Rattle.packed.specs.declared.Packed.the-variants.{Assignment, Malformed}

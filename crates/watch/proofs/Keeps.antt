@@ -11,6 +11,7 @@ use mathlib.Core.List.{List, [], _∷_, _++_}
 use lib.ListN.{length, take}
 use lib.Dec.{leb, ltb, eqb}
 use borrow.Author.Tests.{eqb-true}
+use Rattle.parts.specs.BoolLaws.{both, both-true}
 use Rattle.parts.proofs.PartLaws.{Bytes, Bytes-take}
 use Rattle.refusal.specs.declared.Refusal.{Refusal}
 use Rattle.refusal.specs.declared.Refusal.the-variants.{InvalidWireFormat, WrongWireType, InvalidUtf8}
@@ -32,7 +33,7 @@ use Rattle.readers.specs.Messages.{WireEvent, none, snapshot, diff, eventFields
 use Rattle.keyed.proofs.KeyedLaws.{choose}
 use Rattle.topics.specs.Topics.{has, rising, allShort}
 use Rattle.topics.specs.Packed.{topicsOf, isWhole, allUtf8, encodeTopics, sizeTopics, isSet}
-use Rattle.topics.proofs.SetLaws.{both-true, both, rising-insertAll, rising-sorted}
+use Rattle.topics.proofs.SetLaws.{rising-insertAll, rising-sorted}
 use Rattle.topics.proofs.EachLaws.{short-insertAll, short-parts, utf8-insertAll, utf8-filter}
 use Rattle.topics.proofs.PackedLaws.{length-encode, read-back, whole-back, read-short}
 use Rattle.topic_window.specs.Lists.{kept}

@@ -12,10 +12,10 @@ use mathlib.Core.Option.{Option, some, none}
 use lib.ListN.{length, take}
 use lib.Dec.{leb}
 use borrow.Author.Tests.{leb-true}
+use Rattle.parts.specs.BoolLaws.{both-true}
 use Rattle.refusal.specs.declared.Refusal.{Refusal}
 use Rattle.refusal.specs.declared.Refusal.the-variants.{MalformedInput, InvalidUtf8, InvalidParent, ResultTooLong}
 use Rattle.refusal.specs.Steps.{refuseDue}
-use Rattle.ranges.specs.Meaning.{both-true}
 use Rattle.packed_int.specs.Put.{put}
 use Rattle.packed_int.proofs.PutLaws.{take-put}
 use Rattle.utf8.specs.Table.{isUtf8}

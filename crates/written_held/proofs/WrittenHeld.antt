@@ -13,9 +13,9 @@ use lib.ListN.{length, take, drop, length-drop, take-append-drop}
 use lib.Seq.{length-take-le, take-add}
 use lib.Dec.{eqb, ltb, leb}
 use borrow.Author.Tests.{le-ltb, leb-true, eq-eqb, ne-eqb}
+use Rattle.parts.specs.BoolLaws.{both-true}
 use Rattle.parts.proofs.PartLaws.{Bytes, Bytes-take, Bytes-drop}
 use Rattle.types.specs.declared.ControllerIncarnation.{ControllerIncarnation}
-use Rattle.ranges.specs.Meaning.{both-true}
 use Rattle.packed_int.proofs.BeLaws.{bytesOf-front}
 use Rattle.readers.specs.Messages.{updateOf, responseOf}
 use Rattle.parents.specs.Parents.{pathOf}

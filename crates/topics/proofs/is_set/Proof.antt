@@ -2,9 +2,9 @@
 -- Assumes nothing.
 use borrow.Author.Needs.{needs}
 use mathlib.Core.Path.{sym, _∙_}
+use Rattle.parts.specs.BoolLaws.{both-true}
 use Rattle.topics.specs.Packed.{topicsOf, isWhole, allUtf8}
 use Rattle.topics.proofs.WalkLaws.{set-list, set-none}
-use Rattle.topics.proofs.SetLaws.{both-true}
 use Rattle.topics.proofs.is_set.Statement.{statement}
 use Rattle.topics.proofs.is_set.Tie as tie
 
