@@ -26,6 +26,7 @@ import usage
 NAMED = re.compile(r"^# ((?:[^\s:]+::)*[^\s:]+): (.+)$")
 ECHO = ("was not admitted", "were not admitted", "so this cannot be checked")
 UNFIT = re.compile(r"has no `Need-|that can be named from here|has no field\s+`|expected type `tie\.Need-[^`]*`,? but this has type `tie\.Need-")
+LIST = re.compile(r"`[^`]*-spec`: ")
 ERROR = re.compile(r"^(\S*?)((?:proofs|specs)/\S+?\.antt:\d+:\d+): error: (.*?)(?=^\S+: (?:error|note)|^fn |^enum |^struct |\Z)", re.M | re.S)
 
 
@@ -47,8 +48,11 @@ def unnamed(edit):
 
 
 def facts(log):
-    """The errors of a log at a fact: where each stands, and its words."""
-    return [(m[2], m[3]) for m in ERROR.finditer(log) if not any(e in m[3] for e in ECHO) and not UNFIT.search(m[3])]
+    """The errors of a log at a fact: where each stands, and its words. In a file that no longer fits the shape, the list of needs tells nothing."""
+    errors = [(m[2], m[3]) for m in ERROR.finditer(log)]
+    unfit = {place.split(":")[0] for place, words in errors if UNFIT.search(words)}
+    return [(place, words) for place, words in errors if not any(e in words for e in ECHO) and not UNFIT.search(words)
+            and not (LIST.match(words) and place.split(":")[0] in unfit)]
 
 
 def own_errors(log, crate, function):

@@ -26,8 +26,7 @@ use Rattle.refusal.specs.Steps.{takeRange}
 use Rattle.key_range.specs.declared.LengthAnswer.the-variants as length
 use Rattle.key_range.specs.declared.TestAnswer.{TestAnswer}
 use Rattle.key_range.specs.declared.TestAnswer.the-variants as test
-use Rattle.key_range.specs.Calls.{valuesIn, holdsRange, touches}
-use Rattle.key_range.specs.Calls.{lengthOf, containsOf, containsRangeOf, isAdjacentOf}
+use Rattle.key_range.specs.Calls.{valuesIn, holdsRange, touches, lengthOf, containsOf, containsRangeOf, isAdjacentOf}
 use Rattle.magnetar.specs.Result.{Result, Ok, Err, _>>=_, map-err}
 use Rattle.magnetar.specs.Ranges.{MAX-HASH, KeyRange-new, KeyRange-len, KeyRange-contains, KeyRange-contains-range, KeyRange-is-adjacent-to}
 use Rattle.same_names.specs.Agree.{both, rangeOf, lengthTold, testTold, NewAgrees, LengthAgrees, ContainsAgrees, ContainsRangeAgrees}

@@ -31,8 +31,7 @@ use Rattle.segment_source.proofs.ParseLaws.{name-told}
 use Rattle.magnetar.specs.Result.{Result, Ok, Err, _>>=_, map-err}
 use Rattle.magnetar.specs.Text.{Text, Split, rsplit-once, strip-prefix}
 use Rattle.magnetar.specs.SegmentTopic.{SegmentTopicError, SegmentIdMismatch, slash, ParsedTopic, parse-segment-topic}
-use Rattle.magnetar.specs.SegmentTopic.{SegmentSource, SegmentSource-new}
-use Rattle.magnetar.specs.SegmentTopic.{behind-length, without-end, parent-topic}
+use Rattle.magnetar.specs.SegmentTopic.{SegmentSource, SegmentSource-new, behind-length, without-end, parent-topic}
 use Rattle.same_names.specs.Agree.{paper, readOf, sourceOf, isMarkedName, parent-of, SourceAgrees, ParentTopicAgrees}
 use Rattle.same_names.proofs.ParentAgrees.{strip-agrees}
 use Rattle.same_names.proofs.BuildAgrees.{Gives, gives-by, gives-text}

@@ -35,8 +35,7 @@ use Rattle.session.specs.Session as session
 use Rattle.session.specs.Session.{Session, readers, view, damaged, unless, floorFault}
 use Rattle.session.specs.Update.{updateUnregistered, updateRegistered, updateCall}
 use Rattle.session.specs.Tails.{updateContent, updateValid, updateChecked, responseValid, responseContent, responseAssignment, responseChecked}
-use Rattle.session.specs.Response.{staleFault, replayable, denied}
-use Rattle.session.specs.Response.{responseCall}
+use Rattle.session.specs.Response.{staleFault, replayable, denied, responseCall}
 use Rattle.session.specs.Drain.{Found, end, entry, drained, nextFor, drainCall}
 use Rattle.session.specs.Calls.{Outcome}
 use Rattle.session.specs.Trace.{Call, update, response, drain, begin, invalidate}

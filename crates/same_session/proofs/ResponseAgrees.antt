@@ -31,9 +31,8 @@ use Rattle.session.specs.declared.Floor.{Floor}
 use Rattle.session.specs.Store.{minStore}
 use Rattle.session.specs.Session as session
 use Rattle.session.specs.Session.{Session, damaged, refuse, unless, floorFault, raise}
-use Rattle.session.specs.Response.{staleFault, lastList, replayable, register, denied}
+use Rattle.session.specs.Response.{staleFault, lastList, replayable, register, denied, responseCall}
 use Rattle.session.specs.Tails.{responseAssignment, responseContent, responseValid, responseChecked}
-use Rattle.session.specs.Response.{responseCall}
 use Rattle.session.specs.Trace.{Call, response}
 use Rattle.session.proofs.PositionLaws.{start-zero}
 use Rattle.session.proofs.QueueLaws.{raise-over, stale-last, last-proper}

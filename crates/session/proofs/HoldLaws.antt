@@ -27,8 +27,7 @@ use Rattle.session.specs.Response.{staleFault, lastList}
 use Rattle.session.specs.Trace.{Call, drain, Event}
 use Rattle.session.specs.Observers.{Sender, senderStep, onDelta, Seen, see, isResponse}
 use Rattle.session.proofs.Model.{after, accepts, isNothing, handed, pushes}
-use Rattle.session.proofs.QueueLaws.{raise-next, lastIn}
-use Rattle.session.proofs.QueueLaws.{before}
+use Rattle.session.proofs.QueueLaws.{raise-next, lastIn, before}
 use Rattle.session.proofs.CallLaws.{unchanged}
 
 -- ---- what holds

@@ -44,8 +44,7 @@ use Rattle.session.specs.Session.{Session, readers, positionOf, view, da
 use Rattle.session.specs.Session.{Reply, refused, accepted, nothing, changed, replayed}
 use Rattle.session.specs.Update.{updateUnregistered, updateRegistered, updateCall}
 use Rattle.session.specs.Tails.{updateContent, updateValid, updateChecked, responseAssignment, responseContent, responseValid, responseChecked}
-use Rattle.session.specs.Response.{staleFault, lastList, replayable}
-use Rattle.session.specs.Response.{responseCall}
+use Rattle.session.specs.Response.{staleFault, lastList, replayable, responseCall}
 use Rattle.session.specs.Drain.{Found, end, entry, nextChange, drained, drainCall}
 use Rattle.session.specs.Link.{beginOf, invalidateOf}
 use Rattle.session.specs.Calls.{Outcome, answerOf, outputOf, effectOf, updateOutcome, responseOutcome, drainOutcome}

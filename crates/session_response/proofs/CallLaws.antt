@@ -35,8 +35,7 @@ use Rattle.session.specs.declared.Answer.the-variants as answer
 use Rattle.session.specs.Store.{slot, queueIn, writeOne}
 use Rattle.session.specs.Identity.{topicOf}
 use Rattle.session.specs.Session.{view, damaged, Result, refuse, unless, floorFault}
-use Rattle.session.specs.Response.{staleFault, lastList, replayable, denied}
-use Rattle.session.specs.Response.{responseCall}
+use Rattle.session.specs.Response.{staleFault, lastList, replayable, denied, responseCall}
 use Rattle.session.specs.Tails.{responseAssignment, responseContent, responseValid, responseChecked}
 use Rattle.session.specs.Calls.{outcome, effectOf, responseOutcome}
 use Rattle.intake.specs.declared.Intake.{Intake}

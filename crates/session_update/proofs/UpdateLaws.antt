@@ -39,9 +39,8 @@ use Rattle.session.specs.declared.Answer.the-variants.{Refused, Unchanged, Delt
 use Rattle.session.specs.Store.{slot, listIn, queueIn, queueEnd, writeOne}
 use Rattle.session.specs.Identity.{topicOf, isIdentity}
 use Rattle.session.specs.Session.{view, damaged, raise, Result, refuse}
-use Rattle.session.specs.Update.{withQueueCount, withFloor, updateUnregistered, updateRegistered}
+use Rattle.session.specs.Update.{withQueueCount, withFloor, updateUnregistered, updateRegistered, updateCall}
 use Rattle.session.specs.Tails.{updateContent, updateValid, updateChecked}
-use Rattle.session.specs.Update.{updateCall}
 use Rattle.session.specs.Calls.{Outcome, outcome, effectOf, updateOutcome}
 use Rattle.session_record.specs.Floors.{belowFloor, floorValue}
 use Rattle.session_record.proofs.FloorLaws.{floor-below, floor-met}

@@ -34,30 +34,12 @@ fit-in : (c : tie.After-known-told3)
     Fits 2038 (overlaid (a .assignment .now) (a .delta .now) (k .before .count .given .0 .1 .0) (l .0) (l .1 .0)) (n .0) (n .1 .0)
 fit-in c = fit-size 2038 _ _ _ (sym (c .before .n .given .1) ∙ c .before .before .before .overlay-fit .ensures)
 
-read-whole-requires : tie.Need-read-whole-requires
-read-whole-requires c κs = search needs
-
-enum-known-count : tie.Need-enum-known-count
-enum-known-count c = search needs
-
-enum-told : tie.Need-enum-told
-enum-told c = search needs
-
 returns : tie.Need-returns
 returns c =
     let r = c .before .before in
     let a = r .before .before .before .before .args in
     no-assignment (a .assignment .now) (a .delta .now) (a .out .now)
     (not-assignment (a .assignment .now) (sym (c .enum-told .given .1) ∙ r .read-whole .ensures))
-
-read-delta-requires : tie.Need-read-delta-requires
-read-delta-requires c κs = search needs
-
-enum-known-losses : tie.Need-enum-known-losses
-enum-known-losses c = search needs
-
-enum-told-2 : tie.Need-enum-told-2
-enum-told-2 c = search needs
 
 returns-2 : tie.Need-returns-2
 returns-2 c =
@@ -72,19 +54,10 @@ mul-if1 c = omega (arith, walk-in c .ids-fit)
 add-if1 : tie.Need-add-if1
 add-if1 c = omega (arith, walk-in c .ids-fit)
 
-sub-overlay-fit : tie.Need-sub-overlay-fit
-sub-overlay-fit c = search needs
-
 overlay-fit-requires : tie.Need-overlay-fit-requires
 overlay-fit-requires c κs =
     let v = walk-in c in
     (whole-in (c .before .before .before .before) .records, (record { fits = v .ids-fit; rise = v .ids-rise }, v .records))
-
-enum-known-n : tie.Need-enum-known-n
-enum-known-n c = search needs
-
-enum-told-3 : tie.Need-enum-told-3
-enum-told-3 c = search needs
 
 returns-3 : tie.Need-returns-3
 returns-3 c =
@@ -118,25 +91,16 @@ write-overlay-requires c κs =
 cast-write-u16 : tie.Need-cast-write-u16
 cast-write-u16 c = omega (arith, few-fit (fit-in (c .before .before .before .before .before .before)))
 
-write-u16-requires : tie.Need-write-u16-requires
-write-u16-requires c κs = search needs
-
 read-u64-requires : tie.Need-read-u64-requires
 read-u64-requires c κs =
     let f = c .before .before .before .before .before .before .before .before .before .before in
     let d = f .before .before .before .before in
     omega (arith, whole-in (d .before .before .before .before) .records .fits, walk-in d .ids-fit)
 
-write-u64-requires : tie.Need-write-u64-requires
-write-u64-requires c κs = search needs
-
 add-t17 : tie.Need-add-t17
 add-t17 c =
     let e = c .before .before .before .before .before .before .before .before .before .before .before .before .before in
     add-if1-2 (e .before)
-
-same-length : tie.Need-same-length
-same-length c = search needs
 
 returns-5 : tie.Need-returns-5
 returns-5 c =
@@ -156,29 +120,10 @@ returns-5 c =
 pub apply-spec : {M : Type 1} → statement M
 apply-spec =
     tie.close
-    (tie.spec
-    read-whole-requires
-    enum-known-count
-    enum-told
-    returns
-    read-delta-requires
-    enum-known-losses
-    enum-told-2
-    returns-2
-    mul-if1
-    add-if1
-    sub-overlay-fit
-    overlay-fit-requires
-    enum-known-n
-    enum-told-3
-    returns-3
-    add-if1-2
-    returns-4
-    write-overlay-requires
-    cast-write-u16
-    write-u16-requires
-    read-u64-requires
-    write-u64-requires
-    add-t17
-    same-length
-    returns-5)
+    (tie.spec (λ c κs. search needs) (λ c. search needs) (λ c. search needs) returns
+    (λ c κs. search needs) (λ c. search needs) (λ c. search needs) returns-2 mul-if1 add-if1
+    (λ c. search needs) overlay-fit-requires
+    (λ c. search needs) (λ c. search needs) returns-3 add-if1-2 returns-4 write-overlay-requires cast-write-u16
+    (λ c κs. search needs) read-u64-requires
+    (λ c κs. search needs) add-t17
+    (λ c. search needs) returns-5)

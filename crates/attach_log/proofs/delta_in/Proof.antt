@@ -30,12 +30,6 @@ returns-2 c = let r = c .before in
 pub delta-in-spec : {M : Type 1} → statement M
 delta-in-spec =
     tie.close
-    (tie.spec
-    part-in-requires
-    (λ c. search needs)
-    (λ c. search needs)
-    (λ c. search needs)
-    (λ c. search needs)
-    part-in-requires-2
-    returns
+    (tie.spec part-in-requires
+    (λ c. search needs) (λ c. search needs) (λ c. search needs) (λ c. search needs) part-in-requires-2 returns
     returns-2)

@@ -87,19 +87,8 @@ returns-2 c =
 pub load-row-spec : {M : Type 1} → statement M
 load-row-spec =
     tie.close
-    (tie.spec
-    Inv-loop
-    μ-loop
-    loop-holds
-    same-length
-    returns
-    read-u64-requires
-    (λ c. search needs)
-    slice-write-ids
-    size-first-requires
-    add-next
+    (tie.spec Inv-loop μ-loop loop-holds same-length returns read-u64-requires
+    (λ c. search needs) slice-write-ids size-first-requires add-next
     (λ c. search needs)
     (λ c. omega (arith, c .before .before .if1 .left))
-    loop-again
-    same-length-2
-    returns-2)
+    loop-again same-length-2 returns-2)

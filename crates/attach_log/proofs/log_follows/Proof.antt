@@ -154,27 +154,7 @@ returns-4 c = let l = c .before in
 pub log-follows-spec : {M : Type 1} → statement M
 log-follows-spec =
     tie.close
-    (tie.spec
-    Inv-loop
-    μ-loop
-    loop-holds
-    (λ c. search needs)
-    (λ c. search needs)
-    (λ c. search needs)
-    (λ c κs. search needs)
-    (λ c. search needs)
-    (λ c. search needs)
-    returns
-    add-if1
-    returns-2
-    delta-in-requires
-    returns-3
-    add-p
-    add-q
-    mul-q
-    add-q-2
-    (λ c. omega arith)
-    (λ c. omega arith)
-    loop-less
-    loop-again
-    returns-4)
+    (tie.spec Inv-loop μ-loop loop-holds
+    (λ c. search needs) (λ c. search needs) (λ c. search needs) (λ c κs. search needs) (λ c. search needs)
+    (λ c. search needs) returns add-if1 returns-2 delta-in-requires returns-3 add-p add-q mul-q add-q-2
+    (λ c. omega arith) (λ c. omega arith) loop-less loop-again returns-4)

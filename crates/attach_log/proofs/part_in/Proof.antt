@@ -84,20 +84,7 @@ returns-2 c =
 pub part-in-spec : {M : Type 1} → statement M
 part-in-spec =
     tie.close
-    (tie.spec
-    Inv-loop
-    μ-loop
-    loop-holds
-    read-u64-requires
-    (λ c. omega arith)
-    (λ c. omega arith)
-    (λ c. omega arith)
-    is-entry-requires
-    rows-in-requires
-    returns
-    size-first-requires
-    add-p
-    (λ c. omega arith)
-    (λ c. omega arith)
-    loop-again
-    returns-2)
+    (tie.spec Inv-loop μ-loop loop-holds read-u64-requires
+    (λ c. omega arith) (λ c. omega arith) (λ c. omega arith) is-entry-requires rows-in-requires returns
+    size-first-requires add-p
+    (λ c. omega arith) (λ c. omega arith) loop-again returns-2)

@@ -106,17 +106,5 @@ returns-2 c =
 pub rows-in-spec : {M : Type 1} → statement M
 rows-in-spec =
     tie.close
-    (tie.spec
-    Inv-loop
-    μ-loop
-    loop-holds
-    slice-aggregate-load-row
-    load-row-requires
-    array-share-prefix-ids
-    slice-aggregate-row-in
-    row-in-requires
-    returns
-    sub-left
-    loop-less
-    loop-again
-    returns-2)
+    (tie.spec Inv-loop μ-loop loop-holds slice-aggregate-load-row load-row-requires array-share-prefix-ids
+    slice-aggregate-row-in row-in-requires returns sub-left loop-less loop-again returns-2)

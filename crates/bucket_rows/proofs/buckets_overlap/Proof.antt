@@ -52,14 +52,5 @@ loop-again c =
 pub buckets-overlap-spec : {M : Type 1} → statement M
 buckets-overlap-spec =
     tie.close
-    (tie.spec
-    Inv-loop
-    μ-loop
-    loop-holds
-    (λ c κs. search needs)
-    slice-aggregate-mark-first
-    mark-first-requires
-    returns
-    returns-2
-    loop-less
-    loop-again)
+    (tie.spec Inv-loop μ-loop loop-holds
+    (λ c κs. search needs) slice-aggregate-mark-first mark-first-requires returns returns-2 loop-less loop-again)

@@ -37,49 +37,16 @@ part c q e = subst (NextPart 5 _ _) e (c .next-part .ensures)
 loop-holds : tie.Need-loop-holds Inv-loop μ-loop
 loop-holds c = loading-start _ _ _ refl
 
-next-part-requires : tie.Need-next-part-requires Inv-loop μ-loop
-next-part-requires c κs = search needs
-
-enum-told : tie.Need-enum-told Inv-loop μ-loop
-enum-told c = search needs
-
 returns : tie.Need-returns Inv-loop μ-loop
 returns c =
     let q = c .before .before in
     loaded-none (q .before .before .loop .inv) (part q _ (c .enum-told .given .1))
 
-enum-known-start : tie.Need-enum-known-start Inv-loop μ-loop
-enum-known-start c = search needs
-
 add-read-bucket : tie.Need-add-read-bucket Inv-loop μ-loop
 add-read-bucket c = let q = part (c .before .before .before) _ (c .before .start .given .1) in omega (arith, q .0, q .1, q .2)
 
-sub-read-bucket : tie.Need-sub-read-bucket Inv-loop μ-loop
-sub-read-bucket c = search needs
-
-part-read-bucket-start : tie.Need-part-read-bucket-start Inv-loop μ-loop
-part-read-bucket-start c = search needs
-
 part-read-bucket-end : tie.Need-part-read-bucket-end Inv-loop μ-loop
 part-read-bucket-end c = let q = part (c .before .before .before) _ (c .before .start .given .1) in omega (arith, q .0, q .1, q .2)
-
-read-bucket-requires : tie.Need-read-bucket-requires Inv-loop μ-loop
-read-bucket-requires c κs = search needs
-
-key-range-of-requires : tie.Need-key-range-of-requires Inv-loop μ-loop
-key-range-of-requires c κs = search needs
-
-mul-row : tie.Need-mul-row Inv-loop μ-loop
-mul-row c = search needs
-
-array-set-from-row : tie.Need-array-set-from-row Inv-loop μ-loop
-array-set-from-row c = search needs
-
-add-count : tie.Need-add-count Inv-loop μ-loop
-add-count c = search needs
-
-loop-less : tie.Need-loop-less Inv-loop μ-loop
-loop-less c = search needs
 
 loop-again : tie.Need-loop-again Inv-loop μ-loop
 loop-again c =
@@ -94,23 +61,9 @@ returns-2 c = loaded-full (c .before .loop .inv) (omega arith)
 pub load-row-spec : {M : Type 1} → statement M
 load-row-spec =
     tie.close
-    (tie.spec
-    Inv-loop
-    μ-loop
-    loop-holds
-    next-part-requires
-    enum-told
-    returns
-    enum-known-start
-    add-read-bucket
-    sub-read-bucket
-    part-read-bucket-start
-    part-read-bucket-end
-    read-bucket-requires
-    key-range-of-requires
-    mul-row
-    array-set-from-row
-    add-count
-    loop-less
-    loop-again
-    returns-2)
+    (tie.spec Inv-loop μ-loop loop-holds
+    (λ c κs. search needs) (λ c. search needs) returns
+    (λ c. search needs) add-read-bucket
+    (λ c. search needs) (λ c. search needs) part-read-bucket-end
+    (λ c κs. search needs) (λ c κs. search needs) (λ c. search needs) (λ c. search needs) (λ c. search needs)
+    (λ c. search needs) loop-again returns-2)

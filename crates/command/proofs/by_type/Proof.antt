@@ -4,9 +4,8 @@
 use mathlib.Core.Path.{_≡_, refl, sym, ap, _∙_}
 use lib.IntN.{ℤ}
 use mir.Syntax.{w32}
-use mir.Val.{toZ, ofZ}
+use mir.Val.{toZ, ofZ, SFits}
 use mir.Facts.{toZ-ofZ}
-use mir.Val.{SFits}
 use Rattle.command.specs.declared.Command.the-variants.{Other}
 use Rattle.command.proofs.CommandLaws.{by-response, by-update, by-watch, by-other}
 use borrow.Author.Needs.{needs}
@@ -22,20 +21,11 @@ use Rattle.command.proofs.watch_update.Reads as watch-update-reads
 same : {a b : ℤ} → SFits w32 a → ofZ w32 a ≡ ofZ w32 b → toZ w32 (ofZ w32 b) ≡ b → a ≡ b
 same h e g = sym (toZ-ofZ {w = w32} h) ∙ ap (toZ w32) e ∙ g
 
-response-requires : tie.Need-response-requires
-response-requires c κs = search needs
-
 returns : tie.Need-returns
 returns c = c .response .ensures ∙ by-response _ _ (same (c .before .before .before .fits .t) (c .before .if1 .taken) refl)
 
-update-requires : tie.Need-update-requires
-update-requires c κs = search needs
-
 returns-2 : tie.Need-returns-2
 returns-2 c = c .update .ensures ∙ by-update _ _ (same (c .before .before .before .before .fits .t) (c .before .if2 .taken) refl)
-
-watch-update-requires : tie.Need-watch-update-requires
-watch-update-requires c κs = search needs
 
 returns-3 : tie.Need-returns-3
 returns-3 c = c .watch-update .ensures ∙ by-watch _ _ (same (c .before .before .before .before .before .fits .t) (c .before .if3 .taken) refl)
@@ -50,11 +40,6 @@ returns-4 c =
 pub by-type-spec : {M : Type 1} → statement M
 by-type-spec =
     tie.close
-    (tie.spec
-    response-requires
-    returns
-    update-requires
-    returns-2
-    watch-update-requires
-    returns-3
-    returns-4)
+    (tie.spec (λ c κs. search needs) returns
+    (λ c κs. search needs) returns-2
+    (λ c κs. search needs) returns-3 returns-4)

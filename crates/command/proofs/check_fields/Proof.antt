@@ -31,28 +31,10 @@ step c q e = step-at _ _ (c .before .before .loop-test .taken) q (sym (c .read-s
 loop-holds : tie.Need-loop-holds Inv-loop μ-loop
 loop-holds c = refl
 
-sub-read-step : tie.Need-sub-read-step Inv-loop μ-loop
-sub-read-step c = search needs
-
-part-read-step-start : tie.Need-part-read-step-start Inv-loop μ-loop
-part-read-step-start c = search needs
-
-part-read-step-end : tie.Need-part-read-step-end Inv-loop μ-loop
-part-read-step-end c = search needs
-
-read-step-requires : tie.Need-read-step-requires Inv-loop μ-loop
-read-step-requires c κs = search needs
-
-enum-known-x : tie.Need-enum-known-x Inv-loop μ-loop
-enum-known-x c = search needs
-
 returns : tie.Need-returns Inv-loop μ-loop
 returns c =
     let q = step (c .before .before .before) _ (c .before .x .given .1) in
     q ∙ sym (c .before .before .before .before .before .before .loop .inv)
-
-enum-known-m : tie.Need-enum-known-m Inv-loop μ-loop
-enum-known-m c = search needs
 
 add-at : tie.Need-add-at Inv-loop μ-loop
 add-at c = let q = step (c .before .before .before) _ (c .before .m .given .1) in omega (arith, q .1)
@@ -71,18 +53,6 @@ returns-2 c = shell-end _ _ (c .loop-test .left) ∙ sym (c .before .loop .inv)
 pub check-fields-spec : {M : Type 1} → statement M
 check-fields-spec =
     tie.close
-    (tie.spec
-    Inv-loop
-    μ-loop
-    loop-holds
-    sub-read-step
-    part-read-step-start
-    part-read-step-end
-    read-step-requires
-    enum-known-x
-    returns
-    enum-known-m
-    add-at
-    loop-less
-    loop-again
-    returns-2)
+    (tie.spec Inv-loop μ-loop loop-holds
+    (λ c. search needs) (λ c. search needs) (λ c. search needs) (λ c κs. search needs) (λ c. search needs) returns
+    (λ c. search needs) add-at loop-less loop-again returns-2)

@@ -18,23 +18,11 @@ one : (c : Then) → let p = c .before .before in
     One (p .before .before .args .s .now) (p .find-parts .result) (placesOf (p .before .before .args .n) (p .before .before .args .s .now))
 one c = one-part _ _ _ (c .before .before .find-parts .ensures) (c .if1 .taken)
 
-find-parts-requires : tie.Need-find-parts-requires
-find-parts-requires c κs = search needs
-
 add-end : tie.Need-add-end
 add-end c = let o = one (c .before) in omega (arith, o .inside)
 
-sub-number : tie.Need-sub-number
-sub-number c = search needs
-
-part-number-start : tie.Need-part-number-start
-part-number-start c = search needs
-
 part-number-end : tie.Need-part-number-end
 part-number-end c = let o = one (c .before) in omega (arith, o .inside)
-
-number-requires : tie.Need-number-requires
-number-requires c κs = search needs
 
 returns : tie.Need-returns
 returns c =
@@ -47,12 +35,6 @@ returns-2 c = other-parts _ _ _ (c .before .before .find-parts .ensures) (c .if1
 pub find-message-spec : {M : Type 1} → statement M
 find-message-spec =
     tie.close
-    (tie.spec
-    find-parts-requires
-    add-end
-    sub-number
-    part-number-start
-    part-number-end
-    number-requires
-    returns
-    returns-2)
+    (tie.spec (λ c κs. search needs) add-end
+    (λ c. search needs) (λ c. search needs) part-number-end
+    (λ c κs. search needs) returns returns-2)

@@ -33,26 +33,8 @@ front c q e = front-at _ _ (c .before .before .loop-test .taken) q (sym (c .read
 loop-holds : tie.Need-loop-holds Inv-loop μ-loop
 loop-holds c = held-start _ _
 
-sub-read-front : tie.Need-sub-read-front Inv-loop μ-loop
-sub-read-front c = search needs
-
-part-read-front-start : tie.Need-part-read-front-start Inv-loop μ-loop
-part-read-front-start c = search needs
-
-part-read-front-end : tie.Need-part-read-front-end Inv-loop μ-loop
-part-read-front-end c = search needs
-
-read-front-requires : tie.Need-read-front-requires Inv-loop μ-loop
-read-front-requires c κs = search needs
-
-enum-told : tie.Need-enum-told Inv-loop μ-loop
-enum-told c = search needs
-
 returns : tie.Need-returns Inv-loop μ-loop
 returns c = held-broken (c .before .before .before .before .before .loop .inv) (sym (c .before .before .read-front .ensures) ∙ c .enum-told .given .1)
-
-enum-known-size : tie.Need-enum-known-size Inv-loop μ-loop
-enum-known-size c = search needs
 
 add-at : tie.Need-add-at Inv-loop μ-loop
 add-at c = let q = front (c .before .before .before) _ (c .before .size .given .1) in omega arith
@@ -66,9 +48,6 @@ loop-again c =
     let r = c .before .before .before in
     held-on (r .before .before .before .loop .inv) (r .before .before .loop-test .taken) (front-of.Number _ _ _)
     (sym (r .read-front .ensures) ∙ c .before .size .given .1) _ refl (q .ahead) refl
-
-enum-known-f : tie.Need-enum-known-f Inv-loop μ-loop
-enum-known-f c = search needs
 
 add-begin : tie.Need-add-begin Inv-loop μ-loop
 add-begin c = let q = front (c .before .before .before) _ (c .before .f .given .1) in omega arith
@@ -95,9 +74,6 @@ loop-again-2 c =
     (λ w. rw (w .1, w .2, w .3) (held-other i h _ _ _ e (q .ahead) (w .0 .left)))
     (c .if1 .came)
 
-enum-known-size-2 : tie.Need-enum-known-size-2 Inv-loop μ-loop
-enum-known-size-2 c = search needs
-
 add-at-3 : tie.Need-add-at-3 Inv-loop μ-loop
 add-at-3 c = let q = front (c .before .before .before) _ (c .before .size2 .given .1) in omega arith
 
@@ -117,28 +93,8 @@ returns-2 c = held-end (c .before .loop .inv) (c .loop-test .left)
 pub find-parts-spec : {M : Type 1} → statement M
 find-parts-spec =
     tie.close
-    (tie.spec
-    Inv-loop
-    μ-loop
-    loop-holds
-    sub-read-front
-    part-read-front-start
-    part-read-front-end
-    read-front-requires
-    enum-told
-    returns
-    enum-known-size
-    add-at
-    loop-less
-    loop-again
-    enum-known-f
-    add-begin
-    add-count
-    add-at-2
-    loop-less-2
-    loop-again-2
-    enum-known-size-2
-    add-at-3
-    loop-less-3
-    loop-again-3
-    returns-2)
+    (tie.spec Inv-loop μ-loop loop-holds
+    (λ c. search needs) (λ c. search needs) (λ c. search needs) (λ c κs. search needs) (λ c. search needs) returns
+    (λ c. search needs) add-at loop-less loop-again
+    (λ c. search needs) add-begin add-count add-at-2 loop-less-2 loop-again-2
+    (λ c. search needs) add-at-3 loop-less-3 loop-again-3 returns-2)

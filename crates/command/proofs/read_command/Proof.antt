@@ -13,32 +13,8 @@ use Rattle.command.proofs.check_fields.Reads as check-fields-reads
 use Rattle.values.proofs.int32.Reads as int32-reads
 use Rattle.values.proofs.last_number.Reads as last-number-reads
 
-check-fields-requires : tie.Need-check-fields-requires
-check-fields-requires c κs = search needs
-
-enum-known-x : tie.Need-enum-known-x
-enum-known-x c = search needs
-
 returns : tie.Need-returns
 returns c = command-broken _ _ (sym (c .before .before .before .check-fields .ensures) ∙ c .before .x .given .1)
-
-enum-told : tie.Need-enum-told
-enum-told c = search needs
-
-last-number-requires : tie.Need-last-number-requires
-last-number-requires c κs = search needs
-
-enum-known-v : tie.Need-enum-known-v
-enum-known-v c = search needs
-
-int32-requires : tie.Need-int32-requires
-int32-requires c κs = search needs
-
-by-type-requires : tie.Need-by-type-requires
-by-type-requires c κs = search needs
-
-enum-told-2 : tie.Need-enum-told-2
-enum-told-2 c = search needs
 
 returns-2 : tie.Need-returns-2
 returns-2 c =
@@ -55,15 +31,6 @@ returns-3 c =
 pub read-command-spec : {M : Type 1} → statement M
 read-command-spec =
     tie.close
-    (tie.spec
-    check-fields-requires
-    enum-known-x
-    returns
-    enum-told
-    last-number-requires
-    enum-known-v
-    int32-requires
-    by-type-requires
-    enum-told-2
-    returns-2
-    returns-3)
+    (tie.spec (λ c κs. search needs) (λ c. search needs) returns
+    (λ c. search needs) (λ c κs. search needs) (λ c. search needs) (λ c κs. search needs) (λ c κs. search needs)
+    (λ c. search needs) returns-2 returns-3)

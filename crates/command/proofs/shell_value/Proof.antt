@@ -7,8 +7,7 @@ use Rattle.command.proofs.shell_value.Tie as tie
 pub shell-value-spec : {M : Type 1} → statement M
 shell-value-spec =
     tie.close
-    (tie.spec
-    (λ c. shell-known (c .match .keys1) refl)
+    (tie.spec (λ c. shell-known (c .match .keys1) refl)
     (λ c. shell-known (c .match .keys2) refl)
     (λ c. shell-known (c .match .keys3) refl)
     (λ c. shell-known (c .match .keys4) refl)

@@ -30,12 +30,6 @@ returns c =
 add-p : tie.Need-add-p Inv-loop μ-loop
 add-p c = omega (arith, c .before .before .before .loop .inv .place)
 
-sub-left : tie.Need-sub-left Inv-loop μ-loop
-sub-left c = search needs
-
-loop-less : tie.Need-loop-less Inv-loop μ-loop
-loop-less c = search needs
-
 loop-again : tie.Need-loop-again Inv-loop μ-loop
 loop-again c =
     let r = c .before in
@@ -51,14 +45,5 @@ returns-2 c = ids-end (c .before .loop .inv) (c .loop-test .left)
 pub ids-rise-spec : {M : Type 1} → statement M
 ids-rise-spec =
     tie.close
-    (tie.spec
-    Inv-loop
-    μ-loop
-    loop-holds
-    read-u64-requires
-    returns
-    add-p
-    sub-left
-    loop-less
-    loop-again
-    returns-2)
+    (tie.spec Inv-loop μ-loop loop-holds read-u64-requires returns add-p
+    (λ c. search needs) (λ c. search needs) loop-again returns-2)

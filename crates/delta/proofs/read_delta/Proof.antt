@@ -26,4 +26,5 @@ returns-3 c =
     delta-none (r .before .before .args .s .now) (sym (c .enum-told .given .1) ∙ r .read-front .ensures)
 
 pub read-delta-spec : {M : Type 1} → statement M
-read-delta-spec = tie.close (tie.spec (λ c κs. search needs) (λ c. search needs) (λ c. search needs) returns returns-2 returns-3)
+read-delta-spec =
+    tie.close (tie.spec (λ c κs. search needs) (λ c. search needs) (λ c. search needs) returns returns-2 returns-3)

@@ -19,9 +19,6 @@ Inv-loop x p n out₀ at last i₀ out i = (i ≤ last + 8) × (length out ≡ l
 abbrev μ-loop : tie.MeasureT-loop
 μ-loop x p n out₀ at last i₀ out i = last - i
 
-sub-last : tie.Need-sub-last Inv-loop μ-loop
-sub-last c = omega arith
-
 loop-holds : tie.Need-loop-holds Inv-loop μ-loop
 loop-holds c = let a = c .before .before .args in (omega arith, refl, sym (put-nil (a .out .now) (a .at)))
 
@@ -37,41 +34,11 @@ copied l j v u ji ij jn ev eu =
     copy-more (a .out .now) (a .x .now) (a .at) (a .p) (l .loop .i) j 8 (l .loop .out) u ji ij (omega arith) (omega arith) (l .loop .inv .2)
     (eu ∙ ap (put (l .loop .out) (a .at + j)) (number-bytes 8 (a .x .now) (a .p + j) v b (omega arith) ev))
 
-add-write-u64 : tie.Need-add-write-u64 Inv-loop μ-loop
-add-write-u64 c = omega arith
-
-add-read-u64 : tie.Need-add-read-u64 Inv-loop μ-loop
-add-read-u64 c = omega arith
-
-read-u64-requires : tie.Need-read-u64-requires Inv-loop μ-loop
-read-u64-requires c κs = omega arith
-
-write-u64-requires : tie.Need-write-u64-requires Inv-loop μ-loop
-write-u64-requires c κs = omega arith
-
-add-i : tie.Need-add-i Inv-loop μ-loop
-add-i c = omega arith
-
-loop-less : tie.Need-loop-less Inv-loop μ-loop
-loop-less c = omega arith
-
 loop-again : tie.Need-loop-again Inv-loop μ-loop
 loop-again c =
     let w = c .before .before in
     let l = c .before .before .before .before .before .before in
     (omega arith, w .write-u64 .kept .0 ∙ l .loop .inv .1, copied l (l .loop .i) _ _ (omega arith) (omega arith) (omega arith) (w .before .read-u64 .ensures) (w .write-u64 .ensures))
-
-add-write-u64-2 : tie.Need-add-write-u64-2 Inv-loop μ-loop
-add-write-u64-2 c = omega arith
-
-add-read-u64-2 : tie.Need-add-read-u64-2 Inv-loop μ-loop
-add-read-u64-2 c = omega arith
-
-read-u64-requires-2 : tie.Need-read-u64-requires-2 Inv-loop μ-loop
-read-u64-requires-2 c κs = omega arith
-
-write-u64-requires-2 : tie.Need-write-u64-requires-2 Inv-loop μ-loop
-write-u64-requires-2 c κs = omega arith
 
 same-length : tie.Need-same-length Inv-loop μ-loop
 same-length c = c .before .before .write-u642 .kept .0 ∙ c .before .before .before .before .before .before .loop .inv .1
@@ -88,21 +55,8 @@ returns c =
 pub copy-bytes-spec : {M : Type 1} → statement M
 copy-bytes-spec =
     tie.close
-    (tie.spec
-    Inv-loop
-    μ-loop
-    sub-last
-    loop-holds
-    add-write-u64
-    add-read-u64
-    read-u64-requires
-    write-u64-requires
-    add-i
-    loop-less
-    loop-again
-    add-write-u64-2
-    add-read-u64-2
-    read-u64-requires-2
-    write-u64-requires-2
-    same-length
-    returns)
+    (tie.spec Inv-loop μ-loop
+    (λ c. omega arith) loop-holds
+    (λ c. omega arith) (λ c. omega arith) (λ c κs. omega arith) (λ c κs. omega arith) (λ c. omega arith)
+    (λ c. omega arith) loop-again
+    (λ c. omega arith) (λ c. omega arith) (λ c κs. omega arith) (λ c κs. omega arith) same-length returns)

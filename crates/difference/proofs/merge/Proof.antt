@@ -24,14 +24,8 @@ abbrev μ-loop : tie.MeasureT-loop
 read-u16-requires : tie.Need-read-u16-requires Inv-loop μ-loop
 read-u16-requires c κs = let s = c .before .before .before in omega (arith, starts-long (s .args .x .now) (s .pre .0))
 
-cast-m : tie.Need-cast-m Inv-loop μ-loop
-cast-m c = search needs
-
 read-u16-requires-2 : tie.Need-read-u16-requires-2 Inv-loop μ-loop
 read-u16-requires-2 c κs = let s = c .before .before .before .before in omega (arith, starts-long (s .args .y .now) (s .pre .1 .0))
-
-cast-n : tie.Need-cast-n Inv-loop μ-loop
-cast-n c = search needs
 
 loop-holds : tie.Need-loop-holds Inv-loop μ-loop
 loop-holds c =
@@ -80,9 +74,6 @@ told c s e = sym e ∙ c .next-step .ensures
 
 -- ---- the first record of y is passed over
 
-enum-told : tie.Need-enum-told Inv-loop μ-loop
-enum-told c = search needs
-
 is-skip : (c : tie.After-enum-told Inv-loop μ-loop)
     → let l = c .before .before .before .before in
     let a = start l .args in
@@ -117,9 +108,6 @@ loop-again c =
 
 -- ---- y has the record
 
-enum-told-2 : tie.Need-enum-told-2 Inv-loop μ-loop
-enum-told-2 c = search needs
-
 size-at-requires-2 : tie.Need-size-at-requires-2 Inv-loop μ-loop
 size-at-requires-2 c κs = omega (arith, x-within (c .before .before .before))
 
@@ -143,14 +131,8 @@ loop-again-2 c =
 
 -- ---- y has not the record
 
-enum-told-3 : tie.Need-enum-told-3 Inv-loop μ-loop
-enum-told-3 c = search needs
-
 size-at-requires-3 : tie.Need-size-at-requires-3 Inv-loop μ-loop
 size-at-requires-3 c κs = omega (arith, x-within (c .before .before .before))
-
-entry-size-requires : tie.Need-entry-size-requires Inv-loop μ-loop
-entry-size-requires c κs = search needs
 
 -- the bytes that are copied are eight at least and within the record, and there is room for them
 entry-fits : (c : tie.After-entry-size Inv-loop μ-loop)
@@ -222,36 +204,11 @@ returns c = finish (c .before .loop .inv) (omega arith)
 pub merge-spec : {M : Type 1} → statement M
 merge-spec =
     tie.close
-    (tie.spec
-    Inv-loop
-    μ-loop
-    read-u16-requires
-    cast-m
-    read-u16-requires-2
-    cast-n
-    loop-holds
-    next-step-requires
-    enum-told
-    size-at-requires
-    add-q
-    sub-n
-    loop-less
-    loop-again
-    enum-told-2
-    size-at-requires-2
-    add-p
-    sub-m
-    loop-less-2
-    loop-again-2
-    enum-told-3
-    size-at-requires-3
-    entry-size-requires
-    copy-bytes-requires
-    add-next
-    add-count
-    add-p-2
-    sub-m-2
-    loop-less-3
-    loop-again-3
-    same-length
+    (tie.spec Inv-loop μ-loop read-u16-requires
+    (λ c. search needs) read-u16-requires-2
+    (λ c. search needs) loop-holds next-step-requires
+    (λ c. search needs) size-at-requires add-q sub-n loop-less loop-again
+    (λ c. search needs) size-at-requires-2 add-p sub-m loop-less-2 loop-again-2
+    (λ c. search needs) size-at-requires-3
+    (λ c κs. search needs) copy-bytes-requires add-next add-count add-p-2 sub-m-2 loop-less-3 loop-again-3 same-length
     returns)

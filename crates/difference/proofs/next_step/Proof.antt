@@ -82,12 +82,4 @@ returns-5 c = same-id (c .before) false (c .if4 .left)
 pub next-step-spec : {M : Type 1} → statement M
 next-step-spec =
     tie.close
-    (tie.spec
-    returns
-    id-at-requires
-    id-at-requires-2
-    returns-2
-    returns-3
-    same-record-requires
-    returns-4
-    returns-5)
+    (tie.spec returns id-at-requires id-at-requires-2 returns-2 returns-3 same-record-requires returns-4 returns-5)

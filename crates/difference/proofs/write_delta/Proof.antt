@@ -52,14 +52,8 @@ counts c =
 cast-write-u16 : tie.Need-cast-write-u16
 cast-write-u16 c = omega (arith, counts (c .before .before .before .before))
 
-write-u16-requires : tie.Need-write-u16-requires
-write-u16-requires c κs = search needs
-
 cast-write-u16-2 : tie.Need-cast-write-u16-2
 cast-write-u16-2 c = omega (arith, counts (c .before .before .before .before .before .before .before .before .before))
-
-write-u16-requires-2 : tie.Need-write-u16-requires-2
-write-u16-requires-2 c κs = search needs
 
 write-u64-requires : tie.Need-write-u64-requires
 write-u64-requires c κs =
@@ -75,9 +69,6 @@ write-u64-requires c κs =
       l .merge .kept .1 .1 .1 .0,
       l .before .before .before .before .before .before .pre .1 .1,
     )
-
-same-length : tie.Need-same-length
-same-length c = search needs
 
 returns : tie.Need-returns
 unfolding assignmentOf num beAt
@@ -97,14 +88,7 @@ returns c =
 pub write-delta-spec : {M : Type 1} → statement M
 write-delta-spec =
     tie.close
-    (tie.spec
-    read-u64-requires
-    merge-requires
-    merge-requires-2
-    cast-write-u16
-    write-u16-requires
-    cast-write-u16-2
-    write-u16-requires-2
-    write-u64-requires
-    same-length
-    returns)
+    (tie.spec read-u64-requires merge-requires merge-requires-2 cast-write-u16
+    (λ c κs. search needs) cast-write-u16-2
+    (λ c κs. search needs) write-u64-requires
+    (λ c. search needs) returns)

@@ -14,23 +14,14 @@ is-digit c = sym (c .before .class-of .ensures) ∙ c .if1 .taken
 is-letter : (c : tie.Then2) → classOf (c .before .before .before .args .b) ≡ 2
 is-letter c = sym (c .before .before .class-of .ensures) ∙ c .if2 .taken
 
-class-of-requires : tie.Need-class-of-requires
-class-of-requires c κs = search needs
-
 sub-result : tie.Need-sub-result
 sub-result c = omega (arith, digit-bounds (c .before .before .args .b) (is-digit c))
-
-cast-result : tie.Need-cast-result
-cast-result c = search needs
 
 returns : tie.Need-returns
 returns c = sym (hex-digit (c .before .before .args .b) (is-digit c))
 
 sub-result-2 : tie.Need-sub-result-2
 sub-result-2 c = omega (arith, letter-bounds (c .before .before .before .args .b) (is-letter c))
-
-cast-result-2 : tie.Need-cast-result-2
-cast-result-2 c = search needs
 
 returns-2 : tie.Need-returns-2
 returns-2 c = sym (hex-letter (c .before .before .before .args .b) (is-letter c))
@@ -43,12 +34,6 @@ returns-3 c =
 pub hex-digit-value-spec : {M : Type 1} → statement M
 hex-digit-value-spec =
     tie.close
-    (tie.spec
-    class-of-requires
-    sub-result
-    cast-result
-    returns
-    sub-result-2
-    cast-result-2
-    returns-2
-    returns-3)
+    (tie.spec (λ c κs. search needs) sub-result
+    (λ c. search needs) returns sub-result-2
+    (λ c. search needs) returns-2 returns-3)

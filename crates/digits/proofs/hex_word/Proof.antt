@@ -45,12 +45,6 @@ returns c = sym (word-length (c .before .before .args .s .now) (c .if1 .taken))
 loop-holds : tie.Need-loop-holds Inv-loop μ-loop
 loop-holds c = (reading-start isHexDigit 16 hexDigitValue (c .before .before .args .s .now), omega arith)
 
-shared-slice-read-hex-digit-value : tie.Need-shared-slice-read-hex-digit-value Inv-loop μ-loop
-shared-slice-read-hex-digit-value c = search needs
-
-hex-digit-value-requires : tie.Need-hex-digit-value-requires Inv-loop μ-loop
-hex-digit-value-requires c κs = search needs
-
 returns-2 : tie.Need-returns-2 Inv-loop μ-loop
 returns-2 c =
     let l = c .before .before .before .before .loop in
@@ -63,12 +57,6 @@ mul-v c = omega (arith, next c)
 
 add-v : tie.Need-add-v Inv-loop μ-loop
 add-v c = omega (arith, next c)
-
-add-i : tie.Need-add-i Inv-loop μ-loop
-add-i c = search needs
-
-loop-less : tie.Need-loop-less Inv-loop μ-loop
-loop-less c = search needs
 
 loop-again : tie.Need-loop-again Inv-loop μ-loop
 loop-again c =
@@ -87,17 +75,6 @@ returns-3 c =
 pub hex-word-spec : {M : Type 1} → statement M
 hex-word-spec =
     tie.close
-    (tie.spec
-    Inv-loop
-    μ-loop
-    returns
-    loop-holds
-    shared-slice-read-hex-digit-value
-    hex-digit-value-requires
-    returns-2
-    mul-v
-    add-v
-    add-i
-    loop-less
-    loop-again
-    returns-3)
+    (tie.spec Inv-loop μ-loop returns loop-holds
+    (λ c. search needs) (λ c κs. search needs) returns-2 mul-v add-v
+    (λ c. search needs) (λ c. search needs) loop-again returns-3)

@@ -46,20 +46,11 @@ next c =
 returns : tie.Need-returns Inv-loop μ-loop
 returns c = sym (id-empty (c .before .before .args .s .now) (c .if1 .taken))
 
-shared-slice-read-if2 : tie.Need-shared-slice-read-if2 Inv-loop μ-loop
-shared-slice-read-if2 c = search needs
-
 returns-2 : tie.Need-returns-2 Inv-loop μ-loop
 returns-2 c = sym (id-leading-zero (c .before .before .before .before .before .args .s .now) (c .before .if2 .taken) (c .if3 .taken))
 
 loop-holds : tie.Need-loop-holds Inv-loop μ-loop
 loop-holds c = (reading-start isDigit 10 digitValue (c .before .before .before .before .args .s .now), omega arith)
-
-shared-slice-read-b : tie.Need-shared-slice-read-b Inv-loop μ-loop
-shared-slice-read-b c = search needs
-
-class-of-requires : tie.Need-class-of-requires Inv-loop μ-loop
-class-of-requires c κs = search needs
 
 returns-3 : tie.Need-returns-3 Inv-loop μ-loop
 returns-3 c =
@@ -89,12 +80,6 @@ mul-v c = omega (arith, bounds (c .before))
 add-v : tie.Need-add-v Inv-loop μ-loop
 add-v c = omega (arith, bounds (c .before))
 
-add-i : tie.Need-add-i Inv-loop μ-loop
-add-i c = search needs
-
-loop-less : tie.Need-loop-less Inv-loop μ-loop
-loop-less c = search needs
-
 loop-again : tie.Need-loop-again Inv-loop μ-loop
 loop-again c = (next (c .before), omega (arith, bounds (c .before)))
 
@@ -109,23 +94,7 @@ returns-5 c =
 pub segment-id-spec : {M : Type 1} → statement M
 segment-id-spec =
     tie.close
-    (tie.spec
-    Inv-loop
-    μ-loop
-    returns
-    shared-slice-read-if2
-    returns-2
-    loop-holds
-    shared-slice-read-b
-    class-of-requires
-    returns-3
-    sub-d
-    cast-d
-    sub-if5
-    returns-4
-    mul-v
-    add-v
-    add-i
-    loop-less
-    loop-again
-    returns-5)
+    (tie.spec Inv-loop μ-loop returns
+    (λ c. search needs) returns-2 loop-holds
+    (λ c. search needs) (λ c κs. search needs) returns-3 sub-d cast-d sub-if5 returns-4 mul-v add-v
+    (λ c. search needs) (λ c. search needs) loop-again returns-5)

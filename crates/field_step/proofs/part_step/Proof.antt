@@ -4,30 +4,6 @@ use borrow.Author.Needs.{needs}
 use Rattle.field_step.proofs.part_step.Statement.{statement}
 use Rattle.field_step.proofs.part_step.Tie as tie
 
-enum-told : tie.Need-enum-told
-enum-told c = search needs
-
-add-t7 : tie.Need-add-t7
-add-t7 c = search needs
-
-enum-told-2 : tie.Need-enum-told-2
-enum-told-2 c = search needs
-
-add-t8 : tie.Need-add-t8
-add-t8 c = search needs
-
-enum-told-3 : tie.Need-enum-told-3
-enum-told-3 c = search needs
-
-is-utf8-requires : tie.Need-is-utf8-requires
-is-utf8-requires c κs = search needs
-
-add-t11 : tie.Need-add-t11
-add-t11 c = search needs
-
-enum-known-v : tie.Need-enum-known-v
-enum-known-v c = search needs
-
 returns : tie.Need-returns
 returns c = rw (c .enum-told .given .1)
 
@@ -50,17 +26,5 @@ returns-5 c = rw (c .before .v .given .1)
 pub part-step-spec : {M : Type 1} → statement M
 part-step-spec =
     tie.close
-    (tie.spec
-    enum-told
-    add-t7
-    enum-told-2
-    add-t8
-    enum-told-3
-    is-utf8-requires
-    add-t11
-    enum-known-v
-    returns
-    returns-2
-    returns-3
-    returns-4
-    returns-5)
+    (tie.spec (λ c. search needs) (λ c. search needs) (λ c. search needs) (λ c. search needs) (λ c. search needs)
+    (λ c κs. search needs) (λ c. search needs) (λ c. search needs) returns returns-2 returns-3 returns-4 returns-5)

@@ -9,30 +9,12 @@ use Rattle.wire.proofs.FieldLaws.{body-size}
 use Rattle.field_step.proofs.value_step.Statement.{statement}
 use Rattle.field_step.proofs.value_step.Tie as tie
 
-read-body-requires : tie.Need-read-body-requires
-read-body-requires c κs = search needs
-
-enum-known-n : tie.Need-enum-known-n
-enum-known-n c = search needs
-
-enum-known-n-2 : tie.Need-enum-known-n-2
-enum-known-n-2 c = search needs
-
-enum-known-n-3 : tie.Need-enum-known-n-3
-enum-known-n-3 c = search needs
-
 add-part-step : tie.Need-add-part-step
 add-part-step c =
     let p = c .before .before .before in
     let e = sym (p .read-body .ensures) ∙ c .before .n3 .given .1 in
     let h = body-size (p .before .before .args .w) (p .before .before .args .s .now) (body.Part _ _) e in
     omega arith
-
-sub-part-step : tie.Need-sub-part-step
-sub-part-step c = search needs
-
-part-part-step-start : tie.Need-part-part-step-start
-part-part-step-start c = search needs
 
 part-part-step-end : tie.Need-part-part-step-end
 part-part-step-end c =
@@ -47,9 +29,6 @@ part-step-requires c κs =
     let e = sym (p .read-body .ensures) ∙ c .before .before .n3 .given .1 in
     let h = body-size (p .before .before .args .w) (p .before .before .args .s .now) (body.Part _ _) e in
     omega arith
-
-enum-told : tie.Need-enum-told
-enum-told c = search needs
 
 returns : tie.Need-returns
 returns c =
@@ -74,18 +53,6 @@ returns-4 c =
 pub value-step-spec : {M : Type 1} → statement M
 value-step-spec =
     tie.close
-    (tie.spec
-    read-body-requires
-    enum-known-n
-    enum-known-n-2
-    enum-known-n-3
-    add-part-step
-    sub-part-step
-    part-part-step-start
-    part-part-step-end
-    part-step-requires
-    enum-told
-    returns
-    returns-2
-    returns-3
-    returns-4)
+    (tie.spec (λ c κs. search needs) (λ c. search needs) (λ c. search needs) (λ c. search needs) add-part-step
+    (λ c. search needs) (λ c. search needs) part-part-step-end part-step-requires
+    (λ c. search needs) returns returns-2 returns-3 returns-4)

@@ -46,11 +46,5 @@ returns-3 c = let f = c .before in
 pub earliest-open-spec : {M : Type 1} → statement M
 earliest-open-spec =
     tie.close
-    (tie.spec
-    (λ c κs. search needs)
-    (λ c. search needs)
-    (λ c. search needs)
-    returns
-    first-of-requires
-    returns-2
+    (tie.spec (λ c κs. search needs) (λ c. search needs) (λ c. search needs) returns first-of-requires returns-2
     returns-3)

@@ -55,14 +55,5 @@ returns-3 c = let h = c .before in
 pub is-open-spec : {M : Type 1} → statement M
 is-open-spec =
     tie.close
-    (tie.spec
-    (λ c κs. search needs)
-    (λ c. search needs)
-    (λ c. search needs)
-    returns
-    any-holds-requires
-    mul-any-holds
-    add-any-holds
-    any-holds-requires-2
-    returns-2
-    returns-3)
+    (tie.spec (λ c κs. search needs) (λ c. search needs) (λ c. search needs) returns any-holds-requires mul-any-holds
+    add-any-holds any-holds-requires-2 returns-2 returns-3)

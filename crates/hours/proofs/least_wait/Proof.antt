@@ -80,15 +80,6 @@ returns c = let l = c .before in
 pub least-wait-spec : {M : Type 1} → statement M
 least-wait-spec =
     tie.close
-    (tie.spec
-    Inv-loop
-    μ-loop
-    loop-holds
-    (λ c κs. omega arith)
-    wait-for-requires
-    (λ c κs. search needs)
-    (λ c. omega arith)
-    (λ c. omega arith)
-    (λ c. omega arith)
-    loop-again
-    returns)
+    (tie.spec Inv-loop μ-loop loop-holds
+    (λ c κs. omega arith) wait-for-requires
+    (λ c κs. search needs) (λ c. omega arith) (λ c. omega arith) (λ c. omega arith) loop-again returns)

@@ -58,22 +58,8 @@ returns-7 c = let v = c .before in
 pub read-contract-spec : {M : Type 1} → statement M
 read-contract-spec =
     tie.close
-    (tie.spec
-    returns
-    (λ c κs. search needs)
-    (λ c. search needs)
-    (λ c κs. search needs)
-    (λ c. search needs)
-    returns-2
-    returns-3
-    (λ c. search needs)
-    (λ c. search needs)
-    (λ c. search needs)
-    returns-4
-    (λ c κs. search needs)
-    returns-5
-    (λ c. search needs)
-    (λ c. search needs)
-    (λ c κs. search needs)
-    returns-6
-    returns-7)
+    (tie.spec returns
+    (λ c κs. search needs) (λ c. search needs) (λ c κs. search needs) (λ c. search needs) returns-2 returns-3
+    (λ c. search needs) (λ c. search needs) (λ c. search needs) returns-4
+    (λ c κs. search needs) returns-5
+    (λ c. search needs) (λ c. search needs) (λ c κs. search needs) returns-6 returns-7)

@@ -18,5 +18,5 @@ returns-3 : tie.Need-returns-3
 returns-3 c = let e = c .before in let a = e .before .before .args in wait-soon (a .window) (a .moment) (e .if1 .left)
 
 pub wait-for-spec : {M : Type 1} → statement M
-wait-for-spec = tie.close
-    (tie.spec returns (λ c. search needs) (λ c. search needs) returns-2 (λ c. search needs) returns-3)
+wait-for-spec =
+    tie.close (tie.spec returns (λ c. search needs) (λ c. search needs) returns-2 (λ c. search needs) returns-3)

@@ -24,29 +24,11 @@ second-in c =
     let s = r .before .before .before .before .before .before .before .before in
     walk-read (s .args .e .now) _ _ (sym (c .before .more-losses .given .1) ∙ r .read-delta2 .ensures)
 
-read-delta-requires : tie.Need-read-delta-requires
-read-delta-requires c κs = search needs
-
-enum-known-losses : tie.Need-enum-known-losses
-enum-known-losses c = search needs
-
-enum-told : tie.Need-enum-told
-enum-told c = search needs
-
 returns : tie.Need-returns
 returns c =
     let r = c .before .before in
     let a = r .before .before .before .before .args in
     no-first (a .d .now) (a .e .now) (a .out .now) (not-delta (a .d .now) (sym (c .enum-told .given .1) ∙ r .read-delta .ensures))
-
-read-delta-requires-2 : tie.Need-read-delta-requires-2
-read-delta-requires-2 c κs = search needs
-
-enum-known-more-losses : tie.Need-enum-known-more-losses
-enum-known-more-losses c = search needs
-
-enum-told-2 : tie.Need-enum-told-2
-enum-told-2 c = search needs
 
 returns-2 : tie.Need-returns-2
 returns-2 c =
@@ -68,9 +50,6 @@ write-join-requires c κs =
     let w = second-in (r1 .before) in
     (v .is-delta, (w .is-delta, (r1 .rows-of .ensures ∙ rows-in v, r2 .rows-of2 .ensures ∙ rows-in w)))
 
-same-length : tie.Need-same-length
-same-length c = search needs
-
 returns-3 : tie.Need-returns-3
 returns-3 c =
     let j = c .before .before in
@@ -82,17 +61,7 @@ returns-3 c =
 pub join-spec : {M : Type 1} → statement M
 join-spec =
     tie.close
-    (tie.spec
-    read-delta-requires
-    enum-known-losses
-    enum-told
-    returns
-    read-delta-requires-2
-    enum-known-more-losses
-    enum-told-2
-    returns-2
-    rows-of-requires
-    rows-of-requires-2
+    (tie.spec (λ c κs. search needs) (λ c. search needs) (λ c. search needs) returns
+    (λ c κs. search needs) (λ c. search needs) (λ c. search needs) returns-2 rows-of-requires rows-of-requires-2
     write-join-requires
-    same-length
-    returns-3)
+    (λ c. search needs) returns-3)

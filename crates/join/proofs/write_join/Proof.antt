@@ -49,31 +49,16 @@ returns c =
     let s = u .before .before .before .before .before .before .before .before in
     many-lost (first s) (second s) (s .args .out .now) (u .union-count .ensures) (c .if1 .taken)
 
-mul-head : tie.Need-mul-head
-mul-head c = search needs
-
-add-head : tie.Need-add-head
-add-head c = search needs
-
 returns-2 : tie.Need-returns-2
 returns-2 c =
     let u = c .before .before in
     let s = u .before .before .before .before .before .before .before .before in
     no-head (first s) (second s) (s .args .out .now) (u .union-count .ensures) (c .if2 .taken)
 
-sub-overlay-fit : tie.Need-sub-overlay-fit
-sub-overlay-fit c = search needs
-
 overlay-fit-requires : tie.Need-overlay-fit-requires
 overlay-fit-requires c κs =
     let s = c .before .before .before .before .before .before .before .before .before .before in
     (first s .records, (second s .ids, second s .records))
-
-enum-known-gains : tie.Need-enum-known-gains
-enum-known-gains c = search needs
-
-enum-told : tie.Need-enum-told
-enum-told c = search needs
 
 returns-3 : tie.Need-returns-3
 returns-3 c =
@@ -104,18 +89,6 @@ write-union-requires c κs =
     let s = u .before .before .before .before .before .before .before .before in
     (first s .ids, (second s .ids, omega (arith, room f, u .union-count .ensures, o .write-overlay .kept .1 .1 .1 .1 .1 .0)))
 
-cast-write-u16 : tie.Need-cast-write-u16
-cast-write-u16 c = search needs
-
-write-u16-requires : tie.Need-write-u16-requires
-write-u16-requires c κs = search needs
-
-cast-write-u16-2 : tie.Need-cast-write-u16-2
-cast-write-u16-2 c = search needs
-
-write-u16-requires-2 : tie.Need-write-u16-requires-2
-write-u16-requires-2 c κs = search needs
-
 read-u64-requires : tie.Need-read-u64-requires
 read-u64-requires c κs =
     let w2 = c .before .before .before .before .before .before .before .before .before .before .before in
@@ -124,16 +97,10 @@ read-u64-requires c κs =
     let s = u .before .before .before .before .before .before .before .before in
     omega (arith, first s .head, second s .head)
 
-write-u64-requires : tie.Need-write-u64-requires
-write-u64-requires c κs = search needs
-
 add-t16 : tie.Need-add-t16
 add-t16 c =
     let w3 = c .before .before .before .before .before .before .before .before .before .before .before in
     omega (arith, end-fits (w3 .before .before .before .before .before .before .before .before .before .before .before))
-
-same-length : tie.Need-same-length
-same-length c = search needs
 
 returns-5 : tie.Need-returns-5
 returns-5 c =
@@ -156,26 +123,10 @@ returns-5 c =
 pub write-join-spec : {M : Type 1} → statement M
 write-join-spec =
     tie.close
-    (tie.spec
-    union-count-requires
-    returns
-    mul-head
-    add-head
-    returns-2
-    sub-overlay-fit
-    overlay-fit-requires
-    enum-known-gains
-    enum-told
-    returns-3
-    returns-4
-    write-overlay-requires
-    write-union-requires
-    cast-write-u16
-    write-u16-requires
-    cast-write-u16-2
-    write-u16-requires-2
-    read-u64-requires
-    write-u64-requires
-    add-t16
-    same-length
-    returns-5)
+    (tie.spec union-count-requires returns
+    (λ c. search needs) (λ c. search needs) returns-2
+    (λ c. search needs) overlay-fit-requires
+    (λ c. search needs) (λ c. search needs) returns-3 returns-4 write-overlay-requires write-union-requires
+    (λ c. search needs) (λ c κs. search needs) (λ c. search needs) (λ c κs. search needs) read-u64-requires
+    (λ c κs. search needs) add-t16
+    (λ c. search needs) returns-5)

@@ -6,24 +6,6 @@ use borrow.Author.Needs.{needs}
 use Rattle.key_range.proofs.both.Statement.{statement}
 use Rattle.key_range.proofs.both.Tie as tie
 
-new-requires : tie.Need-new-requires
-new-requires c κs = search needs
-
-enum-known-source : tie.Need-enum-known-source
-enum-known-source c = search needs
-
-enum-known-a : tie.Need-enum-known-a
-enum-known-a c = search needs
-
-new-requires-2 : tie.Need-new-requires-2
-new-requires-2 c κs = search needs
-
-enum-known-source-2 : tie.Need-enum-known-source-2
-enum-known-source-2 c = search needs
-
-enum-known-b : tie.Need-enum-known-b
-enum-known-b c = search needs
-
 returns : tie.Need-returns
 unfolding pairBy
 returns c = let e = sym (c .before .before .before .new .ensures) ∙ c .before .source .given .1 in rw e
@@ -45,13 +27,5 @@ returns-3 c =
 pub both-spec : {M : Type 1} → statement M
 both-spec =
     tie.close
-    (tie.spec
-    new-requires
-    enum-known-source
-    enum-known-a
-    new-requires-2
-    enum-known-source-2
-    enum-known-b
-    returns
-    returns-2
-    returns-3)
+    (tie.spec (λ c κs. search needs) (λ c. search needs) (λ c. search needs) (λ c κs. search needs) (λ c. search needs)
+    (λ c. search needs) returns returns-2 returns-3)

@@ -6,18 +6,6 @@ use borrow.Author.Needs.{needs}
 use Rattle.key_range.proofs.contains.Statement.{statement}
 use Rattle.key_range.proofs.contains.Tie as tie
 
-new-requires : tie.Need-new-requires
-new-requires c κs = search needs
-
-enum-known-source : tie.Need-enum-known-source
-enum-known-source c = search needs
-
-enum-known-range : tie.Need-enum-known-range
-enum-known-range c = search needs
-
-holds-hash-requires : tie.Need-holds-hash-requires
-holds-hash-requires c κs = search needs
-
 returns : tie.Need-returns
 unfolding containsOf
 returns c = let e = sym (c .before .before .before .new .ensures) ∙ c .before .source .given .1 in rw e
@@ -31,10 +19,4 @@ returns-2 c =
 pub contains-spec : {M : Type 1} → statement M
 contains-spec =
     tie.close
-    (tie.spec
-    new-requires
-    enum-known-source
-    enum-known-range
-    holds-hash-requires
-    returns
-    returns-2)
+    (tie.spec (λ c κs. search needs) (λ c. search needs) (λ c. search needs) (λ c κs. search needs) returns returns-2)

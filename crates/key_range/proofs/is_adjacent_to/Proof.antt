@@ -8,18 +8,6 @@ use borrow.Author.Needs.{needs}
 use Rattle.key_range.proofs.is_adjacent_to.Statement.{statement}
 use Rattle.key_range.proofs.is_adjacent_to.Tie as tie
 
-both-requires : tie.Need-both-requires
-both-requires c κs = search needs
-
-enum-known-source : tie.Need-enum-known-source
-enum-known-source c = search needs
-
-enum-known-a : tie.Need-enum-known-a
-enum-known-a c = search needs
-
-touch-requires : tie.Need-touch-requires
-touch-requires c κs = search needs
-
 returns : tie.Need-returns
 unfolding isAdjacentOf
 returns c =
@@ -35,4 +23,4 @@ returns-2 c =
 pub is-adjacent-to-spec : {M : Type 1} → statement M
 is-adjacent-to-spec =
     tie.close
-    (tie.spec both-requires enum-known-source enum-known-a touch-requires returns returns-2)
+    (tie.spec (λ c κs. search needs) (λ c. search needs) (λ c. search needs) (λ c κs. search needs) returns returns-2)

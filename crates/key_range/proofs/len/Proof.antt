@@ -8,15 +8,6 @@ use borrow.Author.Needs.{needs}
 use Rattle.key_range.proofs.len.Statement.{statement}
 use Rattle.key_range.proofs.len.Tie as tie
 
-new-requires : tie.Need-new-requires
-new-requires c κs = search needs
-
-enum-known-source : tie.Need-enum-known-source
-enum-known-source c = search needs
-
-enum-known-range : tie.Need-enum-known-range
-enum-known-range c = search needs
-
 sub-t8 : tie.Need-sub-t8
 sub-t8 c =
     let e = sym (c .before .before .before .before .new .ensures) ∙ c .before .before .range .given .1 in
@@ -37,5 +28,4 @@ returns-2 c = let e = sym (c .before .before .before .before .new .ensures) ∙ 
 
 pub len-spec : {M : Type 1} → statement M
 len-spec =
-    tie.close
-    (tie.spec new-requires enum-known-source enum-known-range sub-t8 add-t9 returns returns-2)
+    tie.close (tie.spec (λ c κs. search needs) (λ c. search needs) (λ c. search needs) sub-t8 add-t9 returns returns-2)

@@ -11,25 +11,9 @@ Inv-loop s label at n p₀ left₀ p left = p ≤ length s
 abbrev μ-loop : tie.MeasureT-loop
 μ-loop s label at n p₀ left₀ p left = left
 
-loop-holds : tie.Need-loop-holds Inv-loop μ-loop
-loop-holds c = search needs
-
-segment-requires : tie.Need-segment-requires Inv-loop μ-loop
-segment-requires c κs = search needs
-
-sub-left : tie.Need-sub-left Inv-loop μ-loop
-sub-left c = search needs
-
-loop-less : tie.Need-loop-less Inv-loop μ-loop
-loop-less c = search needs
-
-loop-again : tie.Need-loop-again Inv-loop μ-loop
-loop-again c = search needs
-
-returns : tie.Need-returns Inv-loop μ-loop
-returns c = search needs
-
 pub segments-spec : {M : Type 1} → statement M
 segments-spec =
     tie.close
-    (tie.spec Inv-loop μ-loop loop-holds segment-requires sub-left loop-less loop-again returns)
+    (tie.spec Inv-loop μ-loop
+    (λ c. search needs) (λ c κs. search needs) (λ c. search needs) (λ c. search needs) (λ c. search needs)
+    (λ c. search needs))

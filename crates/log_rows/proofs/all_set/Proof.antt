@@ -32,13 +32,7 @@ returns-2 c = sym (c .before .loop .inv ∙ set-end _ _ (c .loop-test .left))
 pub all-set-spec : {M : Type 1} → statement M
 all-set-spec =
     tie.close
-    (tie.spec
-    Inv-loop
-    μ-loop
+    (tie.spec Inv-loop μ-loop
     (λ c. refl)
-    (λ c. search needs)
-    returns
-    (λ c. search needs)
-    (λ c. search needs)
-    loop-again
-    returns-2)
+    (λ c. search needs) returns
+    (λ c. search needs) (λ c. search needs) loop-again returns-2)

@@ -47,15 +47,7 @@ returns c =
 pub mark-entries-spec : {M : Type 1} → statement M
 mark-entries-spec =
     tie.close
-    (tie.spec
-    Inv-loop
-    μ-loop
+    (tie.spec Inv-loop μ-loop
     (λ c. (refl, refl, λ i l. refl))
-    (λ c κs. omega arith)
-    mark-entry-requires
-    (λ c. omega arith)
-    (λ c. omega arith)
-    (λ c. omega arith)
-    loop-again
-    same-length
-    returns)
+    (λ c κs. omega arith) mark-entry-requires
+    (λ c. omega arith) (λ c. omega arith) (λ c. omega arith) loop-again same-length returns)

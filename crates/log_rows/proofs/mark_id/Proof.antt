@@ -40,14 +40,5 @@ returns-4 c =
 pub mark-id-spec : {M : Type 1} → statement M
 mark-id-spec =
     tie.close
-    (tie.spec
-    (λ c κs. search needs)
-    (λ c κs. search needs)
-    (λ c. search needs)
-    (λ c. search needs)
-    slice-write-marks
-    (λ c. search needs)
-    returns
-    returns-2
-    returns-3
-    returns-4)
+    (tie.spec (λ c κs. search needs) (λ c κs. search needs) (λ c. search needs) (λ c. search needs) slice-write-marks
+    (λ c. search needs) returns returns-2 returns-3 returns-4)

@@ -39,10 +39,5 @@ returns c =
 pub row-in-spec : {M : Type 1} → statement M
 row-in-spec =
     tie.close
-    (tie.spec
-    (λ c. search needs)
-    (λ c κs. search needs)
-    (λ c. search needs)
-    slice-aggregate-all-set
-    (λ c κs. search needs)
-    returns)
+    (tie.spec (λ c. search needs) (λ c κs. search needs) (λ c. search needs) slice-aggregate-all-set
+    (λ c κs. search needs) returns)

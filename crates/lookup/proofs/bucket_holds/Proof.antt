@@ -23,12 +23,6 @@ abbrev μ-loop : tie.MeasureT-loop
 loop-holds : tie.Need-loop-holds Inv-loop μ-loop
 loop-holds c = (refl, refl)
 
-range-at-requires : tie.Need-range-at-requires Inv-loop μ-loop
-range-at-requires c κs = omega arith
-
-holds-hash-requires : tie.Need-holds-hash-requires Inv-loop μ-loop
-holds-hash-requires c κs = search needs
-
 returns : tie.Need-returns Inv-loop μ-loop
 returns c =
     let r = c .before .before in
@@ -38,15 +32,6 @@ returns c =
     ∙ ap (anyHolds (a .hash))
     (ranges-at (a .s .now) (l .loop .p) (l .loop .left) (r .range-at .result) (r .before .loop-test .taken) (r .range-at .ensures))
     ∙ any-found (a .hash) (r .range-at .result) _ (sym (c .before .holds-hash .ensures) ∙ c .if1 .taken))
-
-add-p : tie.Need-add-p Inv-loop μ-loop
-add-p c = omega arith
-
-sub-left : tie.Need-sub-left Inv-loop μ-loop
-sub-left c = omega arith
-
-loop-less : tie.Need-loop-less Inv-loop μ-loop
-loop-less c = omega arith
 
 loop-again : tie.Need-loop-again Inv-loop μ-loop
 loop-again c =
@@ -70,15 +55,6 @@ returns-2 c =
 pub bucket-holds-spec : {M : Type 1} → statement M
 bucket-holds-spec =
     tie.close
-    (tie.spec
-    Inv-loop
-    μ-loop
-    loop-holds
-    range-at-requires
-    holds-hash-requires
-    returns
-    add-p
-    sub-left
-    loop-less
-    loop-again
-    returns-2)
+    (tie.spec Inv-loop μ-loop loop-holds
+    (λ c κs. omega arith) (λ c κs. search needs) returns
+    (λ c. omega arith) (λ c. omega arith) (λ c. omega arith) loop-again returns-2)

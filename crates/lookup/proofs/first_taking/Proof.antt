@@ -58,12 +58,6 @@ add-p c =
       rest-head (b .args .s .now) (l .loop .p) (l .loop .left) (c .size-at .result) (i .loop-test .taken) (c .size-at .ensures) (l .loop .inv .rest),
     )
 
-sub-left : tie.Need-sub-left Inv-loop μ-loop
-sub-left c = omega arith
-
-loop-less : tie.Need-loop-less Inv-loop μ-loop
-loop-less c = omega arith
-
 loop-again : tie.Need-loop-again Inv-loop μ-loop
 loop-again c =
     let t = c .before .before in
@@ -82,16 +76,5 @@ returns-2 c =
 pub first-taking-spec : {M : Type 1} → statement M
 first-taking-spec =
     tie.close
-    (tie.spec
-    Inv-loop
-    μ-loop
-    loop-holds
-    segment-takes-requires
-    id-at-requires
-    returns
-    size-at-requires
-    add-p
-    sub-left
-    loop-less
-    loop-again
-    returns-2)
+    (tie.spec Inv-loop μ-loop loop-holds segment-takes-requires id-at-requires returns size-at-requires add-p
+    (λ c. omega arith) (λ c. omega arith) loop-again returns-2)

@@ -20,24 +20,12 @@ whole-in c =
 returns : tie.Need-returns
 returns c = let a = c .before .before .before .args in for-long (a .key .now) (a .assignment .now) (c .if1 .taken)
 
-read-whole-requires : tie.Need-read-whole-requires
-read-whole-requires c κs = search needs
-
-enum-known-count : tie.Need-enum-known-count
-enum-known-count c = search needs
-
-enum-told : tie.Need-enum-told
-enum-told c = search needs
-
 returns-2 : tie.Need-returns-2
 returns-2 c =
     let r = c .before .before in
     let a = r .before .before .before .before .args in
     for-malformed (a .key .now) (a .assignment .now) (r .before .if1 .left)
     (not-assignment (a .assignment .now) (sym (c .enum-told .given .1) ∙ r .read-whole .ensures))
-
-hash-requires : tie.Need-hash-requires
-hash-requires c κs = search needs
 
 first-taking-requires : tie.Need-first-taking-requires
 first-taking-requires c κs = whole-in (c .before) .records
@@ -55,12 +43,6 @@ returns-3 c =
 pub segment-for-key-spec : {M : Type 1} → statement M
 segment-for-key-spec =
     tie.close
-    (tie.spec
-    returns
-    read-whole-requires
-    enum-known-count
-    enum-told
-    returns-2
-    hash-requires
-    first-taking-requires
-    returns-3)
+    (tie.spec returns
+    (λ c κs. search needs) (λ c. search needs) (λ c. search needs) returns-2
+    (λ c κs. search needs) first-taking-requires returns-3)

@@ -11,14 +11,8 @@ use Rattle.packed.proofs.AssignmentLaws.{size-least}
 use Rattle.lookup.proofs.segment_takes.Statement.{statement}
 use Rattle.lookup.proofs.segment_takes.Tie as tie
 
-add-range-at : tie.Need-add-range-at
-add-range-at c = search needs
-
 range-at-requires : tie.Need-range-at-requires
 range-at-requires c κs = omega (arith, size-least (segmentOf (drop (c .before .args .p) (c .before .args .s .now))))
-
-holds-hash-requires : tie.Need-holds-hash-requires
-holds-hash-requires c κs = search needs
 
 returns : tie.Need-returns
 returns c =
@@ -27,15 +21,9 @@ returns c =
     takes-outside (a .s .now) (a .p) (a .hash) (h .before .range-at .result) (h .before .range-at .ensures)
     (sym (h .holds-hash .ensures) ∙ not-true (h .holds-hash .result) (c .if1 .taken))
 
-add-read-u16 : tie.Need-add-read-u16
-add-read-u16 c = search needs
-
 read-u16-requires : tie.Need-read-u16-requires
 read-u16-requires c κs =
     let a = c .before .before .before .before .args in omega (arith, size-least (segmentOf (drop (a .p) (a .s .now))))
-
-cast-count : tie.Need-cast-count
-cast-count c = search needs
 
 returns-2 : tie.Need-returns-2
 returns-2 c =
@@ -44,9 +32,6 @@ returns-2 c =
     let a = h .before .before .before .args in
     takes-whole (a .s .now) (a .p) (a .hash) (h .before .range-at .result) (h .before .range-at .ensures) (n .read-u16 .result) (n .read-u16 .ensures)
     (sym (h .holds-hash .ensures) ∙ not-false (h .holds-hash .result) (n .before .if1 .left)) (c .if2 .taken)
-
-add-bucket-holds : tie.Need-add-bucket-holds
-add-bucket-holds c = search needs
 
 bucket-holds-requires : tie.Need-bucket-holds-requires
 bucket-holds-requires c κs =
@@ -66,15 +51,8 @@ returns-3 c =
 pub segment-takes-spec : {M : Type 1} → statement M
 segment-takes-spec =
     tie.close
-    (tie.spec
-    add-range-at
-    range-at-requires
-    holds-hash-requires
-    returns
-    add-read-u16
-    read-u16-requires
-    cast-count
-    returns-2
-    add-bucket-holds
-    bucket-holds-requires
-    returns-3)
+    (tie.spec (λ c. search needs) range-at-requires
+    (λ c κs. search needs) returns
+    (λ c. search needs) read-u16-requires
+    (λ c. search needs) returns-2
+    (λ c. search needs) bucket-holds-requires returns-3)

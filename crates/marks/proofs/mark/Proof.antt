@@ -13,32 +13,11 @@ Inv-loop marks₀ stop at₀ marks at = Turn marks₀ at₀ stop marks at
 abbrev μ-loop : tie.MeasureT-loop
 μ-loop marks₀ stop at₀ marks at = stop - at
 
-cast-stop : tie.Need-cast-stop Inv-loop μ-loop
-cast-stop c = search needs
-
-add-stop : tie.Need-add-stop Inv-loop μ-loop
-add-stop c = search needs
-
-cast-at : tie.Need-cast-at Inv-loop μ-loop
-cast-at c = search needs
-
 loop-holds : tie.Need-loop-holds Inv-loop μ-loop
 loop-holds c = let a = c .before .before .before in turn-start (a .args .marks .now) _ _ (a .pre) (omega arith)
 
-sub-least : tie.Need-sub-least Inv-loop μ-loop
-sub-least c = search needs
-
-sub-least-2 : tie.Need-sub-least-2 Inv-loop μ-loop
-sub-least-2 c = search needs
-
-least-requires : tie.Need-least-requires Inv-loop μ-loop
-least-requires c κs = search needs
-
 mask-requires : tie.Need-mask-requires Inv-loop μ-loop
 mask-requires c κs = let l = c .before .before in let k = counted (l .loop .inv) (c .before .loop-test .taken) _ (c .least .ensures) in (k .0, k .1)
-
-mul-word : tie.Need-mul-word Inv-loop μ-loop
-mul-word c = search needs
 
 slice-read-word : tie.Need-slice-read-word Inv-loop μ-loop
 slice-read-word c = omega (arith, c .before .before .before .before .loop .inv .long, c .before .before .before .before .loop .inv .few)
@@ -56,17 +35,8 @@ returns c =
     marking-found {r = a .args .range} (l .loop .inv) (a .pre) (turn-found (l .loop .inv) (k .before .loop-test .taken) _ (k .least .ensures)
     (rw (c .before .before .mask .ensures) at (c .if1 .taken)))
 
-mul-marks : tie.Need-mul-marks Inv-loop μ-loop
-mul-marks c = search needs
-
 slice-write-marks : tie.Need-slice-write-marks Inv-loop μ-loop
 slice-write-marks c = let l = c .before .before .before .before .before in omega (arith, l .loop .inv .long, l .loop .inv .few)
-
-add-at : tie.Need-add-at Inv-loop μ-loop
-add-at c = search needs
-
-loop-less : tie.Need-loop-less Inv-loop μ-loop
-loop-less c = search needs
 
 loop-again : tie.Need-loop-again Inv-loop μ-loop
 loop-again c =
@@ -74,9 +44,6 @@ loop-again c =
     let l = k .before .before in
     rw (c .before .before .mask .ensures) (turn-next (l .loop .inv) (k .before .loop-test .taken) _ (k .least .ensures)
     (rw (c .before .before .mask .ensures) at (c .if1 .left)))
-
-same-length-2 : tie.Need-same-length-2 Inv-loop μ-loop
-same-length-2 c = search needs
 
 returns-2 : tie.Need-returns-2 Inv-loop μ-loop
 returns-2 c =
@@ -87,25 +54,10 @@ returns-2 c =
 pub mark-spec : {M : Type 1} → statement M
 mark-spec =
     tie.close
-    (tie.spec
-    Inv-loop
-    μ-loop
-    cast-stop
-    add-stop
-    cast-at
-    loop-holds
-    sub-least
-    sub-least-2
-    least-requires
-    mask-requires
-    mul-word
-    slice-read-word
-    same-length
-    returns
-    mul-marks
-    slice-write-marks
-    add-at
-    loop-less
-    loop-again
-    same-length-2
-    returns-2)
+    (tie.spec Inv-loop μ-loop
+    (λ c. search needs) (λ c. search needs) (λ c. search needs) loop-holds
+    (λ c. search needs) (λ c. search needs) (λ c κs. search needs) mask-requires
+    (λ c. search needs) slice-read-word same-length returns
+    (λ c. search needs) slice-write-marks
+    (λ c. search needs) (λ c. search needs) loop-again
+    (λ c. search needs) returns-2)

@@ -12,8 +12,7 @@ use Prim.Native.Nat.{_-_}
 use mathlib.Core.Path.{subst}
 use base.Logic.{sep}
 use base.Fml.{GName, Fml}
-use types.Kit.{later, use2, pick, await, suffices, feqL}
-use types.Kit.{some as someI}
+use types.Kit.{later, use2, pick, await, suffices, feqL, some as someI}
 use denote.Builtin.{u64}
 use denote.Exit.{yes}
 use denote.Signature.{plain, shrSlice}

@@ -6,24 +6,6 @@ use Rattle.moves.proofs.MoveLaws.{down-rest}
 use Rattle.moves.proofs.move_down.Statement.{statement}
 use Rattle.moves.proofs.move_down.Tie as tie
 
-lower-words-requires : tie.Need-lower-words-requires
-lower-words-requires c κs = search needs
-
-add-lower-bytes : tie.Need-add-lower-bytes
-add-lower-bytes c = search needs
-
-add-lower-bytes-2 : tie.Need-add-lower-bytes-2
-add-lower-bytes-2 c = search needs
-
-sub-lower-bytes : tie.Need-sub-lower-bytes
-sub-lower-bytes c = search needs
-
-lower-bytes-requires : tie.Need-lower-bytes-requires
-lower-bytes-requires c κs = search needs
-
-same-length : tie.Need-same-length
-same-length c = search needs
-
 returns : tie.Need-returns
 returns c =
     let m = c .before .before in
@@ -36,11 +18,5 @@ returns c =
 pub move-down-spec : {M : Type 1} → statement M
 move-down-spec =
     tie.close
-    (tie.spec
-    lower-words-requires
-    add-lower-bytes
-    add-lower-bytes-2
-    sub-lower-bytes
-    lower-bytes-requires
-    same-length
-    returns)
+    (tie.spec (λ c κs. search needs) (λ c. search needs) (λ c. search needs) (λ c. search needs) (λ c κs. search needs)
+    (λ c. search needs) returns)

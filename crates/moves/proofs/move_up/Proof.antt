@@ -6,15 +6,6 @@ use Rattle.moves.proofs.MoveLaws.{up-rest}
 use Rattle.moves.proofs.move_up.Statement.{statement}
 use Rattle.moves.proofs.move_up.Tie as tie
 
-raise-words-requires : tie.Need-raise-words-requires
-raise-words-requires c κs = search needs
-
-raise-bytes-requires : tie.Need-raise-bytes-requires
-raise-bytes-requires c κs = search needs
-
-same-length : tie.Need-same-length
-same-length c = search needs
-
 returns : tie.Need-returns
 returns c =
     let m = c .before .before in
@@ -25,4 +16,4 @@ returns c =
     ∙ up-rest (a .b .now) (a .from) (a .to) (a .z) (w .raise-words .last .0) (w .raise-words .result) (w .raise-words .ensures) (s .pre .1)
 
 pub move-up-spec : {M : Type 1} → statement M
-move-up-spec = tie.close (tie.spec raise-words-requires raise-bytes-requires same-length returns)
+move-up-spec = tie.close (tie.spec (λ c κs. search needs) (λ c κs. search needs) (λ c. search needs) returns)

@@ -24,18 +24,6 @@ loop-holds c = (omega arith, refl)
 sub-loop : tie.Need-sub-loop Inv-loop μ-loop
 sub-loop c = c .loop .inv .0
 
-block-at-requires : tie.Need-block-at-requires Inv-loop μ-loop
-block-at-requires c κs = omega arith
-
-mix-requires : tie.Need-mix-requires Inv-loop μ-loop
-mix-requires c κs = search needs
-
-add-at : tie.Need-add-at Inv-loop μ-loop
-add-at c = omega arith
-
-loop-less : tie.Need-loop-less Inv-loop μ-loop
-loop-less c = omega arith
-
 loop-again : tie.Need-loop-again Inv-loop μ-loop
 loop-again c =
     let l = c .before .before .before in
@@ -45,18 +33,6 @@ loop-again c =
           ∙ blocks-turn key (l .loop .h) (l .loop .at) (omega arith)
           ∙ ap (λ (h : ℕ). blocks h (drop (l .loop .at + 4) key)) (cc),
     )
-
-tail-at-requires : tie.Need-tail-at-requires Inv-loop μ-loop
-tail-at-requires c κs = omega arith
-
-scramble-requires : tie.Need-scramble-requires Inv-loop μ-loop
-scramble-requires c κs = search needs
-
-cast-fmix : tie.Need-cast-fmix Inv-loop μ-loop
-cast-fmix c = search needs
-
-fmix-requires : tie.Need-fmix-requires Inv-loop μ-loop
-fmix-requires c κs = search needs
 
 returns : tie.Need-returns Inv-loop μ-loop
 unfolding murmur3 xor
@@ -75,18 +51,6 @@ returns c =
 pub hash-spec : {M : Type 1} → statement M
 hash-spec =
     tie.close
-    (tie.spec
-    Inv-loop
-    μ-loop
-    loop-holds
-    sub-loop
-    block-at-requires
-    mix-requires
-    add-at
-    loop-less
-    loop-again
-    tail-at-requires
-    scramble-requires
-    cast-fmix
-    fmix-requires
-    returns)
+    (tie.spec Inv-loop μ-loop loop-holds sub-loop
+    (λ c κs. omega arith) (λ c κs. search needs) (λ c. omega arith) (λ c. omega arith) loop-again
+    (λ c κs. omega arith) (λ c κs. search needs) (λ c. search needs) (λ c κs. search needs) returns)

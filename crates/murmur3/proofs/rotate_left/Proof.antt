@@ -4,17 +4,8 @@ use Rattle.murmur3.proofs.WordLaws.{rotate-shifts}
 use Rattle.murmur3.proofs.rotate_left.Statement.{statement}
 use Rattle.murmur3.proofs.rotate_left.Tie as tie
 
-shl-result : tie.Need-shl-result
-shl-result c = search needs
-
-sub-result : tie.Need-sub-result
-sub-result c = search needs
-
-shr-result : tie.Need-shr-result
-shr-result c = search needs
-
 returns : tie.Need-returns
 returns c = rotate-shifts (c .args .x) (c .args .r) (c .fits .x .fits) (c .pre .1)
 
 pub rotate-left-spec : {M : Type 1} → statement M
-rotate-left-spec = tie.close (tie.spec shl-result sub-result shr-result returns)
+rotate-left-spec = tie.close (tie.spec (λ c. search needs) (λ c. search needs) (λ c. search needs) returns)

@@ -21,12 +21,6 @@ abbrev μ-loop : tie.MeasureT-loop
 loop-holds : tie.Need-loop-holds Inv-loop μ-loop
 loop-holds c = (refl, refl)
 
-range-at-requires : tie.Need-range-at-requires Inv-loop μ-loop
-range-at-requires c κs = omega arith
-
-overlaps-requires : tie.Need-overlaps-requires Inv-loop μ-loop
-overlaps-requires c κs = search needs
-
 returns : tie.Need-returns Inv-loop μ-loop
 returns c =
     let r = c .before .before in
@@ -36,15 +30,6 @@ returns c =
     ∙ ap (overlapsAny (a .range))
     (ranges-at (a .s .now) (l .loop .p) (l .loop .left) (r .range-at .result) (r .before .loop-test .taken) (r .range-at .ensures))
     ∙ overlaps-found (r .range-at .result) _ (a .range) (sym (c .before .overlaps .ensures) ∙ c .if1 .taken))
-
-add-p : tie.Need-add-p Inv-loop μ-loop
-add-p c = omega arith
-
-sub-left : tie.Need-sub-left Inv-loop μ-loop
-sub-left c = omega arith
-
-loop-less : tie.Need-loop-less Inv-loop μ-loop
-loop-less c = omega arith
 
 loop-again : tie.Need-loop-again Inv-loop μ-loop
 loop-again c =
@@ -68,15 +53,6 @@ returns-2 c =
 pub bucket-overlaps-spec : {M : Type 1} → statement M
 bucket-overlaps-spec =
     tie.close
-    (tie.spec
-    Inv-loop
-    μ-loop
-    loop-holds
-    range-at-requires
-    overlaps-requires
-    returns
-    add-p
-    sub-left
-    loop-less
-    loop-again
-    returns-2)
+    (tie.spec Inv-loop μ-loop loop-holds
+    (λ c κs. omega arith) (λ c κs. search needs) returns
+    (λ c. omega arith) (λ c. omega arith) (λ c. omega arith) loop-again returns-2)

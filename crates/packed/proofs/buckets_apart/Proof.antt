@@ -19,9 +19,6 @@ abbrev μ-loop : tie.MeasureT-loop
 loop-holds : tie.Need-loop-holds Inv-loop μ-loop
 loop-holds c = (refl, refl)
 
-range-at-requires : tie.Need-range-at-requires Inv-loop μ-loop
-range-at-requires c κs = omega arith
-
 returns : tie.Need-returns Inv-loop μ-loop
 returns c =
     let r = c .before .before in
@@ -31,15 +28,6 @@ returns c =
     ∙ ap okBuckets (ranges-at s (l .loop .p) (l .loop .left) (r .range-at .result) (r .before .loop-test .taken) (r .range-at .ensures))
     ∙ ok-reversed (r .range-at .result) _ (c .if1 .taken))
 
-add-p : tie.Need-add-p Inv-loop μ-loop
-add-p c = omega arith
-
-sub-left : tie.Need-sub-left Inv-loop μ-loop
-sub-left c = omega arith
-
-bucket-overlaps-requires : tie.Need-bucket-overlaps-requires Inv-loop μ-loop
-bucket-overlaps-requires c κs = omega arith
-
 returns-2 : tie.Need-returns-2 Inv-loop μ-loop
 returns-2 c =
     let r = c .before .before .before .before in
@@ -48,9 +36,6 @@ returns-2 c =
     sym (l .loop .inv .1
     ∙ ap okBuckets (ranges-at s (l .loop .p) (l .loop .left) (r .range-at .result) (r .before .loop-test .taken) (r .range-at .ensures))
     ∙ ok-clash (r .range-at .result) _ (sym (c .before .bucket-overlaps .ensures) ∙ c .if2 .taken))
-
-loop-less : tie.Need-loop-less Inv-loop μ-loop
-loop-less c = omega arith
 
 loop-again : tie.Need-loop-again Inv-loop μ-loop
 loop-again c =
@@ -74,16 +59,7 @@ returns-3 c =
 pub buckets-apart-spec : {M : Type 1} → statement M
 buckets-apart-spec =
     tie.close
-    (tie.spec
-    Inv-loop
-    μ-loop
-    loop-holds
-    range-at-requires
-    returns
-    add-p
-    sub-left
-    bucket-overlaps-requires
-    returns-2
-    loop-less
-    loop-again
-    returns-3)
+    (tie.spec Inv-loop μ-loop loop-holds
+    (λ c κs. omega arith) returns
+    (λ c. omega arith) (λ c. omega arith) (λ c κs. omega arith) returns-2
+    (λ c. omega arith) loop-again returns-3)

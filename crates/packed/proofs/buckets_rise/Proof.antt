@@ -23,12 +23,6 @@ abbrev μ-loop : tie.MeasureT-loop
 loop-holds : tie.Need-loop-holds Inv-loop μ-loop
 loop-holds c = (refl, refl)
 
-range-at-requires : tie.Need-range-at-requires Inv-loop μ-loop
-range-at-requires c κs = omega arith
-
-starts-from-requires : tie.Need-starts-from-requires Inv-loop μ-loop
-starts-from-requires c κs = search needs
-
 returns : tie.Need-returns Inv-loop μ-loop
 returns c =
     let r = c .before .before in
@@ -38,18 +32,6 @@ returns c =
     ∙ ap (risingFrom (l .loop .low))
     (ranges-at (a .s .now) (l .loop .p) (l .loop .left) (r .range-at .result) (r .before .loop-test .taken) (r .range-at .ensures))
     ∙ rising-stops (r .range-at .result) _ (l .loop .low) (sym (c .before .starts-from .ensures) ∙ not-true _ (c .if1 .taken)))
-
-above-requires : tie.Need-above-requires Inv-loop μ-loop
-above-requires c κs = search needs
-
-add-p : tie.Need-add-p Inv-loop μ-loop
-add-p c = omega arith
-
-sub-left : tie.Need-sub-left Inv-loop μ-loop
-sub-left c = omega arith
-
-loop-less : tie.Need-loop-less Inv-loop μ-loop
-loop-less c = omega arith
 
 loop-again : tie.Need-loop-again Inv-loop μ-loop
 loop-again c =
@@ -75,16 +57,6 @@ returns-2 c =
 pub buckets-rise-spec : {M : Type 1} → statement M
 buckets-rise-spec =
     tie.close
-    (tie.spec
-    Inv-loop
-    μ-loop
-    loop-holds
-    range-at-requires
-    starts-from-requires
-    returns
-    above-requires
-    add-p
-    sub-left
-    loop-less
-    loop-again
-    returns-2)
+    (tie.spec Inv-loop μ-loop loop-holds
+    (λ c κs. omega arith) (λ c κs. search needs) returns
+    (λ c κs. search needs) (λ c. omega arith) (λ c. omega arith) (λ c. omega arith) loop-again returns-2)

@@ -4,25 +4,13 @@ use Rattle.packed.proofs.AssignmentLaws.{range-at}
 use Rattle.packed.proofs.range_at.Statement.{statement}
 use Rattle.packed.proofs.range_at.Tie as tie
 
-read-u16-requires : tie.Need-read-u16-requires
-read-u16-requires c κs = search needs
-
-cast-start : tie.Need-cast-start
-cast-start c = search needs
-
-add-read-u16 : tie.Need-add-read-u16
-add-read-u16 c = search needs
-
-read-u16-requires-2 : tie.Need-read-u16-requires-2
-read-u16-requires-2 c κs = search needs
-
-cast-end : tie.Need-cast-end
-cast-end c = search needs
-
 returns : tie.Need-returns
 returns c =
     let a = c .before .before .before .args in
     range-at (a .s .now) (a .at) (c .before .read-u16 .result) (c .read-u162 .result) (c .before .read-u16 .ensures) (c .read-u162 .ensures)
 
 pub range-at-spec : {M : Type 1} → statement M
-range-at-spec = tie.close (tie.spec read-u16-requires cast-start add-read-u16 read-u16-requires-2 cast-end returns)
+range-at-spec =
+    tie.close
+    (tie.spec (λ c κs. search needs) (λ c. search needs) (λ c. search needs) (λ c κs. search needs) (λ c. search needs)
+    returns)

@@ -19,32 +19,17 @@ Inv-loop s end count p₀ left₀ first₀ prev₀ p left first prev = Turn s en
 abbrev μ-loop : tie.MeasureT-loop
 μ-loop s end count p₀ left₀ first₀ prev₀ p left first prev = left
 
-least-requires : tie.Need-least-requires Inv-loop μ-loop
-least-requires c κs = search needs
-
 returns : tie.Need-returns Inv-loop μ-loop
 returns c = front-short (c .before .before .before .args .s .now) (rw (c .before .least .ensures) at (c .if1 .taken))
 
 read-u16-requires : tie.Need-read-u16-requires Inv-loop μ-loop
 read-u16-requires c κs = omega (arith, c .before .least .ensures)
 
-cast-count : tie.Need-cast-count Inv-loop μ-loop
-cast-count c = search needs
-
 loop-holds : tie.Need-loop-holds Inv-loop μ-loop
 loop-holds c =
     let m = c .before .before in
     turn-start (m .before .before .args .s .now) (m .least .result) (c .read-u16 .result) (m .least .ensures)
     (c .before .if1 .left) (c .read-u16 .ensures)
-
-read-record-requires : tie.Need-read-record-requires Inv-loop μ-loop
-read-record-requires c κs = search needs
-
-enum-known-id : tie.Need-enum-known-id Inv-loop μ-loop
-enum-known-id c = search needs
-
-enum-told : tie.Need-enum-told Inv-loop μ-loop
-enum-told c = search needs
 
 returns-2 : tie.Need-returns-2 Inv-loop μ-loop
 returns-2 c =
@@ -94,12 +79,6 @@ add-p c =
     let l = k .before .before .before .before .before in
     omega (arith, g .fits, g .size-is, l .loop .inv .in-s, l .before .before .before .before .before .good)
 
-sub-left : tie.Need-sub-left Inv-loop μ-loop
-sub-left c = search needs
-
-loop-less : tie.Need-loop-less Inv-loop μ-loop
-loop-less c = search needs
-
 loop-again : tie.Need-loop-again Inv-loop μ-loop
 loop-again c =
     let k = c .before in
@@ -127,21 +106,8 @@ returns-4 c =
 pub read-front-spec : {M : Type 1} → statement M
 read-front-spec =
     tie.close
-    (tie.spec
-    Inv-loop
-    μ-loop
-    least-requires
-    returns
-    read-u16-requires
-    cast-count
-    loop-holds
-    read-record-requires
-    enum-known-id
-    enum-told
-    returns-2
-    returns-3
-    add-p
-    sub-left
-    loop-less
-    loop-again
-    returns-4)
+    (tie.spec Inv-loop μ-loop
+    (λ c κs. search needs) returns read-u16-requires
+    (λ c. search needs) loop-holds
+    (λ c κs. search needs) (λ c. search needs) (λ c. search needs) returns-2 returns-3 add-p
+    (λ c. search needs) (λ c. search needs) loop-again returns-4)

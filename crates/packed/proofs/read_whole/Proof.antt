@@ -6,15 +6,6 @@ use Rattle.packed.proofs.FrontLaws.{whole-all, whole-more, whole-refuse
 use Rattle.packed.proofs.read_whole.Statement.{statement}
 use Rattle.packed.proofs.read_whole.Tie as tie
 
-read-front-requires : tie.Need-read-front-requires
-read-front-requires c κs = search needs
-
-enum-known-size : tie.Need-enum-known-size
-enum-known-size c = search needs
-
-enum-told : tie.Need-enum-told
-enum-told c = search needs
-
 returns : tie.Need-returns
 returns c =
     let k = c .before .before in
@@ -35,4 +26,5 @@ returns-3 c =
     whole-refused (r .before .before .args .s .now) (sym (c .enum-told .given .1) ∙ r .read-front .ensures)
 
 pub read-whole-spec : {M : Type 1} → statement M
-read-whole-spec = tie.close (tie.spec read-front-requires enum-known-size enum-told returns returns-2 returns-3)
+read-whole-spec =
+    tie.close (tie.spec (λ c κs. search needs) (λ c. search needs) (λ c. search needs) returns returns-2 returns-3)

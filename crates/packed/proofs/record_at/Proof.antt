@@ -16,37 +16,10 @@ seen : (k : tie.After-read-u16)
     Seen (a .s .now) (a .at) (u .read-u64 .result) (r .range-at .result) (k .read-u16 .result)
 seen k = record { id-is = k .before .before .read-u64 .ensures; range-is = k .before .range-at .ensures; count-is = k .read-u16 .ensures }
 
-sub-if1 : tie.Need-sub-if1
-sub-if1 c = search needs
-
 returns : tie.Need-returns
 returns c =
     let a = c .before .before .args in
     record-short (a .s .now) (a .at) (a .end) (omega (arith, size-least (segmentOf (drop (a .at) (a .s .now)))))
-
-read-u64-requires : tie.Need-read-u64-requires
-read-u64-requires c κs = search needs
-
-add-range-at : tie.Need-add-range-at
-add-range-at c = search needs
-
-range-at-requires : tie.Need-range-at-requires
-range-at-requires c κs = search needs
-
-add-read-u16 : tie.Need-add-read-u16
-add-read-u16 c = search needs
-
-read-u16-requires : tie.Need-read-u16-requires
-read-u16-requires c κs = search needs
-
-cast-count : tie.Need-cast-count
-cast-count c = search needs
-
-sub-if2 : tie.Need-sub-if2
-sub-if2 c = search needs
-
-sub-if2-2 : tie.Need-sub-if2-2
-sub-if2-2 c = search needs
 
 returns-2 : tie.Need-returns-2
 returns-2 c =
@@ -63,18 +36,6 @@ returns-3 c =
     let a = u .before .before .before .args in
     record-reversed (a .s .now) (a .at) (u .read-u64 .result) (k .before .range-at .result) (k .read-u16 .result) (seen k)
     (a .end) (c .if3 .taken)
-
-add-buckets-ok : tie.Need-add-buckets-ok
-add-buckets-ok c = search needs
-
-buckets-ok-requires : tie.Need-buckets-ok-requires
-buckets-ok-requires c κs = search needs
-
-mul-t14 : tie.Need-mul-t14
-mul-t14 c = search needs
-
-add-t15 : tie.Need-add-t15
-add-t15 c = search needs
 
 returns-4 : tie.Need-returns-4
 returns-4 c =
@@ -97,22 +58,7 @@ returns-5 c =
 pub record-at-spec : {M : Type 1} → statement M
 record-at-spec =
     tie.close
-    (tie.spec
-    sub-if1
-    returns
-    read-u64-requires
-    add-range-at
-    range-at-requires
-    add-read-u16
-    read-u16-requires
-    cast-count
-    sub-if2
-    sub-if2-2
-    returns-2
-    returns-3
-    add-buckets-ok
-    buckets-ok-requires
-    mul-t14
-    add-t15
-    returns-4
-    returns-5)
+    (tie.spec (λ c. search needs) returns
+    (λ c κs. search needs) (λ c. search needs) (λ c κs. search needs) (λ c. search needs) (λ c κs. search needs)
+    (λ c. search needs) (λ c. search needs) (λ c. search needs) returns-2 returns-3
+    (λ c. search needs) (λ c κs. search needs) (λ c. search needs) (λ c. search needs) returns-4 returns-5)

@@ -6,57 +6,6 @@ use Rattle.packed_int.proofs.WidthLaws.{read-add}
 use Rattle.packed_int.proofs.read_u64.Statement.{statement}
 use Rattle.packed_int.proofs.read_u64.Tie as tie
 
-read-u16-requires : tie.Need-read-u16-requires
-read-u16-requires c κs = search needs
-
-cast-two : tie.Need-cast-two
-cast-two c = search needs
-
-mul-four : tie.Need-mul-four
-mul-four c = search needs
-
-add-read-u16 : tie.Need-add-read-u16
-add-read-u16 c = search needs
-
-read-u16-requires-2 : tie.Need-read-u16-requires-2
-read-u16-requires-2 c κs = search needs
-
-cast-four : tie.Need-cast-four
-cast-four c = search needs
-
-add-four : tie.Need-add-four
-add-four c = search needs
-
-mul-six : tie.Need-mul-six
-mul-six c = search needs
-
-add-read-u16-2 : tie.Need-add-read-u16-2
-add-read-u16-2 c = search needs
-
-read-u16-requires-3 : tie.Need-read-u16-requires-3
-read-u16-requires-3 c κs = search needs
-
-cast-six : tie.Need-cast-six
-cast-six c = search needs
-
-add-six : tie.Need-add-six
-add-six c = search needs
-
-mul-result : tie.Need-mul-result
-mul-result c = search needs
-
-add-read-u16-3 : tie.Need-add-read-u16-3
-add-read-u16-3 c = search needs
-
-read-u16-requires-4 : tie.Need-read-u16-requires-4
-read-u16-requires-4 c κs = search needs
-
-cast-result : tie.Need-cast-result
-cast-result c = search needs
-
-add-result : tie.Need-add-result
-add-result c = search needs
-
 returns : tie.Need-returns
 returns c =
     let third = c .before in
@@ -72,22 +21,7 @@ returns c =
 pub read-u64-spec : {M : Type 1} → statement M
 read-u64-spec =
     tie.close
-    (tie.spec
-    read-u16-requires
-    cast-two
-    mul-four
-    add-read-u16
-    read-u16-requires-2
-    cast-four
-    add-four
-    mul-six
-    add-read-u16-2
-    read-u16-requires-3
-    cast-six
-    add-six
-    mul-result
-    add-read-u16-3
-    read-u16-requires-4
-    cast-result
-    add-result
-    returns)
+    (tie.spec (λ c κs. search needs) (λ c. search needs) (λ c. search needs) (λ c. search needs) (λ c κs. search needs)
+    (λ c. search needs) (λ c. search needs) (λ c. search needs) (λ c. search needs) (λ c κs. search needs)
+    (λ c. search needs) (λ c. search needs) (λ c. search needs) (λ c. search needs) (λ c κs. search needs)
+    (λ c. search needs) (λ c. search needs) returns)

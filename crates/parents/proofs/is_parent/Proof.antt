@@ -15,23 +15,11 @@ use Rattle.parents.proofs.is_parent.Tie as tie
 has-scheme : (c : tie.Then1) → startsWith topicScheme (c .before .before .before .before .args .s .now) ≡ true
 has-scheme c = sym (c .before .starts-with .ensures) ∙ c .if1 .taken
 
-slice-aggregate-starts-with : tie.Need-slice-aggregate-starts-with
-slice-aggregate-starts-with c = search needs
-
-starts-with-requires : tie.Need-starts-with-requires
-starts-with-requires c κs = search needs
-
 sub-is-path : tie.Need-sub-is-path
 sub-is-path c = starts-long topicScheme (c .before .before .before .before .args .s .now) (has-scheme c)
 
 part-is-path-start : tie.Need-part-is-path-start
 part-is-path-start c = omega (arith, sub-is-path c)
-
-part-is-path-end : tie.Need-part-is-path-end
-part-is-path-end c = search needs
-
-is-path-requires : tie.Need-is-path-requires
-is-path-requires c κs = search needs
 
 returns : tie.Need-returns
 returns c =
@@ -44,12 +32,5 @@ returns-2 c = sym (parent-not (c .before .before .before .before .args .s .now) 
 pub is-parent-spec : {M : Type 1} → statement M
 is-parent-spec =
     tie.close
-    (tie.spec
-    slice-aggregate-starts-with
-    starts-with-requires
-    sub-is-path
-    part-is-path-start
-    part-is-path-end
-    is-path-requires
-    returns
-    returns-2)
+    (tie.spec (λ c. search needs) (λ c κs. search needs) sub-is-path part-is-path-start
+    (λ c. search needs) (λ c κs. search needs) returns returns-2)

@@ -13,33 +13,9 @@ returns c = sym (same-length _ _ (c .if1 .taken))
 returns-2 : tie.Need-returns-2
 returns-2 c = let a = c .before .before .before .before .args in sym (same-end (a .a .now) (a .b .now) 0 (omega arith) (omega arith))
 
-same-by-requires : tie.Need-same-by-requires
-same-by-requires c κs = search needs
-
-returns-3 : tie.Need-returns-3
-returns-3 c = search needs
-
-same-by-requires-2 : tie.Need-same-by-requires-2
-same-by-requires-2 c κs = search needs
-
-returns-4 : tie.Need-returns-4
-returns-4 c = search needs
-
-same-by-requires-3 : tie.Need-same-by-requires-3
-same-by-requires-3 c κs = search needs
-
-returns-5 : tie.Need-returns-5
-returns-5 c = search needs
-
 pub same-spec : {M : Type 1} → statement M
 same-spec =
     tie.close
-    (tie.spec
-    returns
-    returns-2
-    same-by-requires
-    returns-3
-    same-by-requires-2
-    returns-4
-    same-by-requires-3
-    returns-5)
+    (tie.spec returns returns-2
+    (λ c κs. search needs) (λ c. search needs) (λ c κs. search needs) (λ c. search needs) (λ c κs. search needs)
+    (λ c. search needs))

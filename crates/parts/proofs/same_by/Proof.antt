@@ -17,14 +17,8 @@ Inv-loop a b n last i₀ i = take i a ≡ take i b
 abbrev μ-loop : tie.MeasureT-loop
 μ-loop a b n last i₀ i = last - i
 
-sub-last : tie.Need-sub-last Inv-loop μ-loop
-sub-last c = search needs
-
 loop-holds : tie.Need-loop-holds Inv-loop μ-loop
 loop-holds c = refl
-
-same-at-requires : tie.Need-same-at-requires Inv-loop μ-loop
-same-at-requires c κs = search needs
 
 returns : tie.Need-returns Inv-loop μ-loop
 returns c =
@@ -34,20 +28,11 @@ returns c =
     (same-part (λ (s : List ℕ). take (a .n) (drop (l .loop .i) s)) (a .a .now) (a .b .now)
     (sym (c .before .same-at .ensures) ∙ not-true _ (c .if1 .taken)))
 
-add-i : tie.Need-add-i Inv-loop μ-loop
-add-i c = search needs
-
-loop-less : tie.Need-loop-less Inv-loop μ-loop
-loop-less c = search needs
-
 loop-again : tie.Need-loop-again Inv-loop μ-loop
 loop-again c =
     let l = c .before .before .before in
     let a = l .before .before .before .args in
     front-longer (a .a .now) (a .b .now) (l .loop .i) (l .loop .inv) (a .n) (sym (c .before .same-at .ensures) ∙ not-false _ (c .if1 .left))
-
-same-at-requires-2 : tie.Need-same-at-requires-2 Inv-loop μ-loop
-same-at-requires-2 c κs = search needs
 
 returns-2 : tie.Need-returns-2 Inv-loop μ-loop
 returns-2 c =
@@ -59,15 +44,8 @@ returns-2 c =
 pub same-by-spec : {M : Type 1} → statement M
 same-by-spec =
     tie.close
-    (tie.spec
-    Inv-loop
-    μ-loop
-    sub-last
-    loop-holds
-    same-at-requires
-    returns
-    add-i
-    loop-less
-    loop-again
-    same-at-requires-2
-    returns-2)
+    (tie.spec Inv-loop μ-loop
+    (λ c. search needs) loop-holds
+    (λ c κs. search needs) returns
+    (λ c. search needs) (λ c. search needs) loop-again
+    (λ c κs. search needs) returns-2)

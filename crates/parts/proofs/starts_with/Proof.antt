@@ -18,12 +18,9 @@ slice-aggregate-same c =
     let a = c .before .before .before .before .args in
     sym (length-take-le (length (a .prefix .now)) (a .s .now) (omega arith))
 
-same-requires : tie.Need-same-requires
-same-requires c κs = search needs
-
 returns-2 : tie.Need-returns-2
 unfolding startsWith
 returns-2 c = c .same .ensures
 
 pub starts-with-spec : {M : Type 1} → statement M
-starts-with-spec = tie.close (tie.spec returns slice-aggregate-same same-requires returns-2)
+starts-with-spec = tie.close (tie.spec returns slice-aggregate-same (λ c κs. search needs) returns-2)

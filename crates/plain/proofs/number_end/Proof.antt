@@ -9,9 +9,6 @@ use Rattle.plain.proofs.number_end.Tie as tie
 pub number-end-spec : {M : Type 1} → statement M
 number-end-spec =
     tie.close
-    (tie.spec
-    (λ c κs. search needs)
-    (λ c. search needs)
-    (λ c. search needs)
+    (tie.spec (λ c κs. search needs) (λ c. search needs) (λ c. search needs)
     (λ c h. number-some (subst (NumberSays _ _ _) (c .before .to .given .1) (c .before .before .before .number-at .ensures)))
     (λ c. none-above))

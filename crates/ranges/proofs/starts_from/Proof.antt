@@ -4,9 +4,6 @@ use borrow.Author.Tests.{le-leb, lt-leb}
 use Rattle.ranges.proofs.starts_from.Statement.{statement}
 use Rattle.ranges.proofs.starts_from.Tie as tie
 
-cast-if1 : tie.Need-cast-if1
-cast-if1 c = search needs
-
 returns : tie.Need-returns
 returns c = simp (le-leb _ _ (c .before .if1 .taken))
 
@@ -14,4 +11,4 @@ returns-2 : tie.Need-returns-2
 returns-2 c = simp (lt-leb _ _ (c .if1 .left))
 
 pub starts-from-spec : {M : Type 1} → statement M
-starts-from-spec = tie.close (tie.spec cast-if1 returns returns-2)
+starts-from-spec = tie.close (tie.spec (λ c. search needs) returns returns-2)

@@ -5,18 +5,6 @@ use Rattle.readers.specs.Messages.{codeOf}
 use Rattle.readers.proofs.error_code.Statement.{statement}
 use Rattle.readers.proofs.error_code.Tie as tie
 
-last-number-requires : tie.Need-last-number-requires
-last-number-requires c κs = search needs
-
-enum-known-v : tie.Need-enum-known-v
-enum-known-v c = search needs
-
-int32-requires : tie.Need-int32-requires
-int32-requires c κs = search needs
-
-enum-told : tie.Need-enum-told
-enum-told c = search needs
-
 returns : tie.Need-returns
 returns c = rw (sym (c .before .before .before .before .last-number .ensures) ∙ c .before .before .v .given .1) (search needs)
 
@@ -26,4 +14,4 @@ returns-2 c = sym (ap codeOf (sym (c .before .before .last-number .ensures) ∙ 
 pub error-code-spec : {M : Type 1} → statement M
 error-code-spec =
     tie.close
-    (tie.spec last-number-requires enum-known-v int32-requires enum-told returns returns-2)
+    (tie.spec (λ c κs. search needs) (λ c. search needs) (λ c κs. search needs) (λ c. search needs) returns returns-2)

@@ -8,18 +8,6 @@ use Rattle.readers.specs.Messages.{intRangeOf}
 use Rattle.readers.proofs.read_range.Statement.{statement}
 use Rattle.readers.proofs.read_range.Tie as tie
 
-number-requires : tie.Need-number-requires
-number-requires c κs = search needs
-
-int32-requires : tie.Need-int32-requires
-int32-requires c κs = search needs
-
-number-requires-2 : tie.Need-number-requires-2
-number-requires-2 c κs = search needs
-
-int32-requires-2 : tie.Need-int32-requires-2
-int32-requires-2 c κs = search needs
-
 returns : tie.Need-returns
 unfolding intRangeOf
 returns c =
@@ -30,4 +18,5 @@ returns c =
 
 pub read-range-spec : {M : Type 1} → statement M
 read-range-spec =
-    tie.close (tie.spec number-requires int32-requires number-requires-2 int32-requires-2 returns)
+    tie.close
+    (tie.spec (λ c κs. search needs) (λ c κs. search needs) (λ c κs. search needs) (λ c κs. search needs) returns)

@@ -4,20 +4,10 @@ use Rattle.readers.specs.Messages.{watchUpdateOf}
 use Rattle.readers.proofs.read_watch_update.Statement.{statement}
 use Rattle.readers.proofs.read_watch_update.Tie as tie
 
-number-requires : tie.Need-number-requires
-number-requires c κs = search needs
-
-read-event-requires : tie.Need-read-event-requires
-read-event-requires c κs = search needs
-
-error-code-requires : tie.Need-error-code-requires
-error-code-requires c κs = search needs
-
 returns : tie.Need-returns
 unfolding watchUpdateOf
 returns c = search needs
 
 pub read-watch-update-spec : {M : Type 1} → statement M
 read-watch-update-spec =
-    tie.close
-    (tie.spec number-requires read-event-requires error-code-requires returns)
+    tie.close (tie.spec (λ c κs. search needs) (λ c κs. search needs) (λ c κs. search needs) returns)

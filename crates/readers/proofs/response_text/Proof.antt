@@ -4,12 +4,9 @@ use Rattle.readers.specs.Messages.{responseOf}
 use Rattle.readers.proofs.response_text.Statement.{statement}
 use Rattle.readers.proofs.response_text.Tie as tie
 
-text-requires : tie.Need-text-requires
-text-requires c κs = search needs
-
 returns : tie.Need-returns
 unfolding responseOf
 returns c = c .text .ensures
 
 pub response-text-spec : {M : Type 1} → statement M
-response-text-spec = tie.close (tie.spec text-requires returns)
+response-text-spec = tie.close (tie.spec (λ c κs. search needs) returns)

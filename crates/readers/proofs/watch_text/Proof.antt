@@ -4,12 +4,9 @@ use Rattle.readers.specs.Messages.{watchUpdateOf}
 use Rattle.readers.proofs.watch_text.Statement.{statement}
 use Rattle.readers.proofs.watch_text.Tie as tie
 
-text-requires : tie.Need-text-requires
-text-requires c κs = search needs
-
 returns : tie.Need-returns
 unfolding watchUpdateOf
 returns c = c .text .ensures
 
 pub watch-text-spec : {M : Type 1} → statement M
-watch-text-spec = tie.close (tie.spec text-requires returns)
+watch-text-spec = tie.close (tie.spec (λ c κs. search needs) returns)

@@ -5,12 +5,9 @@ use borrow.Author.Needs.{needs}
 use Rattle.reply.proofs.plain.Statement.{statement}
 use Rattle.reply.proofs.plain.Tie as tie
 
-values-requires : tie.Need-values-requires
-values-requires c κs = search needs
-
 returns : tie.Need-returns
 unfolding replyWith wordAt
 returns c = c .values .ensures
 
 pub plain-spec : {M : Type 1} → statement M
-plain-spec = tie.close (tie.spec values-requires returns)
+plain-spec = tie.close (tie.spec (λ c κs. search needs) returns)

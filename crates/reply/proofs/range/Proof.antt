@@ -17,36 +17,6 @@ replyOf k v = replyWith 0 (k .args .number) (sourceValues v)
 arm : (k : tie.Start) {v : KeyRangeError} → k .args .source ≡ v → replyOf k v ≡ replyOf k (k .args .source)
 arm k e = ap (replyOf k) (sym e)
 
-enum-known-source : tie.Need-enum-known-source
-enum-known-source c = search needs
-
-cast-more : tie.Need-cast-more
-cast-more c = search needs
-
-more-requires : tie.Need-more-requires
-more-requires c κs = search needs
-
-enum-known-source-2 : tie.Need-enum-known-source-2
-enum-known-source-2 c = search needs
-
-cast-more-2 : tie.Need-cast-more-2
-cast-more-2 c = search needs
-
-more-requires-2 : tie.Need-more-requires-2
-more-requires-2 c κs = search needs
-
-enum-known-source-3 : tie.Need-enum-known-source-3
-enum-known-source-3 c = search needs
-
-cast-more-3 : tie.Need-cast-more-3
-cast-more-3 c = search needs
-
-cast-more-4 : tie.Need-cast-more-4
-cast-more-4 c = search needs
-
-more-requires-3 : tie.Need-more-requires-3
-more-requires-3 c κs = search needs
-
 returns : tie.Need-returns
 unfolding replyWith wordAt wordOf kindOf numbersOf
 returns c = c .more .ensures ∙ arm (c .before .before .before .before) (c .before .before .source .given .1)
@@ -62,17 +32,6 @@ returns-3 c = c .more3 .ensures ∙ arm (c .before .before .before .before) (c .
 pub range-spec : {M : Type 1} → statement M
 range-spec =
     tie.close
-    (tie.spec
-    enum-known-source
-    cast-more
-    more-requires
-    enum-known-source-2
-    cast-more-2
-    more-requires-2
-    enum-known-source-3
-    cast-more-3
-    cast-more-4
-    more-requires-3
-    returns
-    returns-2
-    returns-3)
+    (tie.spec (λ c. search needs) (λ c. search needs) (λ c κs. search needs) (λ c. search needs) (λ c. search needs)
+    (λ c κs. search needs) (λ c. search needs) (λ c. search needs) (λ c. search needs) (λ c κs. search needs) returns
+    returns-2 returns-3)

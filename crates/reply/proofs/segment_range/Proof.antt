@@ -5,17 +5,11 @@ use Rattle.reply.proofs.ReplyLaws.{source-count, reply-behind}
 use Rattle.reply.proofs.segment_range.Statement.{statement}
 use Rattle.reply.proofs.segment_range.Tie as tie
 
-range-requires : tie.Need-range-requires
-range-requires c κs = search needs
-
 add-more : tie.Need-add-more
 add-more c = let h = source-count _ _ (c .before .range .ensures) in search needs
-
-more-requires : tie.Need-more-requires
-more-requires c κs = search needs
 
 returns : tie.Need-returns
 returns c = c .more .ensures ∙ reply-behind _ _ _ (c .before .before .range .ensures)
 
 pub segment-range-spec : {M : Type 1} → statement M
-segment-range-spec = tie.close (tie.spec range-requires add-more more-requires returns)
+segment-range-spec = tie.close (tie.spec (λ c κs. search needs) add-more (λ c κs. search needs) returns)

@@ -6,12 +6,6 @@ use borrow.Author.Needs.{needs}
 use Rattle.reply.proofs.test.Statement.{statement}
 use Rattle.reply.proofs.test.Tie as tie
 
-plain-requires : tie.Need-plain-requires
-plain-requires c κs = search needs
-
-plain-requires-2 : tie.Need-plain-requires-2
-plain-requires-2 c κs = search needs
-
 returns : tie.Need-returns
 unfolding testReply
 returns c = c .plain .ensures ∙ sym (ap testReply (c .before .if1 .taken))
@@ -21,4 +15,4 @@ unfolding testReply
 returns-2 c = c .plain2 .ensures ∙ sym (ap testReply (c .before .if1 .left))
 
 pub test-spec : {M : Type 1} → statement M
-test-spec = tie.close (tie.spec plain-requires plain-requires-2 returns returns-2)
+test-spec = tie.close (tie.spec (λ c κs. search needs) (λ c κs. search needs) returns returns-2)

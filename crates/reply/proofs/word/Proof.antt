@@ -26,6 +26,4 @@ returns-2 : tie.Need-returns-2
 returns-2 c = word-negative (c .before .args .v) (c .before .fits .v) (c .if1 .left)
 
 pub word-spec : {M : Type 1} → statement M
-word-spec =
-    tie.close
-    (tie.spec cast-result add-result sub-result cast-result-2 sub-result-2 returns returns-2)
+word-spec = tie.close (tie.spec cast-result add-result sub-result cast-result-2 sub-result-2 returns returns-2)

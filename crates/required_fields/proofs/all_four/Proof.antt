@@ -7,8 +7,5 @@ use Rattle.required_fields.proofs.all_four.Tie as tie
 pub all-four-spec : {M : Type 1} → statement M
 all-four-spec =
     tie.close
-    (tie.spec
-    (λ c κs. search needs)
-    (λ c κs. search needs)
-    (λ c κs. search needs)
+    (tie.spec (λ c κs. search needs) (λ c κs. search needs) (λ c κs. search needs)
     (λ c. c .both3 .ensures ∙ rw (c .before .both2 .ensures, c .before .before .both .ensures)))

@@ -8,9 +8,4 @@ returns : tie.Need-returns
 returns c = rw (eq-eqb _ 5 (c .before .if1 .taken)) (c .range-complete .ensures)
 
 pub bucket-complete-spec : {M : Type 1} → statement M
-bucket-complete-spec =
-    tie.close
-    (tie.spec
-    (λ c κs. search needs)
-    returns
-    (λ c. rw (ne-eqb _ 5 (c .if1 .left))))
+bucket-complete-spec = tie.close (tie.spec (λ c κs. search needs) returns (λ c. rw (ne-eqb _ 5 (c .if1 .left))))

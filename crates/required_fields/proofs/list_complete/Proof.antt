@@ -13,9 +13,4 @@ returns c =
     (sym (assignment-is 2 (fieldsOf (c .before .before .before .args .s .now))))
 
 pub list-complete-spec : {M : Type 1} → statement M
-list-complete-spec =
-    tie.close
-    (tie.spec
-    (λ c κs. search needs)
-    (λ c κs. search needs)
-    returns)
+list-complete-spec = tie.close (tie.spec (λ c κs. search needs) (λ c κs. search needs) returns)

@@ -8,9 +8,4 @@ returns : tie.Need-returns
 returns c = rw (eq-eqb _ 2 (c .before .if1 .taken)) (c .segment-complete .ensures)
 
 pub part-complete-spec : {M : Type 1} → statement M
-part-complete-spec =
-    tie.close
-    (tie.spec
-    (λ c κs. search needs)
-    returns
-    (λ c. rw (ne-eqb _ 2 (c .if1 .left))))
+part-complete-spec = tie.close (tie.spec (λ c κs. search needs) returns (λ c. rw (ne-eqb _ 2 (c .if1 .left))))

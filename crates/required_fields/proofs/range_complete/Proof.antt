@@ -13,10 +13,4 @@ returns c =
     (sym (range-is 0 (fieldsOf (c .before .before .before .before .args .p .now))))
 
 pub range-complete-spec : {M : Type 1} → statement M
-range-complete-spec =
-    tie.close
-    (tie.spec
-    (λ c κs. search needs)
-    (λ c κs. search needs)
-    (λ c κs. search needs)
-    returns)
+range-complete-spec = tie.close (tie.spec (λ c κs. search needs) (λ c κs. search needs) (λ c κs. search needs) returns)

@@ -43,17 +43,8 @@ returns-4 c =
 pub is-saved-spec : {M : Type 1} → statement M
 is-saved-spec =
     tie.close
-    (tie.spec
-    (λ c. search needs)
-    returns
-    (λ c κs. search needs)
-    returns-2
-    (λ c κs. search needs)
-    (λ c. search needs)
-    returns-3
-    (λ c. search needs)
-    (λ c κs. search needs)
-    (λ c. search needs)
-    slice-aggregate-crc32
-    (λ c κs. search needs)
-    returns-4)
+    (tie.spec (λ c. search needs) returns
+    (λ c κs. search needs) returns-2
+    (λ c κs. search needs) (λ c. search needs) returns-3
+    (λ c. search needs) (λ c κs. search needs) (λ c. search needs) slice-aggregate-crc32
+    (λ c κs. search needs) returns-4)

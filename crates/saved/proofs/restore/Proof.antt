@@ -56,16 +56,7 @@ returns-2 c =
 pub restore-spec : {M : Type 1} → statement M
 restore-spec =
     tie.close
-    (tie.spec
-    (λ c κs. search needs)
-    (λ c κs. search needs)
-    returns
-    read-record-requires
-    (λ c κs. search needs)
-    sub-end
-    sub-put-part
-    part-put-part-start
-    (λ c. search needs)
-    put-part-requires
-    (λ c. search needs)
-    returns-2)
+    (tie.spec (λ c κs. search needs) (λ c κs. search needs) returns read-record-requires
+    (λ c κs. search needs) sub-end sub-put-part part-put-part-start
+    (λ c. search needs) put-part-requires
+    (λ c. search needs) returns-2)

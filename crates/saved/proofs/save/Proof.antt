@@ -44,12 +44,6 @@ returns-3 c =
 pub save-spec : {M : Type 1} → statement M
 save-spec =
     tie.close
-    (tie.spec
-    returns
-    (λ c κs. search needs)
-    (λ c. search needs)
-    write-saved-requires
-    (λ c. search needs)
-    (λ c. search needs)
-    returns-2
-    returns-3)
+    (tie.spec returns
+    (λ c κs. search needs) (λ c. search needs) write-saved-requires
+    (λ c. search needs) (λ c. search needs) returns-2 returns-3)

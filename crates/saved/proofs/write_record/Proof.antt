@@ -81,14 +81,5 @@ returns c =
 pub write-record-spec : {M : Type 1} → statement M
 write-record-spec =
     tie.close
-    (tie.spec
-    (λ c. search needs)
-    slice-write-out-2
-    slice-write-out-3
-    write-positions-requires
-    write-u64-requires
-    write-u64-requires-2
-    write-u64-requires-3
-    write-u64-requires-4
-    same-length
-    returns)
+    (tie.spec (λ c. search needs) slice-write-out-2 slice-write-out-3 write-positions-requires write-u64-requires
+    write-u64-requires-2 write-u64-requires-3 write-u64-requires-4 same-length returns)

@@ -62,21 +62,7 @@ returns-2 c =
 pub write-saved-spec : {M : Type 1} → statement M
 write-saved-spec =
     tie.close
-    (tie.spec
-    (λ c. search needs)
-    returns
-    slice-aggregate-put-bytes
-    put-bytes-requires
-    (λ c κs. search needs)
-    (λ c κs. search needs)
-    (λ c. search needs)
-    (λ c κs. search needs)
-    (λ c κs. search needs)
-    (λ c. search needs)
-    slice-reshare-prefix-crc32
-    slice-aggregate-crc32
-    (λ c κs. search needs)
-    (λ c. search needs)
-    (λ c κs. search needs)
-    (λ c. search needs)
-    returns-2)
+    (tie.spec (λ c. search needs) returns slice-aggregate-put-bytes put-bytes-requires
+    (λ c κs. search needs) (λ c κs. search needs) (λ c. search needs) (λ c κs. search needs) (λ c κs. search needs)
+    (λ c. search needs) slice-reshare-prefix-crc32 slice-aggregate-crc32
+    (λ c κs. search needs) (λ c. search needs) (λ c κs. search needs) (λ c. search needs) returns-2)

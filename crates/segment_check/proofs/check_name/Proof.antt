@@ -47,15 +47,7 @@ returns-3 c =
 pub check-name-spec : {M : Type 1} → statement M
 check-name-spec =
     tie.close
-    (tie.spec
-    returns
-    (λ c. search needs)
-    (λ c. search needs)
-    (λ c. search needs)
-    (λ c. search needs)
-    sub-is-segment-topic-2
+    (tie.spec returns
+    (λ c. search needs) (λ c. search needs) (λ c. search needs) (λ c. search needs) sub-is-segment-topic-2
     part-is-segment-topic-start-2
-    (λ c. search needs)
-    (λ c κs. search needs)
-    returns-2
-    returns-3)
+    (λ c. search needs) (λ c κs. search needs) returns-2 returns-3)

@@ -36,9 +36,6 @@ least-at-requires c κs =
       turn-good s (a .m) (a .id) (l .loop .p) (l .loop .left) (l .loop .inv) (i .loop-test .taken),
     )
 
-key-at-requires : tie.Need-key-at-requires Inv-loop μ-loop
-key-at-requires c κs = search needs
-
 returns : tie.Need-returns Inv-loop μ-loop
 returns c =
     let t = c .before .before in
@@ -67,12 +64,6 @@ add-p c =
       rest-head (b .args .s .now) (l .loop .p) (l .loop .left) (c .size-at .result) (i .loop-test .taken) (c .size-at .ensures) (l .loop .inv .rest),
     )
 
-sub-left : tie.Need-sub-left Inv-loop μ-loop
-sub-left c = omega arith
-
-loop-less : tie.Need-loop-less Inv-loop μ-loop
-loop-less c = omega arith
-
 loop-again : tie.Need-loop-again Inv-loop μ-loop
 loop-again c =
     let t = c .before .before in
@@ -91,17 +82,6 @@ returns-2 c =
 pub key-among-spec : {M : Type 1} → statement M
 key-among-spec =
     tie.close
-    (tie.spec
-    Inv-loop
-    μ-loop
-    loop-holds
-    id-at-requires
-    least-at-requires
-    key-at-requires
-    returns
-    size-at-requires
-    add-p
-    sub-left
-    loop-less
-    loop-again
-    returns-2)
+    (tie.spec Inv-loop μ-loop loop-holds id-at-requires least-at-requires
+    (λ c κs. search needs) returns size-at-requires add-p
+    (λ c. omega arith) (λ c. omega arith) loop-again returns-2)

@@ -12,15 +12,6 @@ whole-in c =
     let r = c .before .before .before in
     whole-read (r .before .before .args .assignment .now) _ _ (sym (c .before .count .given .1) ∙ r .read-whole .ensures)
 
-read-whole-requires : tie.Need-read-whole-requires
-read-whole-requires c κs = search needs
-
-enum-known-count : tie.Need-enum-known-count
-enum-known-count c = search needs
-
-enum-told : tie.Need-enum-told
-enum-told c = search needs
-
 returns : tie.Need-returns
 returns c =
     let r = c .before .before in
@@ -39,4 +30,4 @@ returns-2 c =
 pub key-in-segment-spec : {M : Type 1} → statement M
 key-in-segment-spec =
     tie.close
-    (tie.spec read-whole-requires enum-known-count enum-told returns key-among-requires returns-2)
+    (tie.spec (λ c κs. search needs) (λ c. search needs) (λ c. search needs) returns key-among-requires returns-2)

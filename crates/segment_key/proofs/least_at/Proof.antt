@@ -10,21 +10,12 @@ use Rattle.segment_key.proofs.WalkLaws.{at-size, at-whole, at-bucketed}
 use Rattle.segment_key.proofs.least_at.Statement.{statement}
 use Rattle.segment_key.proofs.least_at.Tie as tie
 
-add-range-at : tie.Need-add-range-at
-add-range-at c = search needs
-
 range-at-requires : tie.Need-range-at-requires
 range-at-requires c κs = omega (arith, size-least (segmentOf (drop (c .before .args .p) (c .before .args .s .now))))
-
-add-read-u16 : tie.Need-add-read-u16
-add-read-u16 c = search needs
 
 read-u16-requires : tie.Need-read-u16-requires
 read-u16-requires c κs =
     let a = c .before .before .args in omega (arith, size-least (segmentOf (drop (a .p) (a .s .now))))
-
-cast-count : tie.Need-cast-count
-cast-count c = search needs
 
 returns : tie.Need-returns
 returns c =
@@ -32,9 +23,6 @@ returns c =
     let r = n .before in
     let b = r .before .before in
     at-whole (b .args .s .now) (b .args .p) (r .range-at .result) (n .read-u16 .result) (r .range-at .ensures) (n .read-u16 .ensures) (b .pre .1) (c .if1 .taken)
-
-add-least-in : tie.Need-add-least-in
-add-least-in c = search needs
 
 least-in-requires : tie.Need-least-in-requires
 least-in-requires c κs =
@@ -54,13 +42,7 @@ returns-2 c =
 pub least-at-spec : {M : Type 1} → statement M
 least-at-spec =
     tie.close
-    (tie.spec
-    add-range-at
-    range-at-requires
-    add-read-u16
-    read-u16-requires
-    cast-count
-    returns
-    add-least-in
-    least-in-requires
-    returns-2)
+    (tie.spec (λ c. search needs) range-at-requires
+    (λ c. search needs) read-u16-requires
+    (λ c. search needs) returns
+    (λ c. search needs) least-in-requires returns-2)

@@ -6,9 +6,6 @@ use Rattle.segment_key.proofs.LeastLaws.{common-none, common-some}
 use Rattle.segment_key.proofs.least_common.Statement.{statement}
 use Rattle.segment_key.proofs.least_common.Tie as tie
 
-greater-requires : tie.Need-greater-requires
-greater-requires c κs = search needs
-
 returns : tie.Need-returns
 returns c =
     let g = c .before .before in
@@ -25,4 +22,4 @@ returns-3 c =
     common-some (g .before .args .a) (g .before .args .b) (g .greater .result) (g .greater .ensures) (c .before .before .if1 .left) (c .if2 .left)
 
 pub least-common-spec : {M : Type 1} → statement M
-least-common-spec = tie.close (tie.spec greater-requires returns returns-2 returns-3)
+least-common-spec = tie.close (tie.spec (λ c κs. search needs) returns returns-2 returns-3)

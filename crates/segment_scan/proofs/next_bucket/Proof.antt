@@ -16,9 +16,6 @@ returns c =
     let g : a .run .good ≡ false = not-true _ (c .if1 .taken) in
     (sym (bucket-behind (a .run) (a .r) g), rw g)
 
-is-bucket-requires : tie.Need-is-bucket-requires
-is-bucket-requires c κs = search needs
-
 returns-2 : tie.Need-returns-2
 returns-2 c =
     let a = c .before .before .before .before .before .args in
@@ -26,30 +23,12 @@ returns-2 c =
     let o : bucketOk (a .r) ≡ false = sym (c .before .is-bucket .ensures) ∙ not-true _ (c .if2 .taken) in
     (sym (bucket-bad (a .run) (a .r) g o), rw (g, o))
 
-key-range-of-requires : tie.Need-key-range-of-requires
-key-range-of-requires c κs = search needs
-
 write-bucket-requires : tie.Need-write-bucket-requires
 write-bucket-requires c κs =
     let a = c .before .before .before .before .before .before .before .args in
     let o : bucketOk (a .r) ≡ true = sym (c .before .before .before .is-bucket .ensures) ∙ not-false _ (c .before .before .if2 .left) in
     let f = bucket-fits (a .r .start) (a .r .end) o in
     (c .before .before .before .before .before .before .before .pre .0, rw (c .before .key-range-of .ensures) (omega arith, f .1))
-
-cast-and : tie.Need-cast-and
-cast-and c = search needs
-
-and-requires : tie.Need-and-requires
-and-requires c κs = search needs
-
-above-requires : tie.Need-above-requires
-above-requires c κs = search needs
-
-add-t18 : tie.Need-add-t18
-add-t18 c = search needs
-
-same-length : tie.Need-same-length
-same-length c = search needs
 
 returns-3 : tie.Need-returns-3
 returns-3 c =
@@ -65,15 +44,7 @@ returns-3 c =
 pub next-bucket-spec : {M : Type 1} → statement M
 next-bucket-spec =
     tie.close
-    (tie.spec
-    returns
-    is-bucket-requires
-    returns-2
-    key-range-of-requires
-    write-bucket-requires
-    cast-and
-    and-requires
-    above-requires
-    add-t18
-    same-length
-    returns-3)
+    (tie.spec returns
+    (λ c κs. search needs) returns-2
+    (λ c κs. search needs) write-bucket-requires
+    (λ c. search needs) (λ c κs. search needs) (λ c κs. search needs) (λ c. search needs) (λ c. search needs) returns-3)

@@ -82,32 +82,8 @@ part : (c : Part)
     (c .before .f2 .given .0 .1 .1 .0)
 part c = front (read c) _ (c .before .f2 .given .1)
 
-sub-room : tie.Need-sub-room Inv-loop μ-loop
-sub-room c = search needs
-
-no-buckets-requires : tie.Need-no-buckets-requires Inv-loop μ-loop
-no-buckets-requires c κs = search needs
-
 loop-holds : tie.Need-loop-holds Inv-loop μ-loop
 loop-holds c = rw (c .no-buckets .ensures) (numbers-start _, topic-start _, scanned-start _ _ _)
-
-sub-read-front : tie.Need-sub-read-front Inv-loop μ-loop
-sub-read-front c = search needs
-
-part-read-front-start : tie.Need-part-read-front-start Inv-loop μ-loop
-part-read-front-start c = search needs
-
-part-read-front-end : tie.Need-part-read-front-end Inv-loop μ-loop
-part-read-front-end c = search needs
-
-read-front-requires : tie.Need-read-front-requires Inv-loop μ-loop
-read-front-requires c κs = search needs
-
-enum-told : tie.Need-enum-told Inv-loop μ-loop
-enum-told c = search needs
-
-segment-scan-requires : tie.Need-segment-scan-requires Inv-loop μ-loop
-segment-scan-requires c κs = search needs
 
 same-length : tie.Need-same-length Inv-loop μ-loop
 same-length c = c .before .before .before .before .before .before .loop .inv .2 .long
@@ -117,15 +93,6 @@ returns c =
     let q = front (c .before .before .before) _ (c .before .enum-told .given .1) in
     let k = c .before .before .before .before .before .before .loop .inv in
     scanned-done (c .segment-scan .ensures) (head-says (q .numbers) (q .parts 4) (k .0) (k .1)) (ap (map intRangeOf) (q .parts 5)) (k .2)
-
-enum-known-f : tie.Need-enum-known-f Inv-loop μ-loop
-enum-known-f c = search needs
-
-mul-numbers : tie.Need-mul-numbers Inv-loop μ-loop
-mul-numbers c = search needs
-
-array-write-numbers : tie.Need-array-write-numbers Inv-loop μ-loop
-array-write-numbers c = search needs
 
 add-from : tie.Need-add-from Inv-loop μ-loop
 add-from c = let q = front (c .before .before .before .before) _ (c .before .before .f .given .1) in omega arith
@@ -142,9 +109,6 @@ loop-again c =
       scanned-stays (ap (map intRangeOf) (q .parts 5)) (omega arith) (k .2),
     )
 
-enum-known-f-2 : tie.Need-enum-known-f-2 Inv-loop μ-loop
-enum-known-f-2 c = search needs
-
 add-begin : tie.Need-add-begin Inv-loop μ-loop
 add-begin c = let q = part c in omega arith
 
@@ -154,14 +118,8 @@ add-end c = let q = part c in omega arith
 sub-read-bucket : tie.Need-sub-read-bucket Inv-loop μ-loop
 sub-read-bucket c = let q = part (c .before .before) in omega arith
 
-part-read-bucket-start : tie.Need-part-read-bucket-start Inv-loop μ-loop
-part-read-bucket-start c = search needs
-
 part-read-bucket-end : tie.Need-part-read-bucket-end Inv-loop μ-loop
 part-read-bucket-end c = let q = part (c .before .before) in omega arith
-
-read-bucket-requires : tie.Need-read-bucket-requires Inv-loop μ-loop
-read-bucket-requires c κs = search needs
 
 next-bucket-requires : tie.Need-next-bucket-requires Inv-loop μ-loop
 next-bucket-requires c κs =
@@ -199,9 +157,6 @@ loop-again-3 c =
       scanned-stays (ap (map intRangeOf) (part-other q 5 (c .if3 .left))) (omega arith) (k .2),
     )
 
-enum-known-size : tie.Need-enum-known-size Inv-loop μ-loop
-enum-known-size c = search needs
-
 add-from-2 : tie.Need-add-from-2 Inv-loop μ-loop
 add-from-2 c = let q = front (c .before .before .before) _ (c .before .size .given .1) in omega arith
 
@@ -217,9 +172,6 @@ loop-again-4 c =
       scanned-stays (ap (map intRangeOf) (q .parts 5)) (omega arith) (k .2),
     )
 
-segment-scan-requires-2 : tie.Need-segment-scan-requires-2 Inv-loop μ-loop
-segment-scan-requires-2 c κs = search needs
-
 same-length-2 : tie.Need-same-length-2 Inv-loop μ-loop
 same-length-2 c = c .before .before .loop .inv .2 .long
 
@@ -233,42 +185,13 @@ returns-2 c =
 pub scan-segment-spec : {M : Type 1} → statement M
 scan-segment-spec =
     tie.close
-    (tie.spec
-    Inv-loop
-    μ-loop
-    sub-room
-    no-buckets-requires
-    loop-holds
-    sub-read-front
-    part-read-front-start
-    part-read-front-end
-    read-front-requires
-    enum-told
-    segment-scan-requires
-    same-length
-    returns
-    enum-known-f
-    mul-numbers
-    array-write-numbers
-    add-from
-    loop-less
-    loop-again
-    enum-known-f-2
-    add-begin
-    add-end
-    sub-read-bucket
-    part-read-bucket-start
-    part-read-bucket-end
-    read-bucket-requires
-    next-bucket-requires
-    loop-less-2
-    loop-again-2
-    loop-less-3
-    loop-again-3
-    enum-known-size
-    add-from-2
-    loop-less-4
-    loop-again-4
-    segment-scan-requires-2
-    same-length-2
-    returns-2)
+    (tie.spec Inv-loop μ-loop
+    (λ c. search needs) (λ c κs. search needs) loop-holds
+    (λ c. search needs) (λ c. search needs) (λ c. search needs) (λ c κs. search needs) (λ c. search needs)
+    (λ c κs. search needs) same-length returns
+    (λ c. search needs) (λ c. search needs) (λ c. search needs) add-from loop-less loop-again
+    (λ c. search needs) add-begin add-end sub-read-bucket
+    (λ c. search needs) part-read-bucket-end
+    (λ c κs. search needs) next-bucket-requires loop-less-2 loop-again-2 loop-less-3 loop-again-3
+    (λ c. search needs) add-from-2 loop-less-4 loop-again-4
+    (λ c κs. search needs) same-length-2 returns-2)

@@ -24,15 +24,6 @@ part c =
     let a = c .before .before .before .before .before .before .args in
     path-length (a .topic .now) (a .out .now) _ _ _ (sym (c .before .before .before .parse-text .ensures) ∙ c .before .path-end .given .1)
 
-parse-text-requires : tie.Need-parse-text-requires
-parse-text-requires c κs = search needs
-
-enum-known-refusal : tie.Need-enum-known-refusal
-enum-known-refusal c = search needs
-
-enum-known-path-end : tie.Need-enum-known-path-end
-enum-known-path-end c = search needs
-
 sub-n : tie.Need-sub-n
 sub-n c = omega (arith, place c)
 
@@ -42,9 +33,6 @@ returns c =
     let a = k .before .before .before .before .before .before .args in
     let e = sym (k .before .before .before .parse-text .ensures) ∙ k .before .path-end .given .1 in
     sym (parent-no-room (a .topic .now) (a .out .now) _ _ _ e (omega arith))
-
-slice-aggregate-put-bytes : tie.Need-slice-aggregate-put-bytes
-slice-aggregate-put-bytes c = search needs
 
 put-bytes-requires : tie.Need-put-bytes-requires
 put-bytes-requires c κs = omega (arith, place (c .before .before .before))
@@ -69,9 +57,6 @@ returns-2 c =
     let e = sym (c .before .before .before .parse-text .ensures) ∙ c .before .refusal .given .1 in
     sym (parent-refused (a .topic .now) (a .out .now) _ e)
 
-same-length : tie.Need-same-length
-same-length c = search needs
-
 returns-3 : tie.Need-returns-3
 returns-3 c =
     let second = c .before .before in
@@ -85,18 +70,7 @@ returns-3 c =
 pub parent-topic-spec : {M : Type 1} → statement M
 parent-topic-spec =
     tie.close
-    (tie.spec
-    parse-text-requires
-    enum-known-refusal
-    enum-known-path-end
-    sub-n
-    returns
-    slice-aggregate-put-bytes
-    put-bytes-requires
-    sub-put-bytes
-    part-put-bytes-start
-    part-put-bytes-end
-    put-bytes-requires-2
+    (tie.spec (λ c κs. search needs) (λ c. search needs) (λ c. search needs) sub-n returns
+    (λ c. search needs) put-bytes-requires sub-put-bytes part-put-bytes-start part-put-bytes-end put-bytes-requires-2
     returns-2
-    same-length
-    returns-3)
+    (λ c. search needs) returns-3)

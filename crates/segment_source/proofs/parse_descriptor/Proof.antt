@@ -61,22 +61,10 @@ stage c =
 returns : tie.Need-returns
 returns c = sym (descriptor-short (c .before .before .args .path-end) (c .before .before .args .d .now) (omega arith))
 
-shared-slice-read-class-of : tie.Need-shared-slice-read-class-of
-shared-slice-read-class-of c = search needs
-
-class-of-requires : tie.Need-class-of-requires
-class-of-requires c κs = search needs
-
 returns-2 : tie.Need-returns-2
 returns-2 c =
     let a = c .before .before .before .before .before .args in
     sym (descriptor-no-dash-4 (a .path-end) (a .d .now) (λ e. c .if2 .taken (c .before .class-of .ensures ∙ e)))
-
-shared-slice-read-class-of-2 : tie.Need-shared-slice-read-class-of-2
-shared-slice-read-class-of-2 c = search needs
-
-class-of-requires-2 : tie.Need-class-of-requires-2
-class-of-requires-2 c κs = search needs
 
 returns-3 : tie.Need-returns-3
 returns-3 c =
@@ -86,60 +74,15 @@ returns-3 c =
 slice-aggregate-hex-word : tie.Need-slice-aggregate-hex-word
 slice-aggregate-hex-word c = sym (length-take-le 4 (text (c .before)) (omega arith))
 
-hex-word-requires : tie.Need-hex-word-requires
-hex-word-requires c κs = search needs
-
-enum-known-start : tie.Need-enum-known-start
-enum-known-start c = search needs
-
-enum-told : tie.Need-enum-told
-enum-told c = search needs
-
 returns-4 : tie.Need-returns-4
 returns-4 c =
     let p = c .before .before .before .before in
     sym (descriptor-no-start (pathEnd p) (text p) (sym (c .before .before .hex-word .ensures) ∙ c .enum-told .given .1))
 
-sub-hex-word : tie.Need-sub-hex-word
-sub-hex-word c = search needs
-
-part-hex-word-start : tie.Need-part-hex-word-start
-part-hex-word-start c = search needs
-
-part-hex-word-end : tie.Need-part-hex-word-end
-part-hex-word-end c = search needs
-
-hex-word-requires-2 : tie.Need-hex-word-requires-2
-hex-word-requires-2 c κs = search needs
-
-enum-known-end : tie.Need-enum-known-end
-enum-known-end c = search needs
-
-enum-told-2 : tie.Need-enum-told-2
-enum-told-2 c = search needs
-
 returns-5 : tie.Need-returns-5
 returns-5 c =
     let p = c .before .before .before .before .before .before .before .before .before in
     sym (descriptor-no-end (pathEnd p) (text p) (sym (c .before .before .hex-word2 .ensures) ∙ c .enum-told2 .given .1))
-
-sub-segment-id : tie.Need-sub-segment-id
-sub-segment-id c = search needs
-
-part-segment-id-start : tie.Need-part-segment-id-start
-part-segment-id-start c = search needs
-
-part-segment-id-end : tie.Need-part-segment-id-end
-part-segment-id-end c = search needs
-
-segment-id-requires : tie.Need-segment-id-requires
-segment-id-requires c κs = search needs
-
-enum-known-id : tie.Need-enum-known-id
-enum-known-id c = search needs
-
-enum-told-3 : tie.Need-enum-told-3
-enum-told-3 c = search needs
 
 returns-6 : tie.Need-returns-6
 returns-6 c =
@@ -160,15 +103,6 @@ cast-new-2 c =
     let p = word-told part _ (end-told two) in
     omega (arith, word-bound part (p .0), p .1)
 
-new-requires : tie.Need-new-requires
-new-requires c κs = search needs
-
-enum-known-source : tie.Need-enum-known-source
-enum-known-source c = search needs
-
-enum-known-range : tie.Need-enum-known-range
-enum-known-range c = search needs
-
 returns-7 : tie.Need-returns-7
 returns-7 c =
     let k = c .before .before .before in
@@ -184,37 +118,12 @@ returns-8 c =
 pub parse-descriptor-spec : {M : Type 1} → statement M
 parse-descriptor-spec =
     tie.close
-    (tie.spec
-    returns
-    shared-slice-read-class-of
-    class-of-requires
-    returns-2
-    shared-slice-read-class-of-2
-    class-of-requires-2
-    returns-3
-    slice-aggregate-hex-word
-    hex-word-requires
-    enum-known-start
-    enum-told
-    returns-4
-    sub-hex-word
-    part-hex-word-start
-    part-hex-word-end
-    hex-word-requires-2
-    enum-known-end
-    enum-told-2
-    returns-5
-    sub-segment-id
-    part-segment-id-start
-    part-segment-id-end
-    segment-id-requires
-    enum-known-id
-    enum-told-3
-    returns-6
-    cast-new
-    cast-new-2
-    new-requires
-    enum-known-source
-    enum-known-range
-    returns-7
-    returns-8)
+    (tie.spec returns
+    (λ c. search needs) (λ c κs. search needs) returns-2
+    (λ c. search needs) (λ c κs. search needs) returns-3 slice-aggregate-hex-word
+    (λ c κs. search needs) (λ c. search needs) (λ c. search needs) returns-4
+    (λ c. search needs) (λ c. search needs) (λ c. search needs) (λ c κs. search needs) (λ c. search needs)
+    (λ c. search needs) returns-5
+    (λ c. search needs) (λ c. search needs) (λ c. search needs) (λ c κs. search needs) (λ c. search needs)
+    (λ c. search needs) returns-6 cast-new cast-new-2
+    (λ c κs. search needs) (λ c. search needs) (λ c. search needs) returns-7 returns-8)

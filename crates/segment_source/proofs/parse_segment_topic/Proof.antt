@@ -49,12 +49,6 @@ path-answer c =
     let e : 10 + place k - 10 ≡ place k = omega arith in
     c .is-path .ensures ∙ ap (λ (m : ℕ). isPath (take m (drop 10 (text (k .before .before .before .before .before))))) e
 
-slice-aggregate-starts-with : tie.Need-slice-aggregate-starts-with
-slice-aggregate-starts-with c = search needs
-
-starts-with-requires : tie.Need-starts-with-requires
-starts-with-requires c κs = search needs
-
 returns : tie.Need-returns
 returns c =
     let t = c .before .before .before .before .args .t .now in
@@ -66,18 +60,6 @@ sub-last-slash c = starts-long segmentScheme (text c) (has-scheme c)
 part-last-slash-start : tie.Need-part-last-slash-start
 part-last-slash-start c = omega (arith, sub-last-slash c)
 
-part-last-slash-end : tie.Need-part-last-slash-end
-part-last-slash-end c = search needs
-
-last-slash-requires : tie.Need-last-slash-requires
-last-slash-requires c κs = search needs
-
-enum-known-n : tie.Need-enum-known-n
-enum-known-n c = search needs
-
-enum-told : tie.Need-enum-told
-enum-told c = search needs
-
 returns-2 : tie.Need-returns-2
 returns-2 c =
     let p = c .before .before .before .before in
@@ -86,17 +68,8 @@ returns-2 c =
 add-path-end : tie.Need-add-path-end
 add-path-end c = omega (arith, inside c)
 
-sub-is-path : tie.Need-sub-is-path
-sub-is-path c = search needs
-
-part-is-path-start : tie.Need-part-is-path-start
-part-is-path-start c = search needs
-
 part-is-path-end : tie.Need-part-is-path-end
 part-is-path-end c = omega (arith, inside c)
-
-is-path-requires : tie.Need-is-path-requires
-is-path-requires c κs = search needs
 
 returns-3 : tie.Need-returns-3
 returns-3 c =
@@ -114,12 +87,6 @@ sub-parse-descriptor c = omega (arith, inside (c .before .before .before))
 part-parse-descriptor-start : tie.Need-part-parse-descriptor-start
 part-parse-descriptor-start c = omega (arith, inside (c .before .before .before))
 
-part-parse-descriptor-end : tie.Need-part-parse-descriptor-end
-part-parse-descriptor-end c = search needs
-
-parse-descriptor-requires : tie.Need-parse-descriptor-requires
-parse-descriptor-requires c κs = search needs
-
 returns-4 : tie.Need-returns-4
 returns-4 c =
     let e = c .before .before in
@@ -134,26 +101,8 @@ returns-4 c =
 pub parse-segment-topic-spec : {M : Type 1} → statement M
 parse-segment-topic-spec =
     tie.close
-    (tie.spec
-    slice-aggregate-starts-with
-    starts-with-requires
-    returns
-    sub-last-slash
-    part-last-slash-start
-    part-last-slash-end
-    last-slash-requires
-    enum-known-n
-    enum-told
-    returns-2
-    add-path-end
-    sub-is-path
-    part-is-path-start
-    part-is-path-end
-    is-path-requires
-    returns-3
-    add-parse-descriptor
-    sub-parse-descriptor
-    part-parse-descriptor-start
-    part-parse-descriptor-end
-    parse-descriptor-requires
-    returns-4)
+    (tie.spec (λ c. search needs) (λ c κs. search needs) returns sub-last-slash part-last-slash-start
+    (λ c. search needs) (λ c κs. search needs) (λ c. search needs) (λ c. search needs) returns-2 add-path-end
+    (λ c. search needs) (λ c. search needs) part-is-path-end
+    (λ c κs. search needs) returns-3 add-parse-descriptor sub-parse-descriptor part-parse-descriptor-start
+    (λ c. search needs) (λ c κs. search needs) returns-4)

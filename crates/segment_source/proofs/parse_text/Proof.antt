@@ -7,14 +7,8 @@ use Rattle.segment_source.proofs.ParseLaws.{text-not-utf8, text-name}
 use Rattle.segment_source.proofs.parse_text.Statement.{statement}
 use Rattle.segment_source.proofs.parse_text.Tie as tie
 
-is-utf8-requires : tie.Need-is-utf8-requires
-is-utf8-requires c κs = search needs
-
 returns : tie.Need-returns
 returns c = sym (text-not-utf8 (c .before .before .before .args .t .now) (sym (c .before .is-utf8 .ensures) ∙ not-true _ (c .if1 .taken)))
-
-parse-segment-topic-requires : tie.Need-parse-segment-topic-requires
-parse-segment-topic-requires c κs = search needs
 
 returns-2 : tie.Need-returns-2
 returns-2 c =
@@ -23,5 +17,4 @@ returns-2 c =
     c .parse-segment-topic .ensures ∙ sym (text-name (e .before .before .before .args .t .now) text)
 
 pub parse-text-spec : {M : Type 1} → statement M
-parse-text-spec =
-    tie.close (tie.spec is-utf8-requires returns parse-segment-topic-requires returns-2)
+parse-text-spec = tie.close (tie.spec (λ c κs. search needs) returns (λ c κs. search needs) returns-2)

@@ -6,15 +6,6 @@ use Rattle.segment_source.proofs.ParseLaws.{source-refused, source-same
 use Rattle.segment_source.proofs.segment_source.Statement.{statement}
 use Rattle.segment_source.proofs.segment_source.Tie as tie
 
-parse-text-requires : tie.Need-parse-text-requires
-parse-text-requires c κs = search needs
-
-enum-known-refusal : tie.Need-enum-known-refusal
-enum-known-refusal c = search needs
-
-enum-known-key-range : tie.Need-enum-known-key-range
-enum-known-key-range c = search needs
-
 returns : tie.Need-returns
 returns c =
     let k = c .before .before .before in
@@ -36,11 +27,4 @@ returns-3 c =
 
 pub segment-source-spec : {M : Type 1} → statement M
 segment-source-spec =
-    tie.close
-    (tie.spec
-    parse-text-requires
-    enum-known-refusal
-    enum-known-key-range
-    returns
-    returns-2
-    returns-3)
+    tie.close (tie.spec (λ c κs. search needs) (λ c. search needs) (λ c. search needs) returns returns-2 returns-3)

@@ -71,26 +71,17 @@ lies c =
     let m = walked (c .before) in
     next-lies _ _ (m .next-change .result) (m .next-change .ensures .0 .0) (queue (m .before .before)) (low (c .before)) (c .read-u16 .result) (c .read-u16 .ensures)
 
-refuse-requires : tie.Need-refuse-requires
-refuse-requires c κs = search needs
-
 returns : tie.Need-returns
 returns c =
     let s = c .before .before .before .before in
     told (s .args .r) (s .args .store .now) (s .args .reader) (s .args .out .now) (c .refuse .ensures)
     (store-short (s .args .r) (s .args .store .now) (s .args .reader) (s .args .out .now) (c .before .if1 .taken))
 
-refuse-requires-2 : tie.Need-refuse-requires-2
-refuse-requires-2 c κs = search needs
-
 returns-2 : tie.Need-returns-2
 returns-2 c =
     let s = c .before .before .before .before .before in
     told (s .args .r) (s .args .store .now) (s .args .reader) (s .args .out .now) (c .refuse2 .ensures)
     (output-short (s .args .r) (s .args .store .now) (s .args .reader) (s .args .out .now) (c .before .before .if1 .left) (c .before .if2 .taken))
-
-refuse-requires-3 : tie.Need-refuse-requires-3
-refuse-requires-3 c κs = search needs
 
 returns-3 : tie.Need-returns-3
 returns-3 c =
@@ -100,12 +91,6 @@ returns-3 c =
     (reader-unknown (s .args .r) (s .args .store .now) (s .args .reader) (s .args .out .now) (e .before .if1 .left) (e .if2 .left)
     (c .before .if3 .taken))
 
-is-sound-requires : tie.Need-is-sound-requires
-is-sound-requires c κs = search needs
-
-refuse-requires-4 : tie.Need-refuse-requires-4
-refuse-requires-4 c κs = search needs
-
 returns-4 : tie.Need-returns-4
 returns-4 c =
     let k = c .before .before in
@@ -113,9 +98,6 @@ returns-4 c =
     told (s .args .r) (s .args .store .now) (s .args .reader) (s .args .out .now) (c .refuse4 .ensures)
     (store-bad (s .args .r) (s .args .store .now) (s .args .reader) (s .args .out .now) (k .before .before .before .if1 .left)
     (k .before .before .if2 .left) (k .before .if3 .left) (k .is-sound .result) (k .is-sound .ensures) (c .before .if4 .taken))
-
-unchanged-requires : tie.Need-unchanged-requires
-unchanged-requires c κs = search needs
 
 returns-5 : tie.Need-returns-5
 returns-5 c =
@@ -135,9 +117,6 @@ next-change-requires c κs =
 
 with-position-requires : tie.Need-with-position-requires
 with-position-requires c κs = taken (c .before .before .before .before .before .before) .known
-
-unchanged-requires-2 : tie.Need-unchanged-requires-2
-unchanged-requires-2 c κs = search needs
 
 returns-6 : tie.Need-returns-6
 returns-6 c =
@@ -197,21 +176,21 @@ pub drained-spec : {M : Type 1} → statement M
 drained-spec =
     tie.close
     (tie.spec
-    refuse-requires
+    (λ c κs. search needs)
     returns
-    refuse-requires-2
+    (λ c κs. search needs)
     returns-2
-    refuse-requires-3
+    (λ c κs. search needs)
     returns-3
-    is-sound-requires
-    refuse-requires-4
+    (λ c κs. search needs)
+    (λ c κs. search needs)
     returns-4
-    unchanged-requires
+    (λ c κs. search needs)
     returns-5
     position-requires
     next-change-requires
     with-position-requires
-    unchanged-requires-2
+    (λ c κs. search needs)
     returns-6
     read-u16-requires
     (λ c. search needs)

@@ -18,9 +18,6 @@ Inv-loop store from n before₀ until₀ at₀ i₀ before until at i =
 abbrev μ-loop : tie.MeasureT-loop
 μ-loop store from n before₀ until₀ at₀ i₀ before until at i = n - i
 
-skip-to-requires : tie.Need-skip-to-requires Inv-loop μ-loop
-skip-to-requires c κs = search needs
-
 loop-holds : tie.Need-loop-holds Inv-loop μ-loop
 loop-holds c =
     let s = c .before .before in
@@ -100,7 +97,7 @@ next-change-spec =
     (tie.spec
     Inv-loop
     μ-loop
-    skip-to-requires
+    (λ c κs. search needs)
     loop-holds
     read-u16-requires
     (λ c. search needs)

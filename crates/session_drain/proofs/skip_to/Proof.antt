@@ -54,16 +54,7 @@ returns c = let l = c .before in (l .loop .inv .0, omega (arith, l .loop .inv .1
 pub skip-to-spec : {M : Type 1} → statement M
 skip-to-spec =
     tie.close
-    (tie.spec
-    Inv-loop
-    μ-loop
-    (λ c. search needs)
-    loop-holds
-    read-u16-requires
-    (λ c. search needs)
-    add-before
-    add-until
-    (λ c. search needs)
-    (λ c. search needs)
-    loop-again
-    returns)
+    (tie.spec Inv-loop μ-loop
+    (λ c. search needs) loop-holds read-u16-requires
+    (λ c. search needs) add-before add-until
+    (λ c. search needs) (λ c. search needs) loop-again returns)

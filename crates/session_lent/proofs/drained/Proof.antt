@@ -13,4 +13,6 @@ returns c =
     lent-call (s .args .r) (c .session-reply .ensures) (rw (h .record-of .ensures) at (k .drained .ensures))
 
 pub drained-spec : {M : Type 1} → statement M
-drained-spec = tie.close (tie.spec (λ c κs. search needs) (λ c κs. search needs) (λ c κs. search needs) (λ c. search needs) returns)
+drained-spec =
+    tie.close
+    (tie.spec (λ c κs. search needs) (λ c κs. search needs) (λ c κs. search needs) (λ c. search needs) returns)

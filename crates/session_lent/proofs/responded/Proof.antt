@@ -13,4 +13,6 @@ returns c =
     λ out. lent-call (s .args .r) (c .session-reply .ensures) (rw (h .record-of .ensures) at (k .responded .ensures out))
 
 pub responded-spec : {M : Type 1} → statement M
-responded-spec = tie.close (tie.spec (λ c κs. search needs) (λ c κs. search needs) (λ c κs. search needs) (λ c. search needs) returns)
+responded-spec =
+    tie.close
+    (tie.spec (λ c κs. search needs) (λ c κs. search needs) (λ c κs. search needs) (λ c. search needs) returns)

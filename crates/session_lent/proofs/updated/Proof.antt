@@ -13,5 +13,7 @@ returns c =
     lent-call (s .args .r) (c .session-reply .ensures) (rw (h .record-of .ensures) at (k .updated .ensures))
 
 pub updated-spec : {M : Type 1} → statement M
-updated-spec = tie.close
-    (tie.spec (λ c κs. search needs) (λ c κs. search needs) (λ c κs. search needs) (λ c. search needs) (λ c. search needs) returns)
+updated-spec =
+    tie.close
+    (tie.spec (λ c κs. search needs) (λ c κs. search needs) (λ c κs. search needs) (λ c. search needs)
+    (λ c. search needs) returns)

@@ -16,9 +16,6 @@ returns c =
     let s = c .before .before .before .before in
     rw (le-ltb (s .args .r .incarnation .0) (s .args .incarnation .0) (omega (arith, c .if1 .taken)))
 
-unregister-requires : tie.Need-unregister-requires
-unregister-requires c κs = search needs
-
 returns-2 : tie.Need-returns-2
 unfolding beginOf
 returns-2 c =
@@ -27,4 +24,4 @@ returns-2 c =
     (ap (λ (next : SessionRecord). record { next = next; answer = Accepted }) (c .unregister .ensures))
 
 pub begun-spec : {M : Type 1} → statement M
-begun-spec = tie.close (tie.spec returns unregister-requires returns-2)
+begun-spec = tie.close (tie.spec returns (λ c κs. search needs) returns-2)

@@ -8,12 +8,9 @@ use borrow.Author.Needs.{needs}
 use Rattle.session_link.proofs.invalidated.Statement.{statement}
 use Rattle.session_link.proofs.invalidated.Tie as tie
 
-unregister-requires : tie.Need-unregister-requires
-unregister-requires c κs = search needs
-
 returns : tie.Need-returns
 unfolding invalidateOf
 returns c = ap (λ (next : SessionRecord). record { next = next; answer = Accepted }) (c .unregister .ensures)
 
 pub invalidated-spec : {M : Type 1} → statement M
-invalidated-spec = tie.close (tie.spec unregister-requires returns)
+invalidated-spec = tie.close (tie.spec (λ c κs. search needs) returns)

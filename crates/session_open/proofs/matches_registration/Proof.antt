@@ -27,18 +27,6 @@ given s =
 returns : tie.Need-returns
 returns c = match-short (c .before .before .before .before .before .args .store .now) _ (c .if1 .taken)
 
-sub-is-identity : tie.Need-sub-is-identity
-sub-is-identity c = search needs
-
-part-is-identity-start : tie.Need-part-is-identity-start
-part-is-identity-start c = search needs
-
-part-is-identity-end : tie.Need-part-is-identity-end
-part-is-identity-end c = search needs
-
-is-identity-requires : tie.Need-is-identity-requires
-is-identity-requires c κs = search needs
-
 named : (c : tie.After-is-identity)
     → c .is-identity .result ≡ isIdentity (slot (c .before .before .before .before .before .before .before .args .store .now) 0)
 named c = c .is-identity .ensures ∙ ap isIdentity (slot-at _ 0)
@@ -48,15 +36,6 @@ returns-2 c =
     let k = c .before .before .before in
     let s = k .before .before .before .before .before in
     match-damaged (s .args .store .now) (given s) (k .if1 .left) (c .before .is-identity .result) (named (c .before)) (c .if2 .taken)
-
-sub-same-identity : tie.Need-sub-same-identity
-sub-same-identity c = search needs
-
-part-same-identity-start : tie.Need-part-same-identity-start
-part-same-identity-start c = search needs
-
-part-same-identity-end : tie.Need-part-same-identity-end
-part-same-identity-end c = search needs
 
 same-identity-requires : tie.Need-same-identity-requires
 same-identity-requires c κs =
@@ -92,16 +71,6 @@ returns-4 c =
 pub matches-registration-spec : {M : Type 1} → statement M
 matches-registration-spec =
     tie.close
-    (tie.spec
-    returns
-    sub-is-identity
-    part-is-identity-start
-    part-is-identity-end
-    is-identity-requires
-    returns-2
-    sub-same-identity
-    part-same-identity-start
-    part-same-identity-end
-    same-identity-requires
-    returns-3
-    returns-4)
+    (tie.spec returns
+    (λ c. search needs) (λ c. search needs) (λ c. search needs) (λ c κs. search needs) returns-2
+    (λ c. search needs) (λ c. search needs) (λ c. search needs) same-identity-requires returns-3 returns-4)

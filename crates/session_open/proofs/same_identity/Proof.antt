@@ -9,33 +9,6 @@ use borrow.Author.Needs.{needs}
 use Rattle.session_open.proofs.same_identity.Statement.{statement}
 use Rattle.session_open.proofs.same_identity.Tie as tie
 
-read-u16-requires : tie.Need-read-u16-requires
-read-u16-requires c κs = search needs
-
-cast-second : tie.Need-cast-second
-cast-second c = search needs
-
-add-second : tie.Need-add-second
-add-second c = search needs
-
-read-u16-requires-2 : tie.Need-read-u16-requires-2
-read-u16-requires-2 c κs = search needs
-
-cast-third : tie.Need-cast-third
-cast-third c = search needs
-
-add-third : tie.Need-add-third
-add-third c = search needs
-
-read-u16-requires-3 : tie.Need-read-u16-requires-3
-read-u16-requires-3 c κs = search needs
-
-cast-end : tie.Need-cast-end
-cast-end c = search needs
-
-add-end : tie.Need-add-end
-add-end c = search needs
-
 abbrev given : tie.Start → Identity
 given s =
     record {
@@ -63,34 +36,16 @@ room : (c : tie.After-read-u163) → c .before .before .read-u16 .result + c .be
 room c =
     omega (arith, identity-room (start c .args .s .now) (start c .pre .1), lengths c .topic-is, lengths c .subscription-is, lengths c .name-is)
 
-sub-same : tie.Need-sub-same
-sub-same c = search needs
-
-part-same-start : tie.Need-part-same-start
-part-same-start c = search needs
-
 part-same-end : tie.Need-part-same-end
 part-same-end c = let h = room c in omega arith
-
-same-requires : tie.Need-same-requires
-same-requires c κs = search needs
 
 returns : tie.Need-returns
 returns c =
     let n = c .before .before .before in
     topic-other _ _ _ _ (lengths n) (given (start n)) (c .before .same .result) (c .before .same .ensures) (c .if1 .taken)
 
-sub-same-2 : tie.Need-sub-same-2
-sub-same-2 c = search needs
-
-part-same-start-2 : tie.Need-part-same-start-2
-part-same-start-2 c = search needs
-
 part-same-end-2 : tie.Need-part-same-end-2
 part-same-end-2 c = let h = room (c .before .before .before) in omega arith
-
-same-requires-2 : tie.Need-same-requires-2
-same-requires-2 c κs = search needs
 
 returns-2 : tie.Need-returns-2
 returns-2 c =
@@ -99,17 +54,8 @@ returns-2 c =
     subscription-other _ _ _ _ (lengths n) (given (start n)) (k .before .same .result) (k .before .same .ensures) (k .if1 .left)
     (c .before .same2 .result) (c .before .same2 .ensures) (c .if2 .taken)
 
-sub-same-3 : tie.Need-sub-same-3
-sub-same-3 c = search needs
-
-part-same-start-3 : tie.Need-part-same-start-3
-part-same-start-3 c = search needs
-
 part-same-end-3 : tie.Need-part-same-end-3
 part-same-end-3 c = let h = room (c .before .before .before .before .before .before) in omega arith
-
-same-requires-3 : tie.Need-same-requires-3
-same-requires-3 c κs = search needs
 
 returns-3 : tie.Need-returns-3
 returns-3 c =
@@ -118,12 +64,6 @@ returns-3 c =
     let n = k .before .before .before in
     name-other _ _ _ _ (lengths n) (given (start n)) (k .before .same .result) (k .before .same .ensures) (k .if1 .left)
     (m .before .same2 .result) (m .before .same2 .ensures) (m .if2 .left) (c .before .same3 .result) (c .before .same3 .ensures) (c .if3 .taken)
-
-shared-slice-read-result : tie.Need-shared-slice-read-result
-shared-slice-read-result c = search needs
-
-kind-byte-requires : tie.Need-kind-byte-requires
-kind-byte-requires c κs = search needs
 
 returns-4 : tie.Need-returns-4
 returns-4 c =
@@ -138,31 +78,12 @@ returns-4 c =
 pub same-identity-spec : {M : Type 1} → statement M
 same-identity-spec =
     tie.close
-    (tie.spec
-    read-u16-requires
-    cast-second
-    add-second
-    read-u16-requires-2
-    cast-third
-    add-third
-    read-u16-requires-3
-    cast-end
-    add-end
-    sub-same
-    part-same-start
-    part-same-end
-    same-requires
-    returns
-    sub-same-2
-    part-same-start-2
-    part-same-end-2
-    same-requires-2
-    returns-2
-    sub-same-3
-    part-same-start-3
-    part-same-end-3
-    same-requires-3
-    returns-3
-    shared-slice-read-result
-    kind-byte-requires
-    returns-4)
+    (tie.spec (λ c κs. search needs) (λ c. search needs) (λ c. search needs) (λ c κs. search needs) (λ c. search needs)
+    (λ c. search needs) (λ c κs. search needs) (λ c. search needs) (λ c. search needs) (λ c. search needs)
+    (λ c. search needs) part-same-end
+    (λ c κs. search needs) returns
+    (λ c. search needs) (λ c. search needs) part-same-end-2
+    (λ c κs. search needs) returns-2
+    (λ c. search needs) (λ c. search needs) part-same-end-3
+    (λ c κs. search needs) returns-3
+    (λ c. search needs) (λ c κs. search needs) returns-4)

@@ -12,16 +12,10 @@ returns c =
     let a = c .before .args in
     texts-over (length (a .topic .now)) (length (a .subscription .now)) (length (a .name .now)) (omega (arith, c .if1 .taken))
 
-sub-room : tie.Need-sub-room
-sub-room c = search needs
-
 returns-2 : tie.Need-returns-2
 returns-2 c =
     let a = c .before .before .args in
     texts-over (length (a .topic .now)) (length (a .subscription .now)) (length (a .name .now)) (omega (arith, c .if2 .taken))
-
-sub-result : tie.Need-sub-result
-sub-result c = search needs
 
 returns-3 : tie.Need-returns-3
 returns-3 c =
@@ -29,4 +23,4 @@ returns-3 c =
     texts-left (length (a .topic .now)) (length (a .subscription .now)) (length (a .name .now)) (c .before .if1 .left) (c .if2 .left)
 
 pub texts-fit-spec : {M : Type 1} → statement M
-texts-fit-spec = tie.close (tie.spec returns sub-room returns-2 sub-result returns-3)
+texts-fit-spec = tie.close (tie.spec returns (λ c. search needs) returns-2 (λ c. search needs) returns-3)

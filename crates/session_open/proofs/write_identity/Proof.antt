@@ -18,46 +18,16 @@ given s =
       consumerType = s .args .kind;
     }
 
-add-second : tie.Need-add-second
-add-second c = search needs
-
-add-third : tie.Need-add-third
-add-third c = search needs
-
-put-bytes-requires : tie.Need-put-bytes-requires
-put-bytes-requires c κs = search needs
-
-put-bytes-requires-2 : tie.Need-put-bytes-requires-2
-put-bytes-requires-2 c κs = search needs
-
-put-bytes-requires-3 : tie.Need-put-bytes-requires-3
-put-bytes-requires-3 c κs = search needs
-
-kind-byte-requires : tie.Need-kind-byte-requires
-kind-byte-requires c κs = search needs
-
 stored : (c : tie.After-kind-byte)
     → length (set (c .before .before .before .put-bytes3 .last .0) 6 (c .kind-byte .result))
     ≡ length (c .before .before .before .put-bytes3 .last .0)
 stored c = length-set (c .before .before .before .put-bytes3 .last .0) 6 (c .kind-byte .result)
 
-slice-write-store : tie.Need-slice-write-store
-slice-write-store c = search needs
-
-cast-write-u16 : tie.Need-cast-write-u16
-cast-write-u16 c = search needs
-
 write-u16-requires : tie.Need-write-u16-requires
 write-u16-requires c κs = omega (arith, stored (c .before))
 
-cast-write-u16-2 : tie.Need-cast-write-u16-2
-cast-write-u16-2 c = search needs
-
 write-u16-requires-2 : tie.Need-write-u16-requires-2
 write-u16-requires-2 c κs = omega (arith, stored (c .before .before .before .before .before))
-
-cast-write-u16-3 : tie.Need-cast-write-u16-3
-cast-write-u16-3 c = search needs
 
 write-u16-requires-3 : tie.Need-write-u16-requires-3
 write-u16-requires-3 c κs = omega (arith, stored (c .before .before .before .before .before .before .before .before .before))
@@ -90,19 +60,7 @@ returns c =
 pub write-identity-spec : {M : Type 1} → statement M
 write-identity-spec =
     tie.close
-    (tie.spec
-    add-second
-    add-third
-    put-bytes-requires
-    put-bytes-requires-2
-    put-bytes-requires-3
-    kind-byte-requires
-    slice-write-store
-    cast-write-u16
-    write-u16-requires
-    cast-write-u16-2
-    write-u16-requires-2
-    cast-write-u16-3
-    write-u16-requires-3
-    same-length
-    returns)
+    (tie.spec (λ c. search needs) (λ c. search needs) (λ c κs. search needs) (λ c κs. search needs)
+    (λ c κs. search needs) (λ c κs. search needs) (λ c. search needs) (λ c. search needs) write-u16-requires
+    (λ c. search needs) write-u16-requires-2
+    (λ c. search needs) write-u16-requires-3 same-length returns)

@@ -4,17 +4,8 @@ use borrow.Author.Needs.{needs}
 use Rattle.session_record.proofs.below_floor.Statement.{statement}
 use Rattle.session_record.proofs.below_floor.Tie as tie
 
-enum-told : tie.Need-enum-told
-enum-told c = search needs
-
-enum-known-floor : tie.Need-enum-known-floor
-enum-known-floor c = search needs
-
-returns : tie.Need-returns
-returns c = search needs
-
 returns-2 : tie.Need-returns-2
 returns-2 c = rw (c .before .floor .given .1)
 
 pub below-floor-spec : {M : Type 1} → statement M
-below-floor-spec = tie.close (tie.spec enum-told enum-known-floor returns returns-2)
+below-floor-spec = tie.close (tie.spec (λ c. search needs) (λ c. search needs) (λ c. search needs) returns-2)

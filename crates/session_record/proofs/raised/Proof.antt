@@ -5,12 +5,6 @@ use Rattle.session_record.proofs.FloorLaws.{floor-raised, floor-kept}
 use Rattle.session_record.proofs.raised.Statement.{statement}
 use Rattle.session_record.proofs.raised.Tie as tie
 
-enum-told : tie.Need-enum-told
-enum-told c = search needs
-
-enum-known-floor : tie.Need-enum-known-floor
-enum-known-floor c = search needs
-
 returns : tie.Need-returns
 returns c = rw (c .enum-told .given .1)
 
@@ -21,4 +15,4 @@ returns-3 : tie.Need-returns-3
 returns-3 c = rw (c .before .before .floor .given .1) (floor-kept _ _ (c .if1 .left))
 
 pub raised-spec : {M : Type 1} → statement M
-raised-spec = tie.close (tie.spec enum-told enum-known-floor returns returns-2 returns-3)
+raised-spec = tie.close (tie.spec (λ c. search needs) (λ c. search needs) returns returns-2 returns-3)

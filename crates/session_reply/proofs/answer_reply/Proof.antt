@@ -6,36 +6,6 @@ use borrow.Author.Needs.{needs}
 use Rattle.session_reply.proofs.answer_reply.Statement.{statement}
 use Rattle.session_reply.proofs.answer_reply.Tie as tie
 
-enum-known-a : tie.Need-enum-known-a
-enum-known-a c = search needs
-
-refused-requires : tie.Need-refused-requires
-refused-requires c κs = search needs
-
-enum-told : tie.Need-enum-told
-enum-told c = search needs
-
-plain-requires : tie.Need-plain-requires
-plain-requires c κs = search needs
-
-enum-told-2 : tie.Need-enum-told-2
-enum-told-2 c = search needs
-
-plain-requires-2 : tie.Need-plain-requires-2
-plain-requires-2 c κs = search needs
-
-enum-known-a-2 : tie.Need-enum-known-a-2
-enum-known-a-2 c = search needs
-
-one-requires : tie.Need-one-requires
-one-requires c κs = search needs
-
-enum-known-a-3 : tie.Need-enum-known-a-3
-enum-known-a-3 c = search needs
-
-two-requires : tie.Need-two-requires
-two-requires c κs = search needs
-
 returns : tie.Need-returns
 unfolding answerReply
 returns c = c .refused .ensures ∙ sym (ap answerReply (c .before .before .a .given .1))
@@ -59,19 +29,6 @@ returns-5 c = c .two .ensures ∙ sym (ap answerReply (c .before .before .a3 .gi
 pub answer-reply-spec : {M : Type 1} → statement M
 answer-reply-spec =
     tie.close
-    (tie.spec
-    enum-known-a
-    refused-requires
-    enum-told
-    plain-requires
-    enum-told-2
-    plain-requires-2
-    enum-known-a-2
-    one-requires
-    enum-known-a-3
-    two-requires
-    returns
-    returns-2
-    returns-3
-    returns-4
-    returns-5)
+    (tie.spec (λ c. search needs) (λ c κs. search needs) (λ c. search needs) (λ c κs. search needs) (λ c. search needs)
+    (λ c κs. search needs) (λ c. search needs) (λ c κs. search needs) (λ c. search needs) (λ c κs. search needs)
+    returns returns-2 returns-3 returns-4 returns-5)

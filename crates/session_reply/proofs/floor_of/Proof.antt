@@ -10,8 +10,5 @@ use Rattle.session_reply.proofs.floor_of.Tie as tie
 returns : tie.Need-returns
 returns c = ap (λ (b : Bool). floorOf b (c .before .args .floor)) (sym (c .if1 .taken))
 
-returns-2 : tie.Need-returns-2
-returns-2 c = search needs
-
 pub floor-of-spec : {M : Type 1} → statement M
-floor-of-spec = tie.close (tie.spec returns returns-2)
+floor-of-spec = tie.close (tie.spec returns (λ c. search needs))

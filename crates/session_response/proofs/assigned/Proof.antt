@@ -9,18 +9,6 @@ use borrow.Author.Needs.{needs}
 use Rattle.session_response.proofs.assigned.Statement.{statement}
 use Rattle.session_response.proofs.assigned.Tie as tie
 
-read-u64-requires : tie.Need-read-u64-requires
-read-u64-requires c κs = search needs
-
-below-floor-requires : tie.Need-below-floor-requires
-below-floor-requires c κs = search needs
-
-floor-value-requires : tie.Need-floor-value-requires
-floor-value-requires c κs = search needs
-
-refuse-requires : tie.Need-refuse-requires
-refuse-requires c κs = search needs
-
 -- the floor is met
 past : (c : tie.After-first-stale) → let s = c .before .before .before .before .before .before .before .before in
     Decided (s .args .r) (s .args .store .now) (assignmentOf (s .args .b .now)) (c .first-stale .result)
@@ -44,23 +32,11 @@ returns c =
     (buffer-epoch (s .args .b .now) (e .read-u64 .result) (e .read-u64 .ensures)) (f .below-floor .result) (f .below-floor .ensures)
     (c .before .before .if1 .taken) (c .before .floor-value .result) (c .before .floor-value .ensures))
 
-replay-count-requires : tie.Need-replay-count-requires
-replay-count-requires c κs = search needs
-
 first-stale-requires : tie.Need-first-stale-requires
 first-stale-requires c κs =
     let k = c .before in
     let s = k .before .before .before .before .before .before in
     (s .pre .0 .0, replayed-reads (s .args .r) (s .args .store .now) (k .replay-count .result) (k .replay-count .ensures) (s .pre .0 .1))
-
-enum-known-got : tie.Need-enum-known-got
-enum-known-got c = search needs
-
-refuse-requires-2 : tie.Need-refuse-requires-2
-refuse-requires-2 c κs = search needs
-
-enum-known-at : tie.Need-enum-known-at
-enum-known-at c = search needs
 
 register-requires : tie.Need-register-requires
 register-requires c κs =
@@ -72,9 +48,6 @@ register-requires c κs =
       (s .pre .1, (k .replay-count .ensures, last-begins (s .args .store .now) _ _ _ (sym (a .at .given .1) ∙ n .first-stale .ensures))),
     )
 
-same-length : tie.Need-same-length
-same-length c = search needs
-
 returns-2 : tie.Need-returns-2
 returns-2 c =
     let k = c .before .before in
@@ -83,9 +56,6 @@ returns-2 c =
     refused-out (s .args .r) (s .args .store .now) (c .refuse2 .result) _ _ (c .refuse2 .ensures)
     (assignment-stale (s .args .r) (s .args .store .now) (assignmentOf (s .args .b .now)) (n .first-stale .result) (past n)
     (k .got .given .0 .0) (k .got .given .0 .1 .0) (k .got .given .1))
-
-same-length-2 : tie.Need-same-length-2
-same-length-2 c = search needs
 
 returns-3 : tie.Need-returns-3
 returns-3 c =
@@ -100,19 +70,8 @@ returns-3 c =
 pub assigned-spec : {M : Type 1} → statement M
 assigned-spec =
     tie.close
-    (tie.spec
-    read-u64-requires
-    below-floor-requires
-    floor-value-requires
-    refuse-requires
-    returns
-    replay-count-requires
-    first-stale-requires
-    enum-known-got
-    refuse-requires-2
-    enum-known-at
-    register-requires
-    same-length
-    returns-2
-    same-length-2
-    returns-3)
+    (tie.spec (λ c κs. search needs) (λ c κs. search needs) (λ c κs. search needs) (λ c κs. search needs) returns
+    (λ c κs. search needs) first-stale-requires
+    (λ c. search needs) (λ c κs. search needs) (λ c. search needs) register-requires
+    (λ c. search needs) returns-2
+    (λ c. search needs) returns-3)

@@ -58,17 +58,6 @@ returns-2 c = stale-end _ _ _ _ _ _ _ (c .before .loop .inv) (c .loop-test .left
 pub first-stale-spec : {M : Type 1} → statement M
 first-stale-spec =
     tie.close
-    (tie.spec
-    Inv-loop
-    μ-loop
-    loop-holds
-    read-u16-requires
-    (λ c. search needs)
-    add-place
-    read-u64-requires
-    returns
-    add-at
-    (λ c. search needs)
-    (λ c. search needs)
-    loop-again
-    returns-2)
+    (tie.spec Inv-loop μ-loop loop-holds read-u16-requires
+    (λ c. search needs) add-place read-u64-requires returns add-at
+    (λ c. search needs) (λ c. search needs) loop-again returns-2)

@@ -4,11 +4,8 @@ use borrow.Author.Needs.{needs}
 use Rattle.session_response.proofs.registered_with.Statement.{statement}
 use Rattle.session_response.proofs.registered_with.Tie as tie
 
-raised-requires : tie.Need-raised-requires
-raised-requires c κs = search needs
-
 returns : tie.Need-returns
 returns c = rw (c .raised .ensures)
 
 pub registered-with-spec : {M : Type 1} → statement M
-registered-with-spec = tie.close (tie.spec raised-requires returns)
+registered-with-spec = tie.close (tie.spec (λ c κs. search needs) returns)

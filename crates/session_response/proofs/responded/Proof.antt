@@ -35,24 +35,12 @@ plain c =
     subst (λ (x : PlainMessage). PlainMessageSays (s .args .store .now) (s .args .message .now) 4 x (t .take-plain-message .last .1 .1 .1 .0))
     (c .size .given .1) (t .take-plain-message .ensures)
 
-refuse-requires : tie.Need-refuse-requires
-refuse-requires c κs = search needs
-
 returns : tie.Need-returns
 returns c =
     let s = c .before .before .before .before in
     call-out (s .args .r) (s .args .store .now) (c .refuse .result) (s .args .store .now) (s .args .message .now) (s .args .incarnation)
     (refused-out (s .args .r) (s .args .store .now) (c .refuse .result) _ _ (c .refuse .ensures)
     (call-short (s .args .r) (s .args .store .now) (s .args .message .now) (s .args .incarnation) (c .before .if1 .taken)))
-
-is-sound-requires : tie.Need-is-sound-requires
-is-sound-requires c κs = search needs
-
-refuse-requires-2 : tie.Need-refuse-requires-2
-refuse-requires-2 c κs = search needs
-
-same-length : tie.Need-same-length
-same-length c = search needs
 
 returns-2 : tie.Need-returns-2
 returns-2 c =
@@ -64,20 +52,11 @@ returns-2 c =
     (call-damaged (s .args .r) (s .args .store .now) (s .args .message .now) (s .args .incarnation) (k .if1 .left) (n .is-sound .result)
     (n .is-sound .ensures) (c .before .if2 .taken)))
 
-slice-aggregate-take-plain-message : tie.Need-slice-aggregate-take-plain-message
-slice-aggregate-take-plain-message c = search needs
-
 take-plain-message-requires : tie.Need-take-plain-message-requires
 take-plain-message-requires c κs =
     let e = c .before .before in
     let s = start e in
     ((e .before .before .before .if1 .left, identity-good (s .args .r) (s .args .store .now) (ap not (good e))), (inr refl, refl))
-
-enum-known-size : tie.Need-enum-known-size
-enum-known-size c = search needs
-
-slice-aggregate-answered : tie.Need-slice-aggregate-answered
-slice-aggregate-answered c = search needs
 
 answered-requires : tie.Need-answered-requires
 answered-requires c κs =
@@ -85,19 +64,10 @@ answered-requires c κs =
     let e = i .before .before .before .before .before .before in
     ((e .before .before .before .if1 .left, good e), plain i .answers .ready)
 
-enum-told : tie.Need-enum-told
-enum-told c = search needs
-
-slice-aggregate-scanned : tie.Need-slice-aggregate-scanned
-slice-aggregate-scanned c = search needs
-
 scanned-requires : tie.Need-scanned-requires
 scanned-requires c κs =
     let e = c .before .before .before .before .before .before .before .before in
     ((e .before .before .before .if1 .left, good e), search needs)
-
-same-length-2 : tie.Need-same-length-2
-same-length-2 c = search needs
 
 returns-3 : tie.Need-returns-3
 returns-3 c =
@@ -113,9 +83,6 @@ returns-3 c =
     ∙ message-valid (s .args .r) (s .args .store .now) (s .args .message .now) (s .args .incarnation) (plain i .valid))
     (a .answered .ensures (responseOf (s .args .message .now)) (plain-says (s .args .store .now) (s .args .message .now) _ _ _ (plain i))))
 
-same-length-3 : tie.Need-same-length-3
-same-length-3 c = search needs
-
 returns-4 : tie.Need-returns-4
 returns-4 c =
     let v = c .before .before .before in
@@ -130,22 +97,10 @@ returns-4 c =
 pub responded-spec : {M : Type 1} → statement M
 responded-spec =
     tie.close
-    (tie.spec
-    refuse-requires
-    returns
-    is-sound-requires
-    refuse-requires-2
-    same-length
-    returns-2
-    slice-aggregate-take-plain-message
-    take-plain-message-requires
-    enum-known-size
-    slice-aggregate-answered
-    answered-requires
-    enum-told
-    slice-aggregate-scanned
-    scanned-requires
-    same-length-2
-    returns-3
-    same-length-3
-    returns-4)
+    (tie.spec (λ c κs. search needs) returns
+    (λ c κs. search needs) (λ c κs. search needs) (λ c. search needs) returns-2
+    (λ c. search needs) take-plain-message-requires
+    (λ c. search needs) (λ c. search needs) answered-requires
+    (λ c. search needs) (λ c. search needs) scanned-requires
+    (λ c. search needs) returns-3
+    (λ c. search needs) returns-4)

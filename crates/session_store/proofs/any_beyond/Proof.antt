@@ -18,23 +18,11 @@ abbrev μ-loop : tie.MeasureT-loop
 loop-holds : tie.Need-loop-holds Inv-loop μ-loop
 loop-holds c = (refl, omega arith)
 
-sub-left : tie.Need-sub-left Inv-loop μ-loop
-sub-left c = search needs
-
-mul-if1 : tie.Need-mul-if1 Inv-loop μ-loop
-mul-if1 c = omega arith
-
-array-read-if1 : tie.Need-array-read-if1 Inv-loop μ-loop
-array-read-if1 c = omega arith
-
 returns : tie.Need-returns Inv-loop μ-loop
 returns c =
     let l = c .before .before in
     let r = l .before .before .args .r in
     sym (l .loop .inv .0 ∙ beyond-here (l .loop .left) (r .«queue_count») (r .«drain_positions») (c .before .loop-test .taken) (c .if1 .taken))
-
-loop-less : tie.Need-loop-less Inv-loop μ-loop
-loop-less c = omega arith
 
 loop-again : tie.Need-loop-again Inv-loop μ-loop
 loop-again c =
@@ -49,4 +37,8 @@ returns-2 c =
     sym (l .loop .inv .0 ∙ beyond-end (l .loop .left) (r .«queue_count») (r .«drain_positions») (c .loop-test .left))
 
 pub any-beyond-spec : {M : Type 1} → statement M
-any-beyond-spec = tie.close (tie.spec Inv-loop μ-loop loop-holds sub-left mul-if1 array-read-if1 returns loop-less loop-again returns-2)
+any-beyond-spec =
+    tie.close
+    (tie.spec Inv-loop μ-loop loop-holds
+    (λ c. search needs) (λ c. omega arith) (λ c. omega arith) returns
+    (λ c. omega arith) loop-again returns-2)

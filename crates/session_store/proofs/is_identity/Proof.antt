@@ -6,35 +6,8 @@ use borrow.Author.Needs.{needs}
 use Rattle.session_store.proofs.is_identity.Statement.{statement}
 use Rattle.session_store.proofs.is_identity.Tie as tie
 
-shared-slice-read-if1 : tie.Need-shared-slice-read-if1
-shared-slice-read-if1 c = search needs
-
 returns : tie.Need-returns
 returns c = kind-bad (c .before .before .before .args .s .now) (omega (arith, c .if1 .taken))
-
-read-u16-requires : tie.Need-read-u16-requires
-read-u16-requires c κs = search needs
-
-cast-topic : tie.Need-cast-topic
-cast-topic c = search needs
-
-read-u16-requires-2 : tie.Need-read-u16-requires-2
-read-u16-requires-2 c κs = search needs
-
-cast-subscription : tie.Need-cast-subscription
-cast-subscription c = search needs
-
-read-u16-requires-3 : tie.Need-read-u16-requires-3
-read-u16-requires-3 c κs = search needs
-
-cast-name : tie.Need-cast-name
-cast-name c = search needs
-
-add-if2 : tie.Need-add-if2
-add-if2 c = search needs
-
-add-if2-2 : tie.Need-add-if2-2
-add-if2-2 c = search needs
 
 lengths : (c : tie.After-read-u163)
     → Lengths (c .before .before .before .before .before .before .args .s .now)
@@ -49,42 +22,12 @@ lengths c =
 returns-2 : tie.Need-returns-2
 returns-2 c = texts-long _ _ _ _ (lengths (c .before)) (c .before .before .before .before .if1 .left) (c .if2 .taken)
 
-add-second : tie.Need-add-second
-add-second c = search needs
-
-add-third : tie.Need-add-third
-add-third c = search needs
-
-sub-is-utf8 : tie.Need-sub-is-utf8
-sub-is-utf8 c = search needs
-
-part-is-utf8-start : tie.Need-part-is-utf8-start
-part-is-utf8-start c = search needs
-
-part-is-utf8-end : tie.Need-part-is-utf8-end
-part-is-utf8-end c = search needs
-
-is-utf8-requires : tie.Need-is-utf8-requires
-is-utf8-requires c κs = search needs
-
 returns-3 : tie.Need-returns-3
 returns-3 c =
     let m = c .before .before .before in
     let n = m .before in
     topic-bad _ _ _ _ (lengths n) (n .before .before .before .if1 .left) (m .if2 .left) (c .before .is-utf8 .result)
     (c .before .is-utf8 .ensures) (c .if3 .taken)
-
-sub-is-utf8-2 : tie.Need-sub-is-utf8-2
-sub-is-utf8-2 c = search needs
-
-part-is-utf8-start-2 : tie.Need-part-is-utf8-start-2
-part-is-utf8-start-2 c = search needs
-
-part-is-utf8-end-2 : tie.Need-part-is-utf8-end-2
-part-is-utf8-end-2 c = search needs
-
-is-utf8-requires-2 : tie.Need-is-utf8-requires-2
-is-utf8-requires-2 c κs = search needs
 
 returns-4 : tie.Need-returns-4
 returns-4 c =
@@ -93,21 +36,6 @@ returns-4 c =
     let n = m .before in
     subscription-bad _ _ _ _ (lengths n) (n .before .before .before .if1 .left) (m .if2 .left) (k .before .is-utf8 .result)
     (k .before .is-utf8 .ensures) (k .if3 .left) (c .before .is-utf82 .result) (c .before .is-utf82 .ensures) (c .if4 .taken)
-
-add-is-utf8 : tie.Need-add-is-utf8
-add-is-utf8 c = search needs
-
-sub-is-utf8-3 : tie.Need-sub-is-utf8-3
-sub-is-utf8-3 c = search needs
-
-part-is-utf8-start-3 : tie.Need-part-is-utf8-start-3
-part-is-utf8-start-3 c = search needs
-
-part-is-utf8-end-3 : tie.Need-part-is-utf8-end-3
-part-is-utf8-end-3 c = search needs
-
-is-utf8-requires-3 : tie.Need-is-utf8-requires-3
-is-utf8-requires-3 c κs = search needs
 
 returns-5 : tie.Need-returns-5
 returns-5 c =
@@ -122,33 +50,10 @@ returns-5 c =
 pub is-identity-spec : {M : Type 1} → statement M
 is-identity-spec =
     tie.close
-    (tie.spec
-    shared-slice-read-if1
-    returns
-    read-u16-requires
-    cast-topic
-    read-u16-requires-2
-    cast-subscription
-    read-u16-requires-3
-    cast-name
-    add-if2
-    add-if2-2
-    returns-2
-    add-second
-    add-third
-    sub-is-utf8
-    part-is-utf8-start
-    part-is-utf8-end
-    is-utf8-requires
-    returns-3
-    sub-is-utf8-2
-    part-is-utf8-start-2
-    part-is-utf8-end-2
-    is-utf8-requires-2
-    returns-4
-    add-is-utf8
-    sub-is-utf8-3
-    part-is-utf8-start-3
-    part-is-utf8-end-3
-    is-utf8-requires-3
-    returns-5)
+    (tie.spec (λ c. search needs) returns
+    (λ c κs. search needs) (λ c. search needs) (λ c κs. search needs) (λ c. search needs) (λ c κs. search needs)
+    (λ c. search needs) (λ c. search needs) (λ c. search needs) returns-2
+    (λ c. search needs) (λ c. search needs) (λ c. search needs) (λ c. search needs) (λ c. search needs)
+    (λ c κs. search needs) returns-3
+    (λ c. search needs) (λ c. search needs) (λ c. search needs) (λ c κs. search needs) returns-4
+    (λ c. search needs) (λ c. search needs) (λ c. search needs) (λ c. search needs) (λ c κs. search needs) returns-5)

@@ -22,5 +22,4 @@ returns-2 c =
     sym (ap not (subst (λ (x : Tested). StoreTested (s .args .r) (s .args .store .now) x) (c .enum-told2 .given .1) (t .test-store .ensures)))
 
 pub is-sound-spec : {M : Type 1} → statement M
-is-sound-spec =
-    tie.close (tie.spec (λ c κs. search needs) (λ c. search needs) (λ c. search needs) returns returns-2)
+is-sound-spec = tie.close (tie.spec (λ c κs. search needs) (λ c. search needs) (λ c. search needs) returns returns-2)

@@ -9,18 +9,12 @@ returns : tie.Need-returns
 returns c =
     lists-free (c .before .before .args .registered) (c .before .before .args .store .now) (c .if1 .taken)
 
-starts-requires : tie.Need-starts-requires
-starts-requires c κs = search needs
-
 returns-2 : tie.Need-returns-2
 returns-2 c =
     let k = c .before .before in
     let s = k .before .before in
     baseline-bad (s .args .registered) (s .args .store .now) (k .if1 .left) (c .before .starts .result)
     (c .before .starts .ensures) (c .if2 .taken)
-
-starts-requires-2 : tie.Need-starts-requires-2
-starts-requires-2 c κs = search needs
 
 returns-3 : tie.Need-returns-3
 returns-3 c =
@@ -31,5 +25,4 @@ returns-3 c =
     (c .starts2 .result) (c .starts2 .ensures)
 
 pub lists-start-spec : {M : Type 1} → statement M
-lists-start-spec =
-    tie.close (tie.spec returns starts-requires returns-2 starts-requires-2 returns-3)
+lists-start-spec = tie.close (tie.spec returns (λ c κs. search needs) returns-2 (λ c κs. search needs) returns-3)

@@ -51,11 +51,6 @@ returns c =
 pub push-spec : {M : Type 1} → statement M
 push-spec =
     tie.close
-    (tie.spec
-    cast-write-u16
-    (λ c κs. search needs)
-    (λ c. search needs)
-    slice-aggregate-put-bytes
-    put-bytes-requires
-    (λ c. search needs)
-    returns)
+    (tie.spec cast-write-u16
+    (λ c κs. search needs) (λ c. search needs) slice-aggregate-put-bytes put-bytes-requires
+    (λ c. search needs) returns)

@@ -10,9 +10,6 @@ use borrow.Author.Needs.{needs}
 use Rattle.session_store.proofs.write_slot.Statement.{statement}
 use Rattle.session_store.proofs.write_slot.Tie as tie
 
-mul-put-bytes : tie.Need-mul-put-bytes
-mul-put-bytes c = search needs
-
 slice-aggregate-put-bytes : tie.Need-slice-aggregate-put-bytes
 slice-aggregate-put-bytes c =
     let s = c .before .before .before .before in
@@ -24,9 +21,6 @@ put-bytes-requires c κs =
     let e = length-take-le (s .args .n) (s .args .b .now) (omega (arith, scratch-fits _ _ (s .pre .1), s .pre .1 .long)) in
     omega (arith, e, scratch-fits _ _ (s .pre .1), s .pre .0)
 
-same-length : tie.Need-same-length
-same-length c = search needs
-
 returns : tie.Need-returns
 returns c =
     let s = c .before .before .before .before .before .before .before in
@@ -37,5 +31,4 @@ returns c =
 
 pub write-slot-spec : {M : Type 1} → statement M
 write-slot-spec =
-    tie.close
-    (tie.spec mul-put-bytes slice-aggregate-put-bytes put-bytes-requires same-length returns)
+    tie.close (tie.spec (λ c. search needs) slice-aggregate-put-bytes put-bytes-requires (λ c. search needs) returns)

@@ -88,21 +88,7 @@ returns-4 c =
 pub enqueued-spec : {M : Type 1} → statement M
 enqueued-spec =
     tie.close
-    (tie.spec
-    (λ c κs. search needs)
-    (λ c κs. search needs)
-    (λ c κs. search needs)
-    (λ c κs. search needs)
-    returns
-    (λ c κs. search needs)
-    returns-2
-    sub-if3
-    add-if3
-    (λ c κs. search needs)
-    returns-3
-    push-requires
-    add-with-queue-count
-    (λ c κs. search needs)
-    (λ c κs. search needs)
-    (λ c. search needs)
-    returns-4)
+    (tie.spec (λ c κs. search needs) (λ c κs. search needs) (λ c κs. search needs) (λ c κs. search needs) returns
+    (λ c κs. search needs) returns-2 sub-if3 add-if3
+    (λ c κs. search needs) returns-3 push-requires add-with-queue-count
+    (λ c κs. search needs) (λ c κs. search needs) (λ c. search needs) returns-4)

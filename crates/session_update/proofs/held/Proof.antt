@@ -19,28 +19,10 @@ epoch-is c = buffer-epoch (start (c .before) .args .b .now) (c .read-u64 .result
 prev-is : (c : tie.After-read-u642) → c .read-u642 .result ≡ listIn (start (c .before .before .before) .args .store .now) 2 .layoutEpoch
 prev-is c = list-epoch (start (c .before .before .before) .args .store .now) (c .read-u642 .result) (c .read-u642 .ensures)
 
-add-same-assignment : tie.Need-add-same-assignment
-add-same-assignment c = search needs
-
-sub-same-assignment : tie.Need-sub-same-assignment
-sub-same-assignment c = search needs
-
-part-same-assignment-start : tie.Need-part-same-assignment-start
-part-same-assignment-start c = search needs
-
-part-same-assignment-end : tie.Need-part-same-assignment-end
-part-same-assignment-end c = search needs
-
 same-assignment-requires : tie.Need-same-assignment-requires
 same-assignment-requires c κs =
     let s = c .before .before .before .before .before in
     (list-starts (s .args .store .now) (s .pre .1 .0), s .pre .1 .1 .starts)
-
-unchanged-requires : tie.Need-unchanged-requires
-unchanged-requires c κs = search needs
-
-same-length : tie.Need-same-length
-same-length c = search needs
 
 returns : tie.Need-returns
 returns c =
@@ -49,18 +31,6 @@ returns c =
     told (s .args .store .now) (s .args .out .now) (c .unchanged .ensures)
     (list-same (s .args .r) (s .args .store .now) (s .args .out .now) (assignmentOf (s .args .b .now))
     _ (list-there (s .args .store .now)) (k .same-assignment .result) (k .same-assignment .ensures) (c .before .if1 .taken))
-
-read-u64-requires : tie.Need-read-u64-requires
-read-u64-requires c κs = search needs
-
-read-u64-requires-2 : tie.Need-read-u64-requires-2
-read-u64-requires-2 c κs = search needs
-
-refuse-requires : tie.Need-refuse-requires
-refuse-requires c κs = search needs
-
-same-length-2 : tie.Need-same-length-2
-same-length-2 c = search needs
 
 returns-2 : tie.Need-returns-2
 returns-2 c =
@@ -73,18 +43,6 @@ returns-2 c =
     _ (list-there (s .args .store .now)) (k .before .same-assignment .result) (k .before .same-assignment .ensures) (k .if1 .left)
     (e .read-u64 .result) (p .read-u642 .result) (epoch-is e) (prev-is p) (c .before .if2 .taken))
 
-add-write-delta : tie.Need-add-write-delta
-add-write-delta c = search needs
-
-sub-write-delta : tie.Need-sub-write-delta
-sub-write-delta c = search needs
-
-part-write-delta-start : tie.Need-part-write-delta-start
-part-write-delta-start c = search needs
-
-part-write-delta-end : tie.Need-part-write-delta-end
-part-write-delta-end c = search needs
-
 write-delta-requires : tie.Need-write-delta-requires
 write-delta-requires c κs =
     let s = start (c .before .before .before .before .before .before .before) in
@@ -94,18 +52,6 @@ write-slot-requires : tie.Need-write-slot-requires
 write-slot-requires c κs =
     let s = start (c .before .before .before .before .before .before .before .before .before .before .before) in
     (omega (arith, s .pre .0 .0), s .pre .1 .1)
-
-raised-requires : tie.Need-raised-requires
-raised-requires c κs = search needs
-
-with-floor-requires : tie.Need-with-floor-requires
-with-floor-requires c κs = search needs
-
-same-length-3 : tie.Need-same-length-3
-same-length-3 c = search needs
-
-same-length-4 : tie.Need-same-length-4
-same-length-4 c = search needs
 
 returns-3 : tie.Need-returns-3
 returns-3 c =
@@ -124,28 +70,9 @@ returns-3 c =
 pub held-spec : {M : Type 1} → statement M
 held-spec =
     tie.close
-    (tie.spec
-    add-same-assignment
-    sub-same-assignment
-    part-same-assignment-start
-    part-same-assignment-end
-    same-assignment-requires
-    unchanged-requires
-    same-length
-    returns
-    read-u64-requires
-    read-u64-requires-2
-    refuse-requires
-    same-length-2
-    returns-2
-    add-write-delta
-    sub-write-delta
-    part-write-delta-start
-    part-write-delta-end
-    write-delta-requires
+    (tie.spec (λ c. search needs) (λ c. search needs) (λ c. search needs) (λ c. search needs) same-assignment-requires
+    (λ c κs. search needs) (λ c. search needs) returns
+    (λ c κs. search needs) (λ c κs. search needs) (λ c κs. search needs) (λ c. search needs) returns-2
+    (λ c. search needs) (λ c. search needs) (λ c. search needs) (λ c. search needs) write-delta-requires
     write-slot-requires
-    raised-requires
-    with-floor-requires
-    same-length-3
-    same-length-4
-    returns-3)
+    (λ c κs. search needs) (λ c κs. search needs) (λ c. search needs) (λ c. search needs) returns-3)

@@ -5,18 +5,9 @@ use Rattle.test_key.specs.Inverse.{blockForHash, keyForHash}
 use Rattle.test_key.proofs.key_for_hash.Statement.{statement}
 use Rattle.test_key.proofs.key_for_hash.Tie as tie
 
-undo-fmix-requires : tie.Need-undo-fmix-requires
-undo-fmix-requires c κs = search needs
-
-undo-mix-requires : tie.Need-undo-mix-requires
-undo-mix-requires c κs = search needs
-
-key-of-block-requires : tie.Need-key-of-block-requires
-key-of-block-requires c κs = search needs
-
 returns : tie.Need-returns
 unfolding keyForHash blockForHash xor
 returns c = cc
 
 pub key-for-hash-spec : {M : Type 1} → statement M
-key-for-hash-spec = tie.close (tie.spec undo-fmix-requires undo-mix-requires key-of-block-requires returns)
+key-for-hash-spec = tie.close (tie.spec (λ c κs. search needs) (λ c κs. search needs) (λ c κs. search needs) returns)

@@ -22,26 +22,11 @@ is-range : (c : tie.After-known-told2) →
     newKeyRange (a .start) (a .end) ≡ Valid (c .before .range .given .0 .0)
 is-range c = sym (c .before .before .before .new .ensures) ∙ c .before .range .given .1
 
-is-utf8-requires : tie.Need-is-utf8-requires
-is-utf8-requires c κs = search needs
-
 returns : tie.Need-returns
 returns c =
     let a = c .before .before .before .before .args in
     let other = sym (c .before .is-utf8 .ensures) ∙ not-true _ (c .if1 .taken) in
     sym (canonical-not-utf8 (a .parent .now) (a .start) (a .end) (a .id) (a .out .now) other)
-
-new-requires : tie.Need-new-requires
-new-requires c κs = search needs
-
-enum-known-source : tie.Need-enum-known-source
-enum-known-source c = search needs
-
-enum-known-range : tie.Need-enum-known-range
-enum-known-range c = search needs
-
-is-parent-requires : tie.Need-is-parent-requires
-is-parent-requires c κs = search needs
 
 sub-write-segment-topic : tie.Need-sub-write-segment-topic
 sub-write-segment-topic c =
@@ -51,21 +36,12 @@ sub-write-segment-topic c =
 part-write-segment-topic-start : tie.Need-part-write-segment-topic-start
 part-write-segment-topic-start c = omega (arith, sub-write-segment-topic c)
 
-part-write-segment-topic-end : tie.Need-part-write-segment-topic-end
-part-write-segment-topic-end c = search needs
-
-write-segment-topic-requires : tie.Need-write-segment-topic-requires
-write-segment-topic-requires c κs = search needs
-
 returns-2 : tie.Need-returns-2
 returns-2 c =
     let e = c .before .before .before .before in
     let a = e .before .before .before .before .args in
     let none = sym (c .before .before .before .new .ensures) ∙ c .before .source .given .1 in
     sym (canonical-no-range (a .parent .now) (a .start) (a .end) (a .id) (a .out .now) (is-text e) _ none)
-
-same-length : tie.Need-same-length
-same-length c = search needs
 
 returns-3 : tie.Need-returns-3
 returns-3 c =
@@ -89,18 +65,8 @@ returns-4 c =
 pub canonical-segment-topic-spec : {M : Type 1} → statement M
 canonical-segment-topic-spec =
     tie.close
-    (tie.spec
-    is-utf8-requires
-    returns
-    new-requires
-    enum-known-source
-    enum-known-range
-    is-parent-requires
-    sub-write-segment-topic
+    (tie.spec (λ c κs. search needs) returns
+    (λ c κs. search needs) (λ c. search needs) (λ c. search needs) (λ c κs. search needs) sub-write-segment-topic
     part-write-segment-topic-start
-    part-write-segment-topic-end
-    write-segment-topic-requires
-    returns-2
-    same-length
-    returns-3
-    returns-4)
+    (λ c. search needs) (λ c κs. search needs) returns-2
+    (λ c. search needs) returns-3 returns-4)

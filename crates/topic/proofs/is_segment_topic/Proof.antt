@@ -38,12 +38,6 @@ inside c =
     let a = c .before .before .before .before .before .before .before .before .args in
     path-inside (a .text .now) (a .path .now) (has-scheme (c .before .before .before)) (has-path c)
 
-slice-aggregate-starts-with : tie.Need-slice-aggregate-starts-with
-slice-aggregate-starts-with c = search needs
-
-starts-with-requires : tie.Need-starts-with-requires
-starts-with-requires c κs = search needs
-
 returns : tie.Need-returns
 returns c =
     let a = c .before .before .before .before .before .args in
@@ -56,23 +50,11 @@ sub-starts-with c = starts-long segmentScheme (c .before .before .before .before
 part-starts-with-start : tie.Need-part-starts-with-start
 part-starts-with-start c = omega (arith, sub-starts-with c)
 
-part-starts-with-end : tie.Need-part-starts-with-end
-part-starts-with-end c = search needs
-
-starts-with-requires-2 : tie.Need-starts-with-requires-2
-starts-with-requires-2 c κs = search needs
-
 returns-2 : tie.Need-returns-2
 returns-2 c =
     let a = c .before .before .before .before .before .before .before .before .args in
     let other = sym (path-test (c .before)) ∙ not-true _ (c .if2 .taken) in
     sym (name-other-path (a .text .now) (a .path .now) (a .range) (a .id) (has-scheme (c .before .before .before)) other)
-
-add-n : tie.Need-add-n
-add-n c = search needs
-
-descriptor-of-requires : tie.Need-descriptor-of-requires
-descriptor-of-requires c κs = search needs
 
 sub-same : tie.Need-sub-same
 sub-same c = inside (c .before .before)
@@ -80,20 +62,8 @@ sub-same c = inside (c .before .before)
 part-same-start : tie.Need-part-same-start
 part-same-start c = omega (arith, inside (c .before .before))
 
-part-same-end : tie.Need-part-same-end
-part-same-end c = search needs
-
-sub-same-2 : tie.Need-sub-same-2
-sub-same-2 c = search needs
-
-part-same-start-2 : tie.Need-part-same-start-2
-part-same-start-2 c = search needs
-
 part-same-end-2 : tie.Need-part-same-end-2
 part-same-end-2 c = omega (arith, c .before .before .before .descriptor-of .ensures .room .long)
-
-same-requires : tie.Need-same-requires
-same-requires c κs = search needs
 
 returns-3 : tie.Need-returns-3
 returns-3 c =
@@ -108,22 +78,8 @@ returns-3 c =
 pub is-segment-topic-spec : {M : Type 1} → statement M
 is-segment-topic-spec =
     tie.close
-    (tie.spec
-    slice-aggregate-starts-with
-    starts-with-requires
-    returns
-    sub-starts-with
-    part-starts-with-start
-    part-starts-with-end
-    starts-with-requires-2
-    returns-2
-    add-n
-    descriptor-of-requires
-    sub-same
-    part-same-start
-    part-same-end
-    sub-same-2
-    part-same-start-2
-    part-same-end-2
-    same-requires
-    returns-3)
+    (tie.spec (λ c. search needs) (λ c κs. search needs) returns sub-starts-with part-starts-with-start
+    (λ c. search needs) (λ c κs. search needs) returns-2
+    (λ c. search needs) (λ c κs. search needs) sub-same part-same-start
+    (λ c. search needs) (λ c. search needs) (λ c. search needs) part-same-end-2
+    (λ c κs. search needs) returns-3)

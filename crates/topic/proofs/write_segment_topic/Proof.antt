@@ -21,54 +21,15 @@ besides c =
     let d = c .descriptor-of in
     omega (arith, descriptor-from (a .range) (a .id) (d .result) (d .ensures), d .ensures .room .high)
 
-descriptor-of-requires : tie.Need-descriptor-of-requires
-descriptor-of-requires c κs = search needs
-
-sub-rest : tie.Need-sub-rest
-sub-rest c = search needs
-
 returns : tie.Need-returns
 returns c =
     let a = c .before .before .before .before .before .args in
     sym (name-no-room (a .path .now) (a .range) (a .id) (a .out .now) _ (besides (c .before .before)) (omega arith))
 
-sub-if2 : tie.Need-sub-if2
-sub-if2 c = search needs
-
 returns-2 : tie.Need-returns-2
 returns-2 c =
     let a = c .before .before .before .before .before .before .args in
     sym (name-no-room (a .path .now) (a .range) (a .id) (a .out .now) _ (besides (c .before .before .before)) (omega arith))
-
-add-n : tie.Need-add-n
-add-n c = search needs
-
-slice-aggregate-put-bytes : tie.Need-slice-aggregate-put-bytes
-slice-aggregate-put-bytes c = search needs
-
-put-bytes-requires : tie.Need-put-bytes-requires
-put-bytes-requires c κs = search needs
-
-put-bytes-requires-2 : tie.Need-put-bytes-requires-2
-put-bytes-requires-2 c κs = search needs
-
-sub-put-bytes : tie.Need-sub-put-bytes
-sub-put-bytes c = search needs
-
-part-put-bytes-start : tie.Need-part-put-bytes-start
-part-put-bytes-start c = search needs
-
-part-put-bytes-end : tie.Need-part-put-bytes-end
-part-put-bytes-end c = search needs
-
-put-bytes-requires-3 : tie.Need-put-bytes-requires-3
-put-bytes-requires-3 c κs = search needs
-
-add-len : tie.Need-add-len
-add-len c = search needs
-
-same-length : tie.Need-same-length
-same-length c = search needs
 
 returns-3 : tie.Need-returns-3
 returns-3 c =
@@ -85,20 +46,7 @@ returns-3 c =
 pub write-segment-topic-spec : {M : Type 1} → statement M
 write-segment-topic-spec =
     tie.close
-    (tie.spec
-    descriptor-of-requires
-    sub-rest
-    returns
-    sub-if2
-    returns-2
-    add-n
-    slice-aggregate-put-bytes
-    put-bytes-requires
-    put-bytes-requires-2
-    sub-put-bytes
-    part-put-bytes-start
-    part-put-bytes-end
-    put-bytes-requires-3
-    add-len
-    same-length
-    returns-3)
+    (tie.spec (λ c κs. search needs) (λ c. search needs) returns
+    (λ c. search needs) returns-2
+    (λ c. search needs) (λ c. search needs) (λ c κs. search needs) (λ c κs. search needs) (λ c. search needs)
+    (λ c. search needs) (λ c. search needs) (λ c κs. search needs) (λ c. search needs) (λ c. search needs) returns-3)

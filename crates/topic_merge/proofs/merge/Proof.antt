@@ -51,12 +51,6 @@ used-here l = let v = l .loop .inv in omega (arith, v .room, v .long)
 new-bytes : (l : tie.At-loop Inv-loop μ-loop) → Bytes (l .before .before .before .before .before .before .before .args .new .now)
 new-bytes l i = l .before .before .before .before .before .shared-slice-known .given i .fits
 
-add-end : tie.Need-add-end Inv-loop μ-loop
-add-end c = search needs
-
-move-up-requires : tie.Need-move-up-requires Inv-loop μ-loop
-move-up-requires c κs = search needs
-
 loop-holds : tie.Need-loop-holds Inv-loop μ-loop
 loop-holds c =
     let s = c .before .before .before .before .before .before in
@@ -71,9 +65,6 @@ read-u16-requires c κs =
     let l = c .before in
     let a = l .before .before .before .before .before .before .before .args in
     entry-two (a .new .now) (l .loop .at) (c .loop-test .taken) (l .loop .inv .new-rises .whole)
-
-cast-n : tie.Need-cast-n Inv-loop μ-loop
-cast-n c = search needs
 
 add-next : tie.Need-add-next Inv-loop μ-loop
 add-next c = omega (arith, fits-here c)
@@ -93,12 +84,6 @@ part-find-end c = used-here (c .before .before .before)
 add-find : tie.Need-add-find Inv-loop μ-loop
 add-find c = omega (arith, fits-here (c .before .before))
 
-sub-find-2 : tie.Need-sub-find-2 Inv-loop μ-loop
-sub-find-2 c = search needs
-
-part-find-start-2 : tie.Need-part-find-start-2 Inv-loop μ-loop
-part-find-start-2 c = search needs
-
 part-find-end-2 : tie.Need-part-find-end-2 Inv-loop μ-loop
 part-find-end-2 c = omega (arith, fits-here (c .before .before))
 
@@ -117,12 +102,6 @@ add-to c =
 
 add-from : tie.Need-add-from Inv-loop μ-loop
 add-from c = omega (arith, room-here (c .before .before .before .before .before .before))
-
-sub-put-bytes : tie.Need-sub-put-bytes Inv-loop μ-loop
-sub-put-bytes c = omega arith
-
-part-put-bytes-start : tie.Need-part-put-bytes-start Inv-loop μ-loop
-part-put-bytes-start c = omega arith
 
 part-put-bytes-end : tie.Need-part-put-bytes-end Inv-loop μ-loop
 part-put-bytes-end c = omega (arith, fits-here (c .before .before .before .before .before .before .before .before .before .before .before))
@@ -179,34 +158,9 @@ returns c =
 pub merge-spec : {M : Type 1} → statement M
 merge-spec =
     tie.close
-    (tie.spec
-    Inv-loop
-    μ-loop
-    add-end
-    move-up-requires
-    loop-holds
-    read-u16-requires
-    cast-n
-    add-next
-    add-next-2
-    sub-find
-    part-find-start
-    part-find-end
-    add-find
-    sub-find-2
-    part-find-start-2
-    part-find-end-2
-    find-requires
-    move-down-requires
-    add-to
-    add-from
-    sub-put-bytes
-    part-put-bytes-start
-    part-put-bytes-end
-    put-bytes-requires
-    add-to-2
-    add-to-3
-    loop-less
-    loop-again
-    same-length
-    returns)
+    (tie.spec Inv-loop μ-loop
+    (λ c. search needs) (λ c κs. search needs) loop-holds read-u16-requires
+    (λ c. search needs) add-next add-next-2 sub-find part-find-start part-find-end add-find
+    (λ c. search needs) (λ c. search needs) part-find-end-2 find-requires move-down-requires add-to add-from
+    (λ c. omega arith) (λ c. omega arith) part-put-bytes-end put-bytes-requires add-to-2 add-to-3 loop-less loop-again
+    same-length returns)

@@ -53,9 +53,6 @@ read-u16-requires c κs =
     let a = l .before .before .before .args in
     entry-two (a .gone .now) (l .loop .at) (c .loop-test .taken) (l .loop .inv .gone-rises .whole)
 
-cast-n : tie.Need-cast-n Inv-loop μ-loop
-cast-n c = search needs
-
 add-end : tie.Need-add-end Inv-loop μ-loop
 add-end c = omega (arith, fits-here c)
 
@@ -72,17 +69,8 @@ part-find-start c =
     let v = c .before .before .before .loop .inv in
     omega (arith, v .within, v .long)
 
-part-find-end : tie.Need-part-find-end Inv-loop μ-loop
-part-find-end c = search needs
-
 add-find : tie.Need-add-find Inv-loop μ-loop
 add-find c = omega (arith, fits-here (c .before .before))
-
-sub-find-2 : tie.Need-sub-find-2 Inv-loop μ-loop
-sub-find-2 c = search needs
-
-part-find-start-2 : tie.Need-part-find-start-2 Inv-loop μ-loop
-part-find-start-2 c = search needs
 
 part-find-end-2 : tie.Need-part-find-end-2 Inv-loop μ-loop
 part-find-end-2 c = omega (arith, fits-here (c .before .before))
@@ -105,9 +93,6 @@ add-from c = omega (arith, room-here (c .before .before .before .before .before 
 
 add-skip : tie.Need-add-skip Inv-loop μ-loop
 add-skip c = omega (arith, fits-here (c .before .before .before .before .before .before .before .before .before .before))
-
-skip-requires : tie.Need-skip-requires Inv-loop μ-loop
-skip-requires c κs = search needs
 
 add-from-2 : tie.Need-add-from-2 Inv-loop μ-loop
 add-from-2 c = omega (arith, rest-here c)
@@ -152,32 +137,8 @@ returns c =
 pub take-out-spec : {M : Type 1} → statement M
 take-out-spec =
     tie.close
-    (tie.spec
-    Inv-loop
-    μ-loop
-    loop-holds
-    read-u16-requires
-    cast-n
-    add-end
-    add-end-2
-    sub-find
-    part-find-start
-    part-find-end
-    add-find
-    sub-find-2
-    part-find-start-2
-    part-find-end-2
-    find-requires
-    move-down-requires
-    add-to
-    add-from
-    add-skip
-    skip-requires
-    add-from-2
-    loop-less
-    loop-again
-    sub-rest
-    move-down-requires-2
-    add-result
-    same-length
-    returns)
+    (tie.spec Inv-loop μ-loop loop-holds read-u16-requires
+    (λ c. search needs) add-end add-end-2 sub-find part-find-start
+    (λ c. search needs) add-find
+    (λ c. search needs) (λ c. search needs) part-find-end-2 find-requires move-down-requires add-to add-from add-skip
+    (λ c κs. search needs) add-from-2 loop-less loop-again sub-rest move-down-requires-2 add-result same-length returns)

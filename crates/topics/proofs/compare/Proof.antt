@@ -17,12 +17,6 @@ Inv-loop a b n i₀ i = (i ≤ n) × (take i a ≡ take i b)
 abbrev μ-loop : tie.MeasureT-loop
 μ-loop a b n i₀ i = n - i
 
-shorter-requires : tie.Need-shorter-requires Inv-loop μ-loop
-shorter-requires c κs = search needs
-
-compare-bytes-requires : tie.Need-compare-bytes-requires Inv-loop μ-loop
-compare-bytes-requires c κs = search needs
-
 returns : tie.Need-returns Inv-loop μ-loop
 returns c = c .compare-bytes .ensures
 
@@ -115,20 +109,6 @@ returns-4 c = c .compare-end .ensures
 pub compare-spec : {M : Type 1} → statement M
 compare-spec =
     tie.close
-    (tie.spec
-    Inv-loop
-    μ-loop
-    shorter-requires
-    compare-bytes-requires
-    returns
-    loop-holds
-    sub-loop
-    read-u64-requires
-    read-u64-requires-2
-    returns-2
-    returns-3
-    add-i
-    loop-less
-    loop-again
-    compare-end-requires
-    returns-4)
+    (tie.spec Inv-loop μ-loop
+    (λ c κs. search needs) (λ c κs. search needs) returns loop-holds sub-loop read-u64-requires read-u64-requires-2
+    returns-2 returns-3 add-i loop-less loop-again compare-end-requires returns-4)

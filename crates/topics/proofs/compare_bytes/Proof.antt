@@ -32,12 +32,6 @@ returns c =
     let a = l .before .args in
     sym (l .loop .inv .order-is ∙ order-longer (a .a .now) (a .b .now) (l .loop .i) (omega arith) (omega arith))
 
-shared-slice-read-x : tie.Need-shared-slice-read-x Inv-loop μ-loop
-shared-slice-read-x c = search needs
-
-shared-slice-read-y : tie.Need-shared-slice-read-y Inv-loop μ-loop
-shared-slice-read-y c = search needs
-
 returns-2 : tie.Need-returns-2 Inv-loop μ-loop
 returns-2 c =
     let l = c .before .before .before .before .before in
@@ -49,12 +43,6 @@ returns-3 c =
     let l = c .before .before .before .before .before .before in
     let a = l .before .args in
     sym (l .loop .inv .order-is ∙ order-greater (a .a .now) (a .b .now) (l .loop .i) (omega arith) (omega arith) (omega arith))
-
-add-i : tie.Need-add-i Inv-loop μ-loop
-add-i c = search needs
-
-loop-less : tie.Need-loop-less Inv-loop μ-loop
-loop-less c = search needs
 
 loop-again : tie.Need-loop-again Inv-loop μ-loop
 loop-again c =
@@ -83,17 +71,6 @@ returns-5 c =
 pub compare-bytes-spec : {M : Type 1} → statement M
 compare-bytes-spec =
     tie.close
-    (tie.spec
-    Inv-loop
-    μ-loop
-    loop-holds
-    returns
-    shared-slice-read-x
-    shared-slice-read-y
-    returns-2
-    returns-3
-    add-i
-    loop-less
-    loop-again
-    returns-4
-    returns-5)
+    (tie.spec Inv-loop μ-loop loop-holds returns
+    (λ c. search needs) (λ c. search needs) returns-2 returns-3
+    (λ c. search needs) (λ c. search needs) loop-again returns-4 returns-5)

@@ -6,18 +6,6 @@ use Rattle.topics.proofs.OrderLaws.{end-less, end-greater, end-shorter,
 use Rattle.topics.proofs.compare_end.Statement.{statement}
 use Rattle.topics.proofs.compare_end.Tie as tie
 
-sub-read-u64 : tie.Need-sub-read-u64
-sub-read-u64 c = search needs
-
-read-u64-requires : tie.Need-read-u64-requires
-read-u64-requires c κs = search needs
-
-sub-read-u64-2 : tie.Need-sub-read-u64-2
-sub-read-u64-2 c = search needs
-
-read-u64-requires-2 : tie.Need-read-u64-requires-2
-read-u64-requires-2 c κs = search needs
-
 returns : tie.Need-returns
 returns c =
     let r = c .before in
@@ -77,13 +65,5 @@ returns-5 c =
 pub compare-end-spec : {M : Type 1} → statement M
 compare-end-spec =
     tie.close
-    (tie.spec
-    sub-read-u64
-    read-u64-requires
-    sub-read-u64-2
-    read-u64-requires-2
-    returns
-    returns-2
-    returns-3
-    returns-4
-    returns-5)
+    (tie.spec (λ c. search needs) (λ c κs. search needs) (λ c. search needs) (λ c κs. search needs) returns returns-2
+    returns-3 returns-4 returns-5)

@@ -40,29 +40,14 @@ read-u16-requires c κs =
     let l = c .before in
     entry-two (l .before .before .before .args .s .now) (l .loop .at) (c .loop-test .taken) (l .loop .inv .whole)
 
-cast-n : tie.Need-cast-n Inv-loop μ-loop
-cast-n c = search needs
-
 add-from : tie.Need-add-from Inv-loop μ-loop
 add-from c = omega (arith, fits-here c)
 
 add-end : tie.Need-add-end Inv-loop μ-loop
 add-end c = omega (arith, fits-here c)
 
-sub-compare : tie.Need-sub-compare Inv-loop μ-loop
-sub-compare c = search needs
-
-part-compare-start : tie.Need-part-compare-start Inv-loop μ-loop
-part-compare-start c = search needs
-
 part-compare-end : tie.Need-part-compare-end Inv-loop μ-loop
 part-compare-end c = omega (arith, fits-here c)
-
-compare-requires : tie.Need-compare-requires Inv-loop μ-loop
-compare-requires c κs = search needs
-
-enum-told : tie.Need-enum-told Inv-loop μ-loop
-enum-told c = search needs
 
 returns : tie.Need-returns Inv-loop μ-loop
 returns c =
@@ -74,9 +59,6 @@ returns c =
     (sym (c .enum-told .given .1) ∙ c .before .before .compare .ensures) in
     sym (l .loop .inv .alike ∙ turn)
 
-enum-told-2 : tie.Need-enum-told-2 Inv-loop μ-loop
-enum-told-2 c = search needs
-
 returns-2 : tie.Need-returns-2 Inv-loop μ-loop
 returns-2 c =
     let r = c .before .before .before .before in
@@ -86,9 +68,6 @@ returns-2 c =
     let turn = place-next (a .s .now) at (r .read-u16 .result) (r .before .loop-test .taken) (r .read-u16 .ensures) (fits-here r) (a .t .now) _
     (sym (c .enum-told2 .given .1) ∙ c .before .before .compare .ensures) in
     sym (l .loop .inv .alike ∙ turn)
-
-enum-told-3 : tie.Need-enum-told-3 Inv-loop μ-loop
-enum-told-3 c = search needs
 
 loop-less : tie.Need-loop-less Inv-loop μ-loop
 loop-less c = omega (arith, fits-here (c .before .before .before .before))
@@ -116,23 +95,9 @@ returns-3 c =
 pub find-spec : {M : Type 1} → statement M
 find-spec =
     tie.close
-    (tie.spec
-    Inv-loop
-    μ-loop
-    loop-holds
-    read-u16-requires
-    cast-n
-    add-from
-    add-end
-    sub-compare
-    part-compare-start
-    part-compare-end
-    compare-requires
-    enum-told
-    returns
-    enum-told-2
-    returns-2
-    enum-told-3
-    loop-less
-    loop-again
-    returns-3)
+    (tie.spec Inv-loop μ-loop loop-holds read-u16-requires
+    (λ c. search needs) add-from add-end
+    (λ c. search needs) (λ c. search needs) part-compare-end
+    (λ c κs. search needs) (λ c. search needs) returns
+    (λ c. search needs) returns-2
+    (λ c. search needs) loop-less loop-again returns-3)

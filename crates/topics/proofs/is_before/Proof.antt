@@ -8,18 +8,6 @@ use Rattle.topics.specs.Topics.{byOrder}
 use Rattle.topics.proofs.is_before.Statement.{statement}
 use Rattle.topics.proofs.is_before.Tie as tie
 
-compare-requires : tie.Need-compare-requires
-compare-requires c κs = search needs
-
-enum-told : tie.Need-enum-told
-enum-told c = search needs
-
-enum-told-2 : tie.Need-enum-told-2
-enum-told-2 c = search needs
-
-enum-told-3 : tie.Need-enum-told-3
-enum-told-3 c = search needs
-
 returns : tie.Need-returns
 returns c = ap (λ (o : Order). byOrder o true false false) (sym (c .enum-told .given .1) ∙ c .before .before .compare .ensures)
 
@@ -32,4 +20,5 @@ returns-3 c = ap (λ (o : Order). byOrder o true false false) (sym (c .enum-told
 pub is-before-spec : {M : Type 1} → statement M
 is-before-spec =
     tie.close
-    (tie.spec compare-requires enum-told enum-told-2 enum-told-3 returns returns-2 returns-3)
+    (tie.spec (λ c κs. search needs) (λ c. search needs) (λ c. search needs) (λ c. search needs) returns returns-2
+    returns-3)

@@ -25,27 +25,12 @@ abbrev μ-loop : tie.MeasureT-loop
 loop-holds : tie.Need-loop-holds Inv-loop μ-loop
 loop-holds c = record { within = omega arith; alike = refl }
 
-sub-if1 : tie.Need-sub-if1 Inv-loop μ-loop
-sub-if1 c = search needs
-
 returns : tie.Need-returns Inv-loop μ-loop
 returns c =
     let l = c .before .before in
     let s = l .before .before .args .s .now in
     let at = l .loop .at in
     sym (l .loop .inv .alike ∙ list-broken (drop at s) (entry-one s at (omega arith) (omega arith)))
-
-read-u16-requires : tie.Need-read-u16-requires Inv-loop μ-loop
-read-u16-requires c κs = search needs
-
-cast-n : tie.Need-cast-n Inv-loop μ-loop
-cast-n c = search needs
-
-sub-if2 : tie.Need-sub-if2 Inv-loop μ-loop
-sub-if2 c = search needs
-
-sub-if2-2 : tie.Need-sub-if2-2 Inv-loop μ-loop
-sub-if2-2 c = search needs
 
 returns-2 : tie.Need-returns-2 Inv-loop μ-loop
 returns-2 c =
@@ -54,24 +39,6 @@ returns-2 c =
     let at = l .loop .at in
     let r = c .before .read-u16 in
     sym (l .loop .inv .alike ∙ list-broken (drop at s) (entry-short s at (r .result) (omega arith) (r .ensures) (omega arith)))
-
-add-from : tie.Need-add-from Inv-loop μ-loop
-add-from c = search needs
-
-add-end : tie.Need-add-end Inv-loop μ-loop
-add-end c = search needs
-
-sub-is-utf8 : tie.Need-sub-is-utf8 Inv-loop μ-loop
-sub-is-utf8 c = search needs
-
-part-is-utf8-start : tie.Need-part-is-utf8-start Inv-loop μ-loop
-part-is-utf8-start c = search needs
-
-part-is-utf8-end : tie.Need-part-is-utf8-end Inv-loop μ-loop
-part-is-utf8-end c = search needs
-
-is-utf8-requires : tie.Need-is-utf8-requires Inv-loop μ-loop
-is-utf8-requires c κs = search needs
 
 returns-3 : tie.Need-returns-3 Inv-loop μ-loop
 returns-3 c =
@@ -82,9 +49,6 @@ returns-3 c =
     let u = c .before .is-utf8 in
     sym (l .loop .inv .alike
     ∙ list-not-utf8 s at (r .result) (omega arith) (r .ensures) (omega arith) (u .result) (u .ensures) (not-true _ (c .if3 .taken)))
-
-loop-less : tie.Need-loop-less Inv-loop μ-loop
-loop-less c = search needs
 
 loop-again : tie.Need-loop-again Inv-loop μ-loop
 loop-again c =
@@ -108,24 +72,9 @@ returns-4 c =
 pub is-list-spec : {M : Type 1} → statement M
 is-list-spec =
     tie.close
-    (tie.spec
-    Inv-loop
-    μ-loop
-    loop-holds
-    sub-if1
-    returns
-    read-u16-requires
-    cast-n
-    sub-if2
-    sub-if2-2
-    returns-2
-    add-from
-    add-end
-    sub-is-utf8
-    part-is-utf8-start
-    part-is-utf8-end
-    is-utf8-requires
-    returns-3
-    loop-less
-    loop-again
-    returns-4)
+    (tie.spec Inv-loop μ-loop loop-holds
+    (λ c. search needs) returns
+    (λ c κs. search needs) (λ c. search needs) (λ c. search needs) (λ c. search needs) returns-2
+    (λ c. search needs) (λ c. search needs) (λ c. search needs) (λ c. search needs) (λ c. search needs)
+    (λ c κs. search needs) returns-3
+    (λ c. search needs) loop-again returns-4)

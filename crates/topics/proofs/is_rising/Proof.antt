@@ -58,9 +58,6 @@ read-u16-requires c κs =
     let l = c .before in
     entry-two (l .before .before .args .s .now) (l .loop .at) (c .loop-test .taken) (l .loop .inv .whole)
 
-cast-n : tie.Need-cast-n Inv-loop μ-loop
-cast-n c = search needs
-
 add-from : tie.Need-add-from Inv-loop μ-loop
 add-from c = omega (arith, fits-here c)
 
@@ -75,17 +72,8 @@ read-u16-requires-2 c κs =
     let at = l .loop .at in
     entry-two s (at + 2 + r .read-u16 .result) (c .if1 .taken) (rest-here r)
 
-cast-m : tie.Need-cast-m Inv-loop μ-loop
-cast-m c = search needs
-
 add-next : tie.Need-add-next Inv-loop μ-loop
 add-next c = omega (arith, next-here c)
-
-sub-is-before : tie.Need-sub-is-before Inv-loop μ-loop
-sub-is-before c = search needs
-
-part-is-before-start : tie.Need-part-is-before-start Inv-loop μ-loop
-part-is-before-start c = search needs
 
 part-is-before-end : tie.Need-part-is-before-end Inv-loop μ-loop
 part-is-before-end c = omega (arith, fits-here (c .before .before))
@@ -93,17 +81,8 @@ part-is-before-end c = omega (arith, fits-here (c .before .before))
 add-is-before : tie.Need-add-is-before Inv-loop μ-loop
 add-is-before c = omega (arith, next-here (c .before))
 
-sub-is-before-2 : tie.Need-sub-is-before-2 Inv-loop μ-loop
-sub-is-before-2 c = search needs
-
-part-is-before-start-2 : tie.Need-part-is-before-start-2 Inv-loop μ-loop
-part-is-before-start-2 c = search needs
-
 part-is-before-end-2 : tie.Need-part-is-before-end-2 Inv-loop μ-loop
 part-is-before-end-2 c = omega (arith, next-here (c .before))
-
-is-before-requires : tie.Need-is-before-requires Inv-loop μ-loop
-is-before-requires c κs = search needs
 
 returns : tie.Need-returns Inv-loop μ-loop
 returns c =
@@ -160,28 +139,9 @@ returns-2 c =
 pub is-rising-spec : {M : Type 1} → statement M
 is-rising-spec =
     tie.close
-    (tie.spec
-    Inv-loop
-    μ-loop
-    loop-holds
-    read-u16-requires
-    cast-n
-    add-from
-    add-end
-    read-u16-requires-2
-    cast-m
-    add-next
-    sub-is-before
-    part-is-before-start
-    part-is-before-end
-    add-is-before
-    sub-is-before-2
-    part-is-before-start-2
-    part-is-before-end-2
-    is-before-requires
-    returns
-    loop-less
-    loop-again
-    loop-less-2
-    loop-again-2
-    returns-2)
+    (tie.spec Inv-loop μ-loop loop-holds read-u16-requires
+    (λ c. search needs) add-from add-end read-u16-requires-2
+    (λ c. search needs) add-next
+    (λ c. search needs) (λ c. search needs) part-is-before-end add-is-before
+    (λ c. search needs) (λ c. search needs) part-is-before-end-2
+    (λ c κs. search needs) returns loop-less loop-again loop-less-2 loop-again-2 returns-2)

@@ -8,9 +8,6 @@ use Rattle.topics.proofs.WalkLaws.{set-list, set-none}
 use Rattle.topics.proofs.is_set.Statement.{statement}
 use Rattle.topics.proofs.is_set.Tie as tie
 
-is-list-requires : tie.Need-is-list-requires
-is-list-requires c κs = search needs
-
 is-rising-requires : tie.Need-is-rising-requires
 is-rising-requires c κs =
     let s = c .before .before .before .args .s .now in
@@ -27,4 +24,4 @@ returns-2 c =
     set-none s (sym (c .before .is-list .ensures) ∙ c .if1 .left)
 
 pub is-set-spec : {M : Type 1} → statement M
-is-set-spec = tie.close (tie.spec is-list-requires is-rising-requires returns returns-2)
+is-set-spec = tie.close (tie.spec (λ c κs. search needs) is-rising-requires returns returns-2)

@@ -48,12 +48,6 @@ loop-again c =
       plain-join s 0 at at (at + 16) (omega arith) (l .loop .inv .1) (c .before .block-plain .ensures (not-false _ (c .if2 .left))),
     )
 
-sub-block-plain : tie.Need-sub-block-plain Inv-loop μ-loop
-sub-block-plain c = omega arith
-
-block-plain-requires-2 : tie.Need-block-plain-requires-2 Inv-loop μ-loop
-block-plain-requires-2 c κs = omega arith
-
 returns-3 : tie.Need-returns-3 Inv-loop μ-loop
 returns-3 c = λ e.
     let l = c .before .before in
@@ -64,17 +58,5 @@ returns-3 c = λ e.
 pub all-plain-spec : {M : Type 1} → statement M
 all-plain-spec =
     tie.close
-    (tie.spec
-    Inv-loop
-    μ-loop
-    returns
-    loop-holds
-    sub-loop
-    block-plain-requires
-    returns-2
-    add-at
-    loop-less
-    loop-again
-    sub-block-plain
-    block-plain-requires-2
-    returns-3)
+    (tie.spec Inv-loop μ-loop returns loop-holds sub-loop block-plain-requires returns-2 add-at loop-less loop-again
+    (λ c. omega arith) (λ c κs. omega arith) returns-3)

@@ -27,12 +27,6 @@ eight-plain-requires c κs = omega (arith, c .before .loop .inv .inside)
 returns : tie.Need-returns Inv-loop μ-loop
 returns c = c .before .before .before .loop .inv
 
-add-at : tie.Need-add-at Inv-loop μ-loop
-add-at c = omega arith
-
-loop-less : tie.Need-loop-less Inv-loop μ-loop
-loop-less c = omega arith
-
 loop-again : tie.Need-loop-again Inv-loop μ-loop
 loop-again c =
     let l = c .before .before .before .loop in
@@ -46,14 +40,5 @@ returns-2 c = c .before .loop .inv
 pub eights-end-spec : {M : Type 1} → statement M
 eights-end-spec =
     tie.close
-    (tie.spec
-    Inv-loop
-    μ-loop
-    loop-holds
-    sub-loop
-    eight-plain-requires
-    returns
-    add-at
-    loop-less
-    loop-again
-    returns-2)
+    (tie.spec Inv-loop μ-loop loop-holds sub-loop eight-plain-requires returns
+    (λ c. omega arith) (λ c. omega arith) loop-again returns-2)

@@ -5,15 +5,6 @@ use Rattle.utf8.proofs.RowLaws.{fits-cons}
 use Rattle.utf8.proofs.four.Statement.{statement}
 use Rattle.utf8.proofs.four.Tie as tie
 
-in-span-requires : tie.Need-in-span-requires
-in-span-requires c κs = search needs
-
-in-span-requires-2 : tie.Need-in-span-requires-2
-in-span-requires-2 c κs = search needs
-
-in-span-requires-3 : tie.Need-in-span-requires-3
-in-span-requires-3 c κs = search needs
-
 returns : tie.Need-returns
 returns c =
     let e = sym (c .before .before .before .before .before .in-span .ensures) ∙ c .before .before .before .before .if1 .taken in
@@ -42,11 +33,5 @@ returns-4 c =
 pub four-spec : {M : Type 1} → statement M
 four-spec =
     tie.close
-    (tie.spec
-    in-span-requires
-    in-span-requires-2
-    in-span-requires-3
-    returns
-    returns-2
-    returns-3
+    (tie.spec (λ c κs. search needs) (λ c κs. search needs) (λ c κs. search needs) returns returns-2 returns-3
     returns-4)

@@ -73,19 +73,6 @@ returns-2 c =
 pub is-text-spec : {M : Type 1} → statement M
 is-text-spec =
     tie.close
-    (tie.spec
-    Inv-loop
-    μ-loop
-    loop-holds
-    (λ c. search needs)
-    (λ c. search needs)
-    (λ c. search needs)
-    (λ c κs. search needs)
-    returns
-    add-at
-    plain-end-requires
-    loop-less
-    loop-again
-    loop-less-2
-    loop-again-2
-    returns-2)
+    (tie.spec Inv-loop μ-loop loop-holds
+    (λ c. search needs) (λ c. search needs) (λ c. search needs) (λ c κs. search needs) returns add-at
+    plain-end-requires loop-less loop-again loop-less-2 loop-again-2 returns-2)

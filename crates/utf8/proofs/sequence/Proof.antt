@@ -63,25 +63,7 @@ behind c = sym (lead-gap _ 8 (omega arith) (omega arith) (omega arith) (omega ar
 pub sequence-spec : {M : Type 1} → statement M
 sequence-spec =
     tie.close
-    (tie.spec
-    empty
-    (λ c. search needs)
-    (λ c κs. search needs)
-    (λ c κs. search needs)
-    (λ c κs. search needs)
-    (λ c κs. search needs)
-    (λ c κs. search needs)
-    (λ c κs. search needs)
-    (λ c κs. search needs)
-    (λ c κs. search needs)
-    row-3
-    row-5
-    row-7
-    row-9
-    row-1
-    row-2
-    row-4
-    row-6
-    row-8
-    between
-    behind)
+    (tie.spec empty
+    (λ c. search needs) (λ c κs. search needs) (λ c κs. search needs) (λ c κs. search needs) (λ c κs. search needs)
+    (λ c κs. search needs) (λ c κs. search needs) (λ c κs. search needs) (λ c κs. search needs) row-3 row-5 row-7 row-9
+    row-1 row-2 row-4 row-6 row-8 between behind)

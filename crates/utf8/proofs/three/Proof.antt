@@ -5,12 +5,6 @@ use Rattle.utf8.proofs.RowLaws.{fits-cons}
 use Rattle.utf8.proofs.three.Statement.{statement}
 use Rattle.utf8.proofs.three.Tie as tie
 
-in-span-requires : tie.Need-in-span-requires
-in-span-requires c κs = search needs
-
-in-span-requires-2 : tie.Need-in-span-requires-2
-in-span-requires-2 c κs = search needs
-
 returns : tie.Need-returns
 returns c =
     let e = sym (c .before .before .before .in-span .ensures) ∙ c .before .before .if1 .taken in
@@ -29,4 +23,4 @@ returns-3 c =
     rw (fits-cons _ _ 1 _, e)
 
 pub three-spec : {M : Type 1} → statement M
-three-spec = tie.close (tie.spec in-span-requires in-span-requires-2 returns returns-2 returns-3)
+three-spec = tie.close (tie.spec (λ c κs. search needs) (λ c κs. search needs) returns returns-2 returns-3)

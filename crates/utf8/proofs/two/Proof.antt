@@ -4,9 +4,6 @@ use borrow.Author.Needs.{needs}
 use Rattle.utf8.proofs.two.Statement.{statement}
 use Rattle.utf8.proofs.two.Tie as tie
 
-in-span-requires : tie.Need-in-span-requires
-in-span-requires c κs = search needs
-
 returns : tie.Need-returns
 returns c = let e = sym (c .before .in-span .ensures) ∙ c .if1 .taken in rw e
 
@@ -14,4 +11,4 @@ returns-2 : tie.Need-returns-2
 returns-2 c = let e = sym (c .before .in-span .ensures) ∙ c .if1 .left in rw e
 
 pub two-spec : {M : Type 1} → statement M
-two-spec = tie.close (tie.spec in-span-requires returns returns-2)
+two-spec = tie.close (tie.spec (λ c κs. search needs) returns returns-2)

@@ -6,15 +6,6 @@ use Rattle.values.specs.Places.{NextPart}
 use Rattle.values.proofs.has_part.Statement.{statement}
 use Rattle.values.proofs.has_part.Tie as tie
 
-next-part-requires : tie.Need-next-part-requires
-next-part-requires c κs = search needs
-
-enum-told : tie.Need-enum-told
-enum-told c = search needs
-
-enum-told-2 : tie.Need-enum-told-2
-enum-told-2 c = search needs
-
 returns : tie.Need-returns
 returns c = sym (ap present (subst (NextPart _ _ _) (c .enum-told .given .1) (c .before .before .next-part .ensures) .3))
 
@@ -22,4 +13,4 @@ returns-2 : tie.Need-returns-2
 returns-2 c = sym (ap present (subst (NextPart _ _ _) (c .enum-told2 .given .1) (c .before .before .next-part .ensures)))
 
 pub has-part-spec : {M : Type 1} → statement M
-has-part-spec = tie.close (tie.spec next-part-requires enum-told enum-told-2 returns returns-2)
+has-part-spec = tie.close (tie.spec (λ c κs. search needs) (λ c. search needs) (λ c. search needs) returns returns-2)

@@ -42,22 +42,10 @@ step c q e = subst (NextPart _ _ _) e (c .next-part .ensures)
 loop-holds : tie.Need-loop-holds Inv-loop μ-loop
 loop-holds c = inner-start _ _ _
 
-next-part-requires : tie.Need-next-part-requires Inv-loop μ-loop
-next-part-requires c κs = search needs
-
-enum-told : tie.Need-enum-told Inv-loop μ-loop
-enum-told c = search needs
-
-or-zero-requires : tie.Need-or-zero-requires Inv-loop μ-loop
-or-zero-requires c κs = search needs
-
 returns : tie.Need-returns Inv-loop μ-loop
 returns c =
     let q = step (c .before .before .before) _ (c .before .enum-told .given .1) in
     c .or-zero .ensures ∙ inner-done (c .before .before .before .before .loop .inv) q
-
-enum-known-start : tie.Need-enum-known-start Inv-loop μ-loop
-enum-known-start c = search needs
 
 sub-last-after : tie.Need-sub-last-after Inv-loop μ-loop
 sub-last-after c = let q = step (c .before .before .before) _ (c .before .start .given .1) in omega (arith, q .1)
@@ -67,9 +55,6 @@ part-last-after-start c = let q = step (c .before .before .before) _ (c .before 
 
 part-last-after-end : tie.Need-part-last-after-end Inv-loop μ-loop
 part-last-after-end c = let q = step (c .before .before .before) _ (c .before .start .given .1) in omega (arith, q .2)
-
-last-after-requires : tie.Need-last-after-requires Inv-loop μ-loop
-last-after-requires c κs = search needs
 
 loop-less : tie.Need-loop-less Inv-loop μ-loop
 loop-less c =
@@ -84,18 +69,7 @@ loop-again c =
 pub inner-number-spec : {M : Type 1} → statement M
 inner-number-spec =
     tie.close
-    (tie.spec
-    Inv-loop
-    μ-loop
-    loop-holds
-    next-part-requires
-    enum-told
-    or-zero-requires
-    returns
-    enum-known-start
-    sub-last-after
-    part-last-after-start
-    part-last-after-end
-    last-after-requires
-    loop-less
-    loop-again)
+    (tie.spec Inv-loop μ-loop loop-holds
+    (λ c κs. search needs) (λ c. search needs) (λ c κs. search needs) returns
+    (λ c. search needs) sub-last-after part-last-after-start part-last-after-end
+    (λ c κs. search needs) loop-less loop-again)

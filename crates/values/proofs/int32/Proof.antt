@@ -8,15 +8,6 @@ use Rattle.values.proofs.IntegerLaws.{minus-fits, minus-one-fits, minus
 use Rattle.values.proofs.int32.Statement.{statement}
 use Rattle.values.proofs.int32.Tie as tie
 
-cast-result : tie.Need-cast-result
-cast-result c = search needs
-
-sub-result : tie.Need-sub-result
-sub-result c = search needs
-
-cast-result-2 : tie.Need-cast-result-2
-cast-result-2 c = search needs
-
 sub-result-2 : tie.Need-sub-result-2
 sub-result-2 c = minus-fits (4294967295 - c .before .args .v % 4294967296) (omega arith)
 
@@ -32,4 +23,4 @@ returns-2 c = minus-one (4294967295 - c .before .args .v % 4294967296) (omega ar
 pub int32-spec : {M : Type 1} → statement M
 int32-spec =
     tie.close
-    (tie.spec cast-result sub-result cast-result-2 sub-result-2 sub-result-3 returns returns-2)
+    (tie.spec (λ c. search needs) (λ c. search needs) (λ c. search needs) sub-result-2 sub-result-3 returns returns-2)

@@ -34,28 +34,10 @@ front c q e = front-at _ _ (c .before .before .loop-test .taken) q (sym (c .read
 loop-holds : tie.Need-loop-holds Inv-loop μ-loop
 loop-holds c = last-start _ _
 
-sub-read-front : tie.Need-sub-read-front Inv-loop μ-loop
-sub-read-front c = search needs
-
-part-read-front-start : tie.Need-part-read-front-start Inv-loop μ-loop
-part-read-front-start c = search needs
-
-part-read-front-end : tie.Need-part-read-front-end Inv-loop μ-loop
-part-read-front-end c = search needs
-
-read-front-requires : tie.Need-read-front-requires Inv-loop μ-loop
-read-front-requires c κs = search needs
-
-enum-told : tie.Need-enum-told Inv-loop μ-loop
-enum-told c = search needs
-
 returns : tie.Need-returns Inv-loop μ-loop
 returns c =
     let q = front (c .before .before) _ (c .enum-told .given .1) in
     kept-done (q .numbers _) (c .before .before .before .before .before .loop .inv)
-
-enum-known-f : tie.Need-enum-known-f Inv-loop μ-loop
-enum-known-f c = search needs
 
 add-at : tie.Need-add-at Inv-loop μ-loop
 add-at c = let q = front (c .before .before .before .before) _ (c .before .before .f .given .1) in omega arith
@@ -70,9 +52,6 @@ loop-again c =
     ⊎-elim (λ w. kept-next (number-same q _ (w .0 .taken)) (w .1) k) (λ w. kept-stays (number-other q _ (w .0 .left)) (w .1) k)
     (c .if1 .came)
 
-enum-known-start : tie.Need-enum-known-start Inv-loop μ-loop
-enum-known-start c = search needs
-
 add-at-2 : tie.Need-add-at-2 Inv-loop μ-loop
 add-at-2 c = let q = front (c .before .before .before) _ (c .before .start .given .1) in omega arith
 
@@ -86,9 +65,6 @@ loop-again-2 : tie.Need-loop-again-2 Inv-loop μ-loop
 loop-again-2 c =
     let q = front (c .before .before .before) _ (c .before .start .given .1) in
     kept-stays (q .numbers _) refl (c .before .before .before .before .before .before .loop .inv)
-
-enum-known-size : tie.Need-enum-known-size Inv-loop μ-loop
-enum-known-size c = search needs
 
 add-at-4 : tie.Need-add-at-4 Inv-loop μ-loop
 add-at-4 c = let q = front (c .before .before .before) _ (c .before .size .given .1) in omega arith
@@ -107,27 +83,8 @@ returns-2 c = kept-done (numbers-end _ _ (c .before .loop .at) (omega arith)) (c
 pub last-after-spec : {M : Type 1} → statement M
 last-after-spec =
     tie.close
-    (tie.spec
-    Inv-loop
-    μ-loop
-    loop-holds
-    sub-read-front
-    part-read-front-start
-    part-read-front-end
-    read-front-requires
-    enum-told
-    returns
-    enum-known-f
-    add-at
-    loop-less
-    loop-again
-    enum-known-start
-    add-at-2
-    add-at-3
-    loop-less-2
-    loop-again-2
-    enum-known-size
-    add-at-4
-    loop-less-3
-    loop-again-3
-    returns-2)
+    (tie.spec Inv-loop μ-loop loop-holds
+    (λ c. search needs) (λ c. search needs) (λ c. search needs) (λ c κs. search needs) (λ c. search needs) returns
+    (λ c. search needs) add-at loop-less loop-again
+    (λ c. search needs) add-at-2 add-at-3 loop-less-2 loop-again-2
+    (λ c. search needs) add-at-4 loop-less-3 loop-again-3 returns-2)

@@ -31,17 +31,8 @@ step c q e = subst (NextPart _ _ _) e (c .next-part .ensures)
 loop-holds : tie.Need-loop-holds Inv-loop μ-loop
 loop-holds c = sought-start _ _
 
-next-part-requires : tie.Need-next-part-requires Inv-loop μ-loop
-next-part-requires c κs = search needs
-
-enum-told : tie.Need-enum-told Inv-loop μ-loop
-enum-told c = search needs
-
 returns : tie.Need-returns Inv-loop μ-loop
 returns c = sought-done (c .before .before .before .loop .inv) (step (c .before .before) _ (c .enum-told .given .1))
-
-enum-known-from : tie.Need-enum-known-from Inv-loop μ-loop
-enum-known-from c = search needs
 
 loop-less : tie.Need-loop-less Inv-loop μ-loop
 loop-less c = let q = step (c .before .before .before) _ (c .before .from .given .1) in omega (arith, q .0, q .1, q .2)
@@ -54,13 +45,6 @@ loop-again c =
 pub last-part-spec : {M : Type 1} → statement M
 last-part-spec =
     tie.close
-    (tie.spec
-    Inv-loop
-    μ-loop
-    loop-holds
-    next-part-requires
-    enum-told
-    returns
-    enum-known-from
-    loop-less
-    loop-again)
+    (tie.spec Inv-loop μ-loop loop-holds
+    (λ c κs. search needs) (λ c. search needs) returns
+    (λ c. search needs) loop-less loop-again)

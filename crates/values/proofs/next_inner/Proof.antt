@@ -50,12 +50,6 @@ loop-holds c = (c .before .pre, omega arith, refl)
 slice-aggregate-next-part : tie.Need-slice-aggregate-next-part Inv-loop μ-loop
 slice-aggregate-next-part c = sym (length-take-le _ _ (c .before .loop .inv .0 .end-length))
 
-next-part-requires : tie.Need-next-part-requires Inv-loop μ-loop
-next-part-requires c κs = search needs
-
-enum-known-start : tie.Need-enum-known-start Inv-loop μ-loop
-enum-known-start c = search needs
-
 returns : tie.Need-returns Inv-loop μ-loop
 returns c =
     let t = c .before .before .before .before .before in
@@ -65,15 +59,6 @@ returns c =
     let q = inner-found (a .n) (a .k) (messageAt t) _ _ _ (i .0) _ _ _ p in
     (q .0, omega (arith, i .1, p .0, p .1), q .2, q .3, i .2 ∙ q .4)
 
-enum-told : tie.Need-enum-told Inv-loop μ-loop
-enum-told c = search needs
-
-next-part-requires-2 : tie.Need-next-part-requires-2 Inv-loop μ-loop
-next-part-requires-2 c κs = search needs
-
-enum-told-2 : tie.Need-enum-told-2 Inv-loop μ-loop
-enum-told-2 c = search needs
-
 returns-2 : tie.Need-returns-2 Inv-loop μ-loop
 returns-2 c =
     let t = c .before .before .before .before .before .before .before in
@@ -82,9 +67,6 @@ returns-2 c =
     let a = t .before .before .args in
     let l = t .loop in
     l .inv .2 ∙ inner-none (a .n) (a .k) (messageAt t) (l .outer) (l .at) (l .end) p q
-
-enum-known-start-2 : tie.Need-enum-known-start-2 Inv-loop μ-loop
-enum-known-start-2 c = search needs
 
 add-end : tie.Need-add-end Inv-loop μ-loop
 add-end c = let q = behind (c .before .before .before) _ (c .before .start2 .given .1) in omega arith
@@ -107,19 +89,7 @@ loop-again c =
 pub next-inner-spec : {M : Type 1} → statement M
 next-inner-spec =
     tie.close
-    (tie.spec
-    Inv-loop
-    μ-loop
-    loop-holds
-    slice-aggregate-next-part
-    next-part-requires
-    enum-known-start
-    returns
-    enum-told
-    next-part-requires-2
-    enum-told-2
-    returns-2
-    enum-known-start-2
-    add-end
-    loop-less
-    loop-again)
+    (tie.spec Inv-loop μ-loop loop-holds slice-aggregate-next-part
+    (λ c κs. search needs) (λ c. search needs) returns
+    (λ c. search needs) (λ c κs. search needs) (λ c. search needs) returns-2
+    (λ c. search needs) add-end loop-less loop-again)

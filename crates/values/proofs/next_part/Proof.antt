@@ -39,28 +39,10 @@ places c q e = places-at _ _ (c .before .before .loop-test .taken) _ q (sym (c .
 loop-holds : tie.Need-loop-holds Inv-loop μ-loop
 loop-holds c = (omega arith, refl, refl)
 
-sub-read-front : tie.Need-sub-read-front Inv-loop μ-loop
-sub-read-front c = search needs
-
-part-read-front-start : tie.Need-part-read-front-start Inv-loop μ-loop
-part-read-front-start c = search needs
-
-part-read-front-end : tie.Need-part-read-front-end Inv-loop μ-loop
-part-read-front-end c = search needs
-
-read-front-requires : tie.Need-read-front-requires Inv-loop μ-loop
-read-front-requires c κs = search needs
-
-enum-told : tie.Need-enum-told Inv-loop μ-loop
-enum-told c = search needs
-
 returns : tie.Need-returns Inv-loop μ-loop
 returns c =
     let q = front (c .before .before) _ (c .enum-told .given .1) in
     c .before .before .before .before .before .loop .inv .1 ∙ q .parts _
-
-enum-known-size : tie.Need-enum-known-size Inv-loop μ-loop
-enum-known-size c = search needs
 
 add-at : tie.Need-add-at Inv-loop μ-loop
 add-at c = let q = front (c .before .before .before) _ (c .before .size .given .1) in omega arith
@@ -73,9 +55,6 @@ loop-again c =
     let q = front (c .before .before .before) _ (c .before .size .given .1) in
     let i = c .before .before .before .before .before .before .loop .inv in
     (omega arith, i .1 ∙ q .parts _, i .2 ∙ places (c .before .before .before) _ (c .before .size .given .1))
-
-enum-known-f : tie.Need-enum-known-f Inv-loop μ-loop
-enum-known-f c = search needs
 
 add-begin : tie.Need-add-begin Inv-loop μ-loop
 add-begin c = let q = front (c .before .before .before) _ (c .before .f .given .1) in omega arith
@@ -100,9 +79,6 @@ loop-again-2 c =
     let p = places (c .before .before .before .before) _ (c .before .before .f .given .1) in
     (omega arith, i .1 ∙ part-other q _ (c .if1 .left), i .2 ∙ place-other _ _ _ _ _ _ p (c .if1 .left))
 
-enum-known-size-2 : tie.Need-enum-known-size-2 Inv-loop μ-loop
-enum-known-size-2 c = search needs
-
 add-at-2 : tie.Need-add-at-2 Inv-loop μ-loop
 add-at-2 c = let q = front (c .before .before .before) _ (c .before .size2 .given .1) in omega arith
 
@@ -121,28 +97,8 @@ returns-3 c = c .before .loop .inv .1 ∙ parts-end _ _ (c .before .loop .at) (o
 pub next-part-spec : {M : Type 1} → statement M
 next-part-spec =
     tie.close
-    (tie.spec
-    Inv-loop
-    μ-loop
-    loop-holds
-    sub-read-front
-    part-read-front-start
-    part-read-front-end
-    read-front-requires
-    enum-told
-    returns
-    enum-known-size
-    add-at
-    loop-less
-    loop-again
-    enum-known-f
-    add-begin
-    add-end
-    returns-2
-    loop-less-2
-    loop-again-2
-    enum-known-size-2
-    add-at-2
-    loop-less-3
-    loop-again-3
-    returns-3)
+    (tie.spec Inv-loop μ-loop loop-holds
+    (λ c. search needs) (λ c. search needs) (λ c. search needs) (λ c κs. search needs) (λ c. search needs) returns
+    (λ c. search needs) add-at loop-less loop-again
+    (λ c. search needs) add-begin add-end returns-2 loop-less-2 loop-again-2
+    (λ c. search needs) add-at-2 loop-less-3 loop-again-3 returns-3)

@@ -5,14 +5,8 @@ use Rattle.values.specs.Values.{orZero}
 use Rattle.values.proofs.number.Statement.{statement}
 use Rattle.values.proofs.number.Tie as tie
 
-last-number-requires : tie.Need-last-number-requires
-last-number-requires c κs = search needs
-
-or-zero-requires : tie.Need-or-zero-requires
-or-zero-requires c κs = search needs
-
 returns : tie.Need-returns
 returns c = c .or-zero .ensures ∙ ap orZero (c .before .last-number .ensures)
 
 pub number-spec : {M : Type 1} → statement M
-number-spec = tie.close (tie.spec last-number-requires or-zero-requires returns)
+number-spec = tie.close (tie.spec (λ c κs. search needs) (λ c κs. search needs) returns)

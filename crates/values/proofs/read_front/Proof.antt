@@ -47,15 +47,6 @@ fits c b e =
 answers : (c : Read) (b : Body) → c .read-body .result ≡ b → frontFrom (numberAt c) (sizeAt c) b ≡ frontOf (partAt c)
 answers c b e = sym (front-of-body (partAt c) (numberAt c) (typeAt c) (sizeAt c) b (keyed c) (sym (c .read-body .ensures) ∙ e))
 
-read-key-requires : tie.Need-read-key-requires
-read-key-requires c κs = search needs
-
-enum-known-f : tie.Need-enum-known-f
-enum-known-f c = search needs
-
-enum-told : tie.Need-enum-told
-enum-told c = search needs
-
 returns : tie.Need-returns
 returns c = sym (front-bad-key _ (sym (c .before .before .read-key .ensures) ∙ c .enum-told .given .1))
 
@@ -66,32 +57,14 @@ part-read-body-start : tie.Need-part-read-body-start
 part-read-body-start c =
     omega (arith, key-size _ _ _ _ (sym (c .before .before .before .read-key .ensures) ∙ c .before .f .given .1) .1)
 
-part-read-body-end : tie.Need-part-read-body-end
-part-read-body-end c = search needs
-
-read-body-requires : tie.Need-read-body-requires
-read-body-requires c κs = search needs
-
-enum-known-v : tie.Need-enum-known-v
-enum-known-v c = search needs
-
 add-t17 : tie.Need-add-t17
 add-t17 c = let z = fits (c .before .before .before) _ (c .before .v .given .1) in omega arith
-
-enum-known-m : tie.Need-enum-known-m
-enum-known-m c = search needs
 
 add-t18 : tie.Need-add-t18
 add-t18 c = let z = fits (c .before .before .before) _ (c .before .m .given .1) in omega arith
 
-enum-known-m-2 : tie.Need-enum-known-m-2
-enum-known-m-2 c = search needs
-
 add-t19 : tie.Need-add-t19
 add-t19 c = let z = fits (c .before .before .before) _ (c .before .m2 .given .1) in omega arith
-
-enum-told-2 : tie.Need-enum-told-2
-enum-told-2 c = search needs
 
 returns-2 : tie.Need-returns-2
 returns-2 c = answers (c .before .before .before) _ (c .before .v .given .1)
@@ -108,23 +81,8 @@ returns-5 c = answers (c .before .before) _ (c .enum-told2 .given .1)
 pub read-front-spec : {M : Type 1} → statement M
 read-front-spec =
     tie.close
-    (tie.spec
-    read-key-requires
-    enum-known-f
-    enum-told
-    returns
-    sub-read-body
-    part-read-body-start
-    part-read-body-end
-    read-body-requires
-    enum-known-v
-    add-t17
-    enum-known-m
-    add-t18
-    enum-known-m-2
-    add-t19
-    enum-told-2
-    returns-2
-    returns-3
-    returns-4
-    returns-5)
+    (tie.spec (λ c κs. search needs) (λ c. search needs) (λ c. search needs) returns sub-read-body part-read-body-start
+    (λ c. search needs) (λ c κs. search needs) (λ c. search needs) add-t17
+    (λ c. search needs) add-t18
+    (λ c. search needs) add-t19
+    (λ c. search needs) returns-2 returns-3 returns-4 returns-5)

@@ -64,9 +64,6 @@ loop-holds c = (c .before .pre, refl)
 slice-aggregate-seek-part : tie.Need-slice-aggregate-seek-part Inv-loop μ-loop
 slice-aggregate-seek-part c = sym (length-take-le _ _ (c .before .loop .inv .0 .end-length))
 
-seek-part-requires : tie.Need-seek-part-requires Inv-loop μ-loop
-seek-part-requires c κs = search needs
-
 returns : tie.Need-returns Inv-loop μ-loop
 returns c =
     let t = c .before .before .before in
@@ -77,17 +74,8 @@ returns c =
       ap (λ (l : List (List ℕ)). l ++ o) (sym (c .before .seek-part .ensures)) ∙ i .1,
     )
 
-next-part-requires : tie.Need-next-part-requires Inv-loop μ-loop
-next-part-requires c κs = search needs
-
-enum-told : tie.Need-enum-told Inv-loop μ-loop
-enum-told c = search needs
-
 returns-2 : tie.Need-returns-2 Inv-loop μ-loop
 returns-2 c = c .before .before .before .before .before .before .loop .inv
-
-enum-known-start : tie.Need-enum-known-start Inv-loop μ-loop
-enum-known-start c = search needs
 
 add-end : tie.Need-add-end Inv-loop μ-loop
 add-end c = let q = behind (c .before .before .before) _ (c .before .start .given .1) in omega (arith, q .1, q .2)
@@ -108,17 +96,7 @@ loop-again c =
 pub seek-inner-spec : {M : Type 1} → statement M
 seek-inner-spec =
     tie.close
-    (tie.spec
-    Inv-loop
-    μ-loop
-    loop-holds
-    slice-aggregate-seek-part
-    seek-part-requires
-    returns
-    next-part-requires
-    enum-told
-    returns-2
-    enum-known-start
-    add-end
-    loop-less
-    loop-again)
+    (tie.spec Inv-loop μ-loop loop-holds slice-aggregate-seek-part
+    (λ c κs. search needs) returns
+    (λ c κs. search needs) (λ c. search needs) returns-2
+    (λ c. search needs) add-end loop-less loop-again)

@@ -30,26 +30,8 @@ front c q e = front-at _ _ (c .before .before .loop-test .taken) q (sym (c .read
 loop-holds : tie.Need-loop-holds Inv-loop μ-loop
 loop-holds c = refl
 
-sub-read-front : tie.Need-sub-read-front Inv-loop μ-loop
-sub-read-front c = search needs
-
-part-read-front-start : tie.Need-part-read-front-start Inv-loop μ-loop
-part-read-front-start c = search needs
-
-part-read-front-end : tie.Need-part-read-front-end Inv-loop μ-loop
-part-read-front-end c = search needs
-
-read-front-requires : tie.Need-read-front-requires Inv-loop μ-loop
-read-front-requires c κs = search needs
-
-enum-told : tie.Need-enum-told Inv-loop μ-loop
-enum-told c = search needs
-
 returns : tie.Need-returns Inv-loop μ-loop
 returns c = c .before .before .before .before .before .loop .inv
-
-enum-known-size : tie.Need-enum-known-size Inv-loop μ-loop
-enum-known-size c = search needs
 
 add-at : tie.Need-add-at Inv-loop μ-loop
 add-at c = let q = front (c .before .before .before) _ (c .before .size .given .1) in omega arith
@@ -61,9 +43,6 @@ loop-again : tie.Need-loop-again Inv-loop μ-loop
 loop-again c =
     let q = front (c .before .before .before) _ (c .before .size .given .1) in
     c .before .before .before .before .before .before .loop .inv ∙ q .parts _
-
-enum-known-f : tie.Need-enum-known-f Inv-loop μ-loop
-enum-known-f c = search needs
 
 returns-2 : tie.Need-returns-2 Inv-loop μ-loop
 returns-2 c = c .before .before .before .before .before .before .before .loop .inv
@@ -86,9 +65,6 @@ loop-again-2 c =
     let e : l .at + g .1 .0 + g .1 .1 .0 ≡ l .at + (g .1 .0 + g .1 .1 .0) = omega arith in
     l .inv ∙ part-other q _ (c .if1 .left) ∙ ap (λ (i : ℕ). partsFrom (a .n) (a .s .now) i) e
 
-enum-known-size-2 : tie.Need-enum-known-size-2 Inv-loop μ-loop
-enum-known-size-2 c = search needs
-
 add-at-4 : tie.Need-add-at-4 Inv-loop μ-loop
 add-at-4 c = let q = front (c .before .before .before) _ (c .before .size2 .given .1) in omega arith
 
@@ -106,28 +82,8 @@ returns-3 c = c .before .loop .inv
 pub seek-part-spec : {M : Type 1} → statement M
 seek-part-spec =
     tie.close
-    (tie.spec
-    Inv-loop
-    μ-loop
-    loop-holds
-    sub-read-front
-    part-read-front-start
-    part-read-front-end
-    read-front-requires
-    enum-told
-    returns
-    enum-known-size
-    add-at
-    loop-less
-    loop-again
-    enum-known-f
-    returns-2
-    add-at-2
-    add-at-3
-    loop-less-2
-    loop-again-2
-    enum-known-size-2
-    add-at-4
-    loop-less-3
-    loop-again-3
-    returns-3)
+    (tie.spec Inv-loop μ-loop loop-holds
+    (λ c. search needs) (λ c. search needs) (λ c. search needs) (λ c κs. search needs) (λ c. search needs) returns
+    (λ c. search needs) add-at loop-less loop-again
+    (λ c. search needs) returns-2 add-at-2 add-at-3 loop-less-2 loop-again-2
+    (λ c. search needs) add-at-4 loop-less-3 loop-again-3 returns-3)

@@ -20,17 +20,8 @@ there : (c : Told) → let a = c .before .before .before .args in let p = c .las
     PartIs (a .message .now) (lastPart (partsOf (a .n) (fieldsOf (a .message .now)))) (p .start) (p .length)
 there c = text-there _ _ _ _ (c .last-part .ensures)
 
-last-part-requires : tie.Need-last-part-requires
-last-part-requires c κs = search needs
-
 add-end : tie.Need-add-end
 add-end c = let p = there (c .before) in omega (arith, p .inside)
-
-sub-result : tie.Need-sub-result
-sub-result c = search needs
-
-part-result-start : tie.Need-part-result-start
-part-result-start c = search needs
 
 part-result-end : tie.Need-part-result-end
 part-result-end c = let p = there (c .before) in omega (arith, p .inside)
@@ -42,5 +33,4 @@ returns c =
 
 pub text-spec : {M : Type 1} → statement M
 text-spec =
-    tie.close
-    (tie.spec last-part-requires add-end sub-result part-result-start part-result-end returns)
+    tie.close (tie.spec (λ c κs. search needs) add-end (λ c. search needs) (λ c. search needs) part-result-end returns)

@@ -15,11 +15,8 @@ returns-2 c = let a = c .before .before .args in fits-over (a .z) (a .gone) (a .
 returns-3 : tie.Need-returns-3
 returns-3 c = let a = c .before .before .before .args in fits-over (a .z) (a .gone) (a .room) (omega arith)
 
-sub-result : tie.Need-sub-result
-sub-result c = search needs
-
 returns-4 : tie.Need-returns-4
 returns-4 c = let a = c .before .before .before .args in fits-last (a .z) (a .gone) (a .room) (omega arith) (omega arith) (omega arith)
 
 pub fits-spec : {M : Type 1} → statement M
-fits-spec = tie.close (tie.spec returns returns-2 returns-3 sub-result returns-4)
+fits-spec = tie.close (tie.spec returns returns-2 returns-3 (λ c. search needs) returns-4)

@@ -39,47 +39,20 @@ start c = c .before .before .before .before .before .before .before
 good : (c : Formed) → let a = start c .args in isSet (take (a .used) (a .buffer .now)) ≡ true
 good c = sym (c .before .is-set .ensures) ∙ not-false _ (c .if2 .left)
 
-slice-reshare-prefix-is-set : tie.Need-slice-reshare-prefix-is-set
-slice-reshare-prefix-is-set c = search needs
-
 slice-aggregate-is-set : tie.Need-slice-aggregate-is-set
 slice-aggregate-is-set c = sym (length-take-le _ _ (c .before .if1 .left))
-
-is-set-requires : tie.Need-is-set-requires
-is-set-requires c κs = search needs
-
-same-length : tie.Need-same-length
-same-length c = search needs
 
 returns-2 : tie.Need-returns-2
 returns-2 c = sym (set-bad _ _ _ _ _ (sym (c .before .is-set .ensures) ∙ not-true _ (c .if2 .taken)))
 
-first-fault-requires : tie.Need-first-fault-requires
-first-fault-requires c κs = search needs
-
-enum-known-x : tie.Need-enum-known-x
-enum-known-x c = search needs
-
-enum-told : tie.Need-enum-told
-enum-told c = search needs
-
 update-requires : tie.Need-update-requires
 update-requires c κs = let f = c .before .before .before .before .before in (f .before .before .before .if1 .left, good f)
-
-same-length-2 : tie.Need-same-length-2
-same-length-2 c = search needs
 
 returns-3 : tie.Need-returns-3
 returns-3 c =
     let f = c .before .before .before .before in
     let e = sym (c .before .x .given .1) ∙ c .before .before .before .first-fault .ensures in
     sym (checked _ _ _ _ _ (f .before .before .before .if1 .left) (good f) _ e)
-
-same-length-3 : tie.Need-same-length-3
-same-length-3 c = search needs
-
-same-length-4 : tie.Need-same-length-4
-same-length-4 c = search needs
 
 returns-4 : tie.Need-returns-4
 returns-4 c =
@@ -92,19 +65,9 @@ returns-4 c =
 pub handle-update-spec : {M : Type 1} → statement M
 handle-update-spec =
     tie.close
-    (tie.spec
-    returns
-    slice-reshare-prefix-is-set
-    slice-aggregate-is-set
-    is-set-requires
-    same-length
-    returns-2
-    first-fault-requires
-    enum-known-x
-    enum-told
-    update-requires
-    same-length-2
-    returns-3
-    same-length-3
-    same-length-4
-    returns-4)
+    (tie.spec returns
+    (λ c. search needs) slice-aggregate-is-set
+    (λ c κs. search needs) (λ c. search needs) returns-2
+    (λ c κs. search needs) (λ c. search needs) (λ c. search needs) update-requires
+    (λ c. search needs) returns-3
+    (λ c. search needs) (λ c. search needs) returns-4)

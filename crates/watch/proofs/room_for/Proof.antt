@@ -51,12 +51,6 @@ gone c = c .before .measure .ensures ∙ ap sizeTopics (list-removed _ _)
 z : (c : Measured) → let a = start c .args in c .measure2 .result ≡ sizeTopics (addedIn (topicsOf (a .set .now)) (a .p .now))
 z c = c .measure2 .ensures ∙ ap sizeTopics (list-added _ _)
 
-sub-fits-lists : tie.Need-sub-fits-lists
-sub-fits-lists c = search needs
-
-fits-lists-requires : tie.Need-fits-lists-requires
-fits-lists-requires c κs = search needs
-
 returns : tie.Need-returns
 returns c =
     let t = c .before in
@@ -72,17 +66,11 @@ measure-requires-2 c κs = let q = begun (c .before .before) .pre in (set-whole 
 sub-if2 : tie.Need-sub-if2
 sub-if2 c = let q = start c .pre in gone-least _ (bytes (tested c)) (q .1 .0) _ _ _ (gone c) (z c)
 
-sub-if2-2 : tie.Need-sub-if2-2
-sub-if2-2 c = search needs
-
 returns-2 : tie.Need-returns-2
 returns-2 c =
     let m = c .before in
     let q = start m .pre in
     room-none _ (bytes (tested m)) (q .1 .0) _ _ _ (gone m) (z m) _ (start m .args .out) (q .0) (c .if2 .taken)
-
-fits-requires : tie.Need-fits-requires
-fits-requires c κs = search needs
 
 returns-3 : tie.Need-returns-3
 returns-3 c =
@@ -101,15 +89,6 @@ returns-4 c =
 pub room-for-spec : {M : Type 1} → statement M
 room-for-spec =
     tie.close
-    (tie.spec
-    sub-fits-lists
-    fits-lists-requires
-    returns
-    measure-requires
-    measure-requires-2
-    sub-if2
-    sub-if2-2
-    returns-2
-    fits-requires
-    returns-3
-    returns-4)
+    (tie.spec (λ c. search needs) (λ c κs. search needs) returns measure-requires measure-requires-2 sub-if2
+    (λ c. search needs) returns-2
+    (λ c κs. search needs) returns-3 returns-4)

@@ -33,38 +33,8 @@ lists : (c : Wrote) → let a = start c .args in let l = c .write-lists .result 
     Written (topicsOf (take (a .used) (a .buffer .now))) (a .p .now) (l .added) (l .removed) (length (a .buffer .now)) (length (a .out .now))
 lists c = let q = start c .pre .1 .1 in let e = c .write-lists .ensures in diff-lists (q .1 .0) (q .1 .1) (e .0) (e .1)
 
-slice-reshare-prefix-write-lists : tie.Need-slice-reshare-prefix-write-lists
-slice-reshare-prefix-write-lists c = search needs
-
 slice-aggregate-write-lists : tie.Need-slice-aggregate-write-lists
 slice-aggregate-write-lists c = sym (length-take-le _ _ (c .before .before .before .before .pre .0))
-
-write-lists-requires : tie.Need-write-lists-requires
-write-lists-requires c κs = search needs
-
-add-at : tie.Need-add-at
-add-at c = search needs
-
-add-end : tie.Need-add-end
-add-end c = search needs
-
-sub-write-set : tie.Need-sub-write-set
-sub-write-set c = search needs
-
-part-write-set-start : tie.Need-part-write-set-start
-part-write-set-start c = search needs
-
-part-write-set-end : tie.Need-part-write-set-end
-part-write-set-end c = search needs
-
-sub-write-set-2 : tie.Need-sub-write-set-2
-sub-write-set-2 c = search needs
-
-part-write-set-start-2 : tie.Need-part-write-set-start-2
-part-write-set-start-2 c = search needs
-
-part-write-set-end-2 : tie.Need-part-write-set-end-2
-part-write-set-end-2 c = search needs
 
 write-set-requires : tie.Need-write-set-requires
 write-set-requires c κs =
@@ -77,12 +47,6 @@ write-set-requires c κs =
     let y = diff-apart _ _ _ _ _ _ (q .0) d (q .1 .0) f _ e in
     (q .0, (q .1 .0, (x, (y, diff-room _ _ _ _ _ _ (q .0) d (q .1 .0) f _ e))))
 
-same-length : tie.Need-same-length
-same-length c = search needs
-
-same-length-2 : tie.Need-same-length-2
-same-length-2 c = search needs
-
 returns : tie.Need-returns
 returns c =
     let w = c .before .before .before .before .before .before .before .before .before .before .before in
@@ -92,19 +56,7 @@ returns c =
 pub write-diff-spec : {M : Type 1} → statement M
 write-diff-spec =
     tie.close
-    (tie.spec
-    slice-reshare-prefix-write-lists
-    slice-aggregate-write-lists
-    write-lists-requires
-    add-at
-    add-end
-    sub-write-set
-    part-write-set-start
-    part-write-set-end
-    sub-write-set-2
-    part-write-set-start-2
-    part-write-set-end-2
-    write-set-requires
-    same-length
-    same-length-2
-    returns)
+    (tie.spec (λ c. search needs) slice-aggregate-write-lists
+    (λ c κs. search needs) (λ c. search needs) (λ c. search needs) (λ c. search needs) (λ c. search needs)
+    (λ c. search needs) (λ c. search needs) (λ c. search needs) (λ c. search needs) write-set-requires
+    (λ c. search needs) (λ c. search needs) returns)

@@ -26,9 +26,6 @@ start c = c .before .before .before .before .before
 bytes : (c : Taken) → Bytes (start c .args .buffer .now)
 bytes c i = c .before .before .before .before .slice-known .given i .fits
 
-slice-relend-prefix-take-out : tie.Need-slice-relend-prefix-take-out
-slice-relend-prefix-take-out c = search needs
-
 slice-aggregate-take-out : tie.Need-slice-aggregate-take-out
 slice-aggregate-take-out c = sym (length-take-le _ _ (c .before .before .before .before .pre .0))
 
@@ -46,9 +43,6 @@ merge-requires c κs =
     let a = taken-apart _ _ (q .0) d (q .1 .0) _ _ _ (e .0) (e .1) _ (q .1 .1 .1 .0) in
     (omega (arith, l, e .0, q .1 .1 .1 .1), ((r, q .1 .1 .0 .0), a))
 
-same-length : tie.Need-same-length
-same-length c = search needs
-
 returns : tie.Need-returns
 returns c =
     let t = c .before .before .before .before .before .before in
@@ -61,10 +55,4 @@ returns c =
 pub write-set-spec : {M : Type 1} → statement M
 write-set-spec =
     tie.close
-    (tie.spec
-    slice-relend-prefix-take-out
-    slice-aggregate-take-out
-    take-out-requires
-    merge-requires
-    same-length
-    returns)
+    (tie.spec (λ c. search needs) slice-aggregate-take-out take-out-requires merge-requires (λ c. search needs) returns)

@@ -8,15 +8,6 @@ use Rattle.wire.proofs.FieldLaws.{part-broken, part-fits, part-over}
 use Rattle.wire.proofs.part.Statement.{statement}
 use Rattle.wire.proofs.part.Tie as tie
 
-read-varint-requires : tie.Need-read-varint-requires
-read-varint-requires c κs = search needs
-
-enum-known-v : tie.Need-enum-known-v
-enum-known-v c = search needs
-
-enum-told : tie.Need-enum-told
-enum-told c = search needs
-
 returns : tie.Need-returns
 returns c = sym (part-broken _ (sym (c .before .before .read-varint .ensures) ∙ c .enum-told .given .1))
 
@@ -40,4 +31,4 @@ returns-3 c =
 pub part-spec : {M : Type 1} → statement M
 part-spec =
     tie.close
-    (tie.spec read-varint-requires enum-known-v enum-told returns sub-if1 returns-2 returns-3)
+    (tie.spec (λ c κs. search needs) (λ c. search needs) (λ c. search needs) returns sub-if1 returns-2 returns-3)

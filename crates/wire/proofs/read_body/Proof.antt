@@ -5,36 +5,6 @@ use Rattle.wire.proofs.FieldLaws.{number-broken, number-value}
 use Rattle.wire.proofs.read_body.Statement.{statement}
 use Rattle.wire.proofs.read_body.Tie as tie
 
-enum-told : tie.Need-enum-told
-enum-told c = search needs
-
-read-long-varint-requires : tie.Need-read-long-varint-requires
-read-long-varint-requires c κs = search needs
-
-enum-known-v : tie.Need-enum-known-v
-enum-known-v c = search needs
-
-enum-told-2 : tie.Need-enum-told-2
-enum-told-2 c = search needs
-
-enum-told-3 : tie.Need-enum-told-3
-enum-told-3 c = search needs
-
-fixed-requires : tie.Need-fixed-requires
-fixed-requires c κs = search needs
-
-enum-told-4 : tie.Need-enum-told-4
-enum-told-4 c = search needs
-
-part-requires : tie.Need-part-requires
-part-requires c κs = search needs
-
-enum-told-5 : tie.Need-enum-told-5
-enum-told-5 c = search needs
-
-fixed-requires-2 : tie.Need-fixed-requires-2
-fixed-requires-2 c κs = search needs
-
 returns : tie.Need-returns
 returns c =
     let e = sym (c .before .before .before .read-long-varint .ensures) ∙ c .before .v .given .1 in
@@ -57,19 +27,6 @@ returns-5 c = rw (c .before .enum-told5 .given .1) (c .fixed2 .ensures)
 pub read-body-spec : {M : Type 1} → statement M
 read-body-spec =
     tie.close
-    (tie.spec
-    enum-told
-    read-long-varint-requires
-    enum-known-v
-    enum-told-2
-    enum-told-3
-    fixed-requires
-    enum-told-4
-    part-requires
-    enum-told-5
-    fixed-requires-2
-    returns
-    returns-2
-    returns-3
-    returns-4
-    returns-5)
+    (tie.spec (λ c. search needs) (λ c κs. search needs) (λ c. search needs) (λ c. search needs) (λ c. search needs)
+    (λ c κs. search needs) (λ c. search needs) (λ c κs. search needs) (λ c. search needs) (λ c κs. search needs)
+    returns returns-2 returns-3 returns-4 returns-5)

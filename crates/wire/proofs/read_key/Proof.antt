@@ -30,15 +30,6 @@ typed c t g =
     let e = sym (c .before .before .before .before .before .read-varint .ensures) ∙ c .before .before .before .v .given .1 in
     sym (key-typed _ _ _ e (omega arith) (c .if2 .left) t g)
 
-read-varint-requires : tie.Need-read-varint-requires
-read-varint-requires c κs = search needs
-
-enum-known-v : tie.Need-enum-known-v
-enum-known-v c = search needs
-
-enum-told : tie.Need-enum-told
-enum-told c = search needs
-
 returns : tie.Need-returns
 returns c = sym (key-broken _ (sym (c .before .before .read-varint .ensures) ∙ c .enum-told .given .1))
 
@@ -72,15 +63,5 @@ returns-8 c =
 pub read-key-spec : {M : Type 1} → statement M
 read-key-spec =
     tie.close
-    (tie.spec
-    read-varint-requires
-    enum-known-v
-    enum-told
-    returns
-    returns-2
-    returns-3
-    returns-4
-    returns-5
-    returns-6
-    returns-7
-    returns-8)
+    (tie.spec (λ c κs. search needs) (λ c. search needs) (λ c. search needs) returns returns-2 returns-3 returns-4
+    returns-5 returns-6 returns-7 returns-8)

@@ -8,15 +8,6 @@ use Rattle.wire_writer.proofs.EncodeLaws.{length-varint-le}
 use Rattle.wire_writer.proofs.number_size.Statement.{statement}
 use Rattle.wire_writer.proofs.number_size.Tie as tie
 
-mul-varint-size : tie.Need-mul-varint-size
-mul-varint-size c = search needs
-
-varint-size-requires : tie.Need-varint-size-requires
-varint-size-requires c κs = search needs
-
-varint-size-requires-2 : tie.Need-varint-size-requires-2
-varint-size-requires-2 c κs = search needs
-
 add-result : tie.Need-add-result
 add-result c =
     let a = c .before .before .args in
@@ -30,5 +21,4 @@ returns c =
 
 pub number-size-spec : {M : Type 1} → statement M
 number-size-spec =
-    tie.close
-    (tie.spec mul-varint-size varint-size-requires varint-size-requires-2 add-result returns)
+    tie.close (tie.spec (λ c. search needs) (λ c κs. search needs) (λ c κs. search needs) add-result returns)

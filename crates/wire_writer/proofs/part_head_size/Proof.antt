@@ -8,18 +8,6 @@ use Rattle.wire_writer.proofs.EncodeLaws.{length-varint-le}
 use Rattle.wire_writer.proofs.part_head_size.Statement.{statement}
 use Rattle.wire_writer.proofs.part_head_size.Tie as tie
 
-mul-varint-size : tie.Need-mul-varint-size
-mul-varint-size c = search needs
-
-add-varint-size : tie.Need-add-varint-size
-add-varint-size c = search needs
-
-varint-size-requires : tie.Need-varint-size-requires
-varint-size-requires c κs = search needs
-
-varint-size-requires-2 : tie.Need-varint-size-requires-2
-varint-size-requires-2 c κs = search needs
-
 add-result : tie.Need-add-result
 add-result c =
     let a = c .before .before .args in
@@ -34,10 +22,4 @@ returns c =
 pub part-head-size-spec : {M : Type 1} → statement M
 part-head-size-spec =
     tie.close
-    (tie.spec
-    mul-varint-size
-    add-varint-size
-    varint-size-requires
-    varint-size-requires-2
-    add-result
-    returns)
+    (tie.spec (λ c. search needs) (λ c. search needs) (λ c κs. search needs) (λ c κs. search needs) add-result returns)

@@ -6,9 +6,6 @@ use Rattle.wire_writer.proofs.WriteLaws.{room-first, room-second, put-t
 use Rattle.wire_writer.proofs.write_number.Statement.{statement}
 use Rattle.wire_writer.proofs.write_number.Tie as tie
 
-mul-write-varint : tie.Need-mul-write-varint
-mul-write-varint c = search needs
-
 write-varint-requires : tie.Need-write-varint-requires
 unfolding numberField
 write-varint-requires c κs =
@@ -24,9 +21,6 @@ write-varint-requires-2 c κs =
     room-second (a .out .now) (a .at) (varintBytes (8 * a .f)) (varintBytes (a .v)) (s .pre .1)
     (first .result) (first .last .0) (first .ensures)
 
-same-length : tie.Need-same-length
-same-length c = search needs
-
 returns : tie.Need-returns
 unfolding numberField
 returns c =
@@ -39,5 +33,4 @@ returns c =
 
 pub write-number-spec : {M : Type 1} → statement M
 write-number-spec =
-    tie.close
-    (tie.spec mul-write-varint write-varint-requires write-varint-requires-2 same-length returns)
+    tie.close (tie.spec (λ c. search needs) write-varint-requires write-varint-requires-2 (λ c. search needs) returns)

@@ -6,12 +6,6 @@ use Rattle.wire_writer.proofs.WriteLaws.{room-first, room-second, put-t
 use Rattle.wire_writer.proofs.write_part_head.Statement.{statement}
 use Rattle.wire_writer.proofs.write_part_head.Tie as tie
 
-mul-write-varint : tie.Need-mul-write-varint
-mul-write-varint c = search needs
-
-add-write-varint : tie.Need-add-write-varint
-add-write-varint c = search needs
-
 write-varint-requires : tie.Need-write-varint-requires
 unfolding partHead
 write-varint-requires c κs =
@@ -27,9 +21,6 @@ write-varint-requires-2 c κs =
     room-second (a .out .now) (a .at) (varintBytes (8 * a .f + 2)) (varintBytes (a .n)) (s .pre .1)
     (first .result) (first .last .0) (first .ensures)
 
-same-length : tie.Need-same-length
-same-length c = search needs
-
 returns : tie.Need-returns
 unfolding partHead
 returns c =
@@ -43,10 +34,5 @@ returns c =
 pub write-part-head-spec : {M : Type 1} → statement M
 write-part-head-spec =
     tie.close
-    (tie.spec
-    mul-write-varint
-    add-write-varint
-    write-varint-requires
-    write-varint-requires-2
-    same-length
-    returns)
+    (tie.spec (λ c. search needs) (λ c. search needs) write-varint-requires write-varint-requires-2
+    (λ c. search needs) returns)

@@ -32,12 +32,6 @@ loop-holds c =
     let a = c .args in
     (refl, left-start (a .at) (a .v) (omega arith), ap (put (a .out .now) (a .at)) (left-all (a .at) (a .v)))
 
-add-out : tie.Need-add-out Inv-loop μ-loop
-add-out c = omega arith
-
-cast-out : tie.Need-cast-out Inv-loop μ-loop
-cast-out c = omega arith
-
 slice-write-out : tie.Need-slice-write-out Inv-loop μ-loop
 slice-write-out c =
     let l = c .before .loop in
@@ -60,9 +54,6 @@ loop-again c =
       left-next _ _ (l .i) (l .rest) (l .inv .1) (omega arith),
       write-next _ _ (l .i) (l .rest) (l .inv .1) (l .out) (omega arith) (omega arith) ∙ l .inv .2,
     )
-
-cast-out-2 : tie.Need-cast-out-2 Inv-loop μ-loop
-cast-out-2 c = omega arith
 
 slice-write-out-2 : tie.Need-slice-write-out-2 Inv-loop μ-loop
 slice-write-out-2 c =
@@ -89,18 +80,6 @@ returns c =
 pub write-varint-spec : {M : Type 1} → statement M
 write-varint-spec =
     tie.close
-    (tie.spec
-    Inv-loop
-    μ-loop
-    loop-holds
-    add-out
-    cast-out
-    slice-write-out
-    add-i
-    loop-less
-    loop-again
-    cast-out-2
-    slice-write-out-2
-    add-result
-    same-length
-    returns)
+    (tie.spec Inv-loop μ-loop loop-holds
+    (λ c. omega arith) (λ c. omega arith) slice-write-out add-i loop-less loop-again
+    (λ c. omega arith) slice-write-out-2 add-result same-length returns)

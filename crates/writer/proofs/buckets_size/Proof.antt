@@ -29,15 +29,6 @@ turned c =
 loop-holds : tie.Need-loop-holds Inv-loop μ-loop
 loop-holds c = let a = c .before .args in sized-start (a .s .now) (a .at) (a .n) (c .before .pre .0)
 
-range-at-requires : tie.Need-range-at-requires Inv-loop μ-loop
-range-at-requires c κs = omega arith
-
-range-size-requires : tie.Need-range-size-requires Inv-loop μ-loop
-range-size-requires c κs = search needs
-
-part-head-size-requires : tie.Need-part-head-size-requires Inv-loop μ-loop
-part-head-size-requires c κs = search needs
-
 add-size : tie.Need-add-size Inv-loop μ-loop
 add-size c = omega (arith, c .before .before .before .before .before .before .pre .1, turned c .whole, turned c .short)
 
@@ -46,12 +37,6 @@ add-size-2 c = omega (arith, c .before .before .before .before .before .before .
 
 add-p : tie.Need-add-p Inv-loop μ-loop
 add-p c = omega (arith, c .before .before .before .before .before .before .good)
-
-sub-left : tie.Need-sub-left Inv-loop μ-loop
-sub-left c = omega arith
-
-loop-less : tie.Need-loop-less Inv-loop μ-loop
-loop-less c = omega arith
 
 loop-again : tie.Need-loop-again Inv-loop μ-loop
 loop-again c = turned c
@@ -65,17 +50,6 @@ returns c =
 pub buckets-size-spec : {M : Type 1} → statement M
 buckets-size-spec =
     tie.close
-    (tie.spec
-    Inv-loop
-    μ-loop
-    loop-holds
-    range-at-requires
-    range-size-requires
-    part-head-size-requires
-    add-size
-    add-size-2
-    add-p
-    sub-left
-    loop-less
-    loop-again
-    returns)
+    (tie.spec Inv-loop μ-loop loop-holds
+    (λ c κs. omega arith) (λ c κs. search needs) (λ c κs. search needs) add-size add-size-2 add-p
+    (λ c. omega arith) (λ c. omega arith) loop-again returns)

@@ -5,18 +5,6 @@ use Rattle.writer.proofs.SizeLaws.{number-short, length-range}
 use Rattle.writer.proofs.range_size.Statement.{statement}
 use Rattle.writer.proofs.range_size.Tie as tie
 
-cast-number-size : tie.Need-cast-number-size
-cast-number-size c = search needs
-
-number-size-requires : tie.Need-number-size-requires
-number-size-requires c κs = search needs
-
-cast-number-size-2 : tie.Need-cast-number-size-2
-cast-number-size-2 c = search needs
-
-number-size-requires-2 : tie.Need-number-size-requires-2
-number-size-requires-2 c κs = search needs
-
 add-result : tie.Need-add-result
 add-result c =
     let r = c .before .before .before .before .args .range in
@@ -36,10 +24,4 @@ returns c =
 pub range-size-spec : {M : Type 1} → statement M
 range-size-spec =
     tie.close
-    (tie.spec
-    cast-number-size
-    number-size-requires
-    cast-number-size-2
-    number-size-requires-2
-    add-result
-    returns)
+    (tie.spec (λ c. search needs) (λ c κs. search needs) (λ c. search needs) (λ c κs. search needs) add-result returns)

@@ -24,36 +24,15 @@ read-u64-requires c κs =
     let i = c .before .before in
     omega (arith, head-inside (i .args .s .now) (i .args .p) (i .pre))
 
-add-range-at : tie.Need-add-range-at
-add-range-at c = search needs
-
 range-at-requires : tie.Need-range-at-requires
 range-at-requires c κs =
     let i = c .before .before .before in
     omega (arith, head-inside (i .args .s .now) (i .args .p) (i .pre))
 
-add-read-u16 : tie.Need-add-read-u16
-add-read-u16 c = search needs
-
 read-u16-requires : tie.Need-read-u16-requires
 read-u16-requires c κs =
     let i = c .before .before .before .before in
     omega (arith, head-inside (i .args .s .now) (i .args .p) (i .pre))
-
-cast-count : tie.Need-cast-count
-cast-count c = search needs
-
-topic-size-requires : tie.Need-topic-size-requires
-topic-size-requires c κs = search needs
-
-number-size-requires : tie.Need-number-size-requires
-number-size-requires c κs = search needs
-
-cast-number-size : tie.Need-cast-number-size
-cast-number-size c = search needs
-
-number-size-requires-2 : tie.Need-number-size-requires-2
-number-size-requires-2 c κs = search needs
 
 add-numbers : tie.Need-add-numbers
 add-numbers c =
@@ -65,12 +44,6 @@ add-numbers c =
       number-short 1 (r .before .before .read-u64 .result),
       number-short 2 (r .before .range-at .result .start),
     )
-
-cast-number-size-2 : tie.Need-cast-number-size-2
-cast-number-size-2 c = search needs
-
-number-size-requires-3 : tie.Need-number-size-requires-3
-number-size-requires-3 c κs = search needs
 
 add-numbers-2 : tie.Need-add-numbers-2
 add-numbers-2 c =
@@ -85,9 +58,6 @@ add-numbers-2 c =
       number-short 3 (r .before .range-at .result .end),
     )
 
-add-buckets-size : tie.Need-add-buckets-size
-add-buckets-size c = search needs
-
 buckets-size-requires : tie.Need-buckets-size-requires
 buckets-size-requires c κs =
     let r = c .before .before .before .before .before .before in
@@ -97,9 +67,6 @@ buckets-size-requires c κs =
       buckets-inside (a .s .now) (a .p) i (r .before .range-at .result) (r .read-u16 .result) (seen r) (e .pre),
       omega arith,
     )
-
-part-head-size-requires : tie.Need-part-head-size-requires
-part-head-size-requires c κs = search needs
 
 abbrev from-sizes : tie.After-part-head-size → tie.After-topic-size
 from-sizes c = c .before .before .before .before .before .before .before
@@ -156,25 +123,11 @@ returns c = all-is c
 pub segment-size-spec : {M : Type 1} → statement M
 segment-size-spec =
     tie.close
-    (tie.spec
-    read-u64-requires
-    add-range-at
-    range-at-requires
-    add-read-u16
-    read-u16-requires
-    cast-count
-    topic-size-requires
-    number-size-requires
-    cast-number-size
-    number-size-requires-2
+    (tie.spec read-u64-requires
+    (λ c. search needs) range-at-requires
+    (λ c. search needs) read-u16-requires
+    (λ c. search needs) (λ c κs. search needs) (λ c κs. search needs) (λ c. search needs) (λ c κs. search needs)
     add-numbers
-    cast-number-size-2
-    number-size-requires-3
-    add-numbers-2
-    add-buckets-size
-    buckets-size-requires
-    part-head-size-requires
-    add-result
-    add-result-2
-    add-result-3
-    returns)
+    (λ c. search needs) (λ c κs. search needs) add-numbers-2
+    (λ c. search needs) buckets-size-requires
+    (λ c κs. search needs) add-result add-result-2 add-result-3 returns)

@@ -35,9 +35,6 @@ loop-holds c =
 segment-size-requires : tie.Need-segment-size-requires Inv-loop μ-loop
 segment-size-requires c κs = inside c
 
-part-head-size-requires : tie.Need-part-head-size-requires Inv-loop μ-loop
-part-head-size-requires c κs = search needs
-
 add-more : tie.Need-add-more Inv-loop μ-loop
 add-more c =
     let l = c .before .before .before in
@@ -76,12 +73,6 @@ size-at-requires c κs =
 add-p : tie.Need-add-p Inv-loop μ-loop
 add-p c = let i = c .before .before .before .before in omega (arith, i .before .before .before .before .good, c .size-at .ensures, inside i)
 
-sub-left : tie.Need-sub-left Inv-loop μ-loop
-sub-left c = omega arith
-
-loop-less : tie.Need-loop-less Inv-loop μ-loop
-loop-less c = omega arith
-
 loop-again : tie.Need-loop-again Inv-loop μ-loop
 loop-again c =
     let h = c .before .before in
@@ -101,19 +92,6 @@ returns-2 c =
 pub segments-room-spec : {M : Type 1} → statement M
 segments-room-spec =
     tie.close
-    (tie.spec
-    Inv-loop
-    μ-loop
-    loop-holds
-    segment-size-requires
-    part-head-size-requires
-    add-more
-    sub-if1
-    returns
-    add-size
-    size-at-requires
-    add-p
-    sub-left
-    loop-less
-    loop-again
-    returns-2)
+    (tie.spec Inv-loop μ-loop loop-holds segment-size-requires
+    (λ c κs. search needs) add-more sub-if1 returns add-size size-at-requires add-p
+    (λ c. omega arith) (λ c. omega arith) loop-again returns-2)

@@ -51,15 +51,6 @@ is-text c = sym (c .before .is-utf8 .ensures) ∙ not-false _ (c .if2 .left)
 is-below : (c : tie.Else3) → isParent (entry (from-parent c) .args .parent .now) ≡ true
 is-below c = sym (c .before .is-parent .ensures) ∙ not-false _ (c .if3 .left)
 
-read-whole-requires : tie.Need-read-whole-requires
-read-whole-requires c κs = search needs
-
-enum-known-count : tie.Need-enum-known-count
-enum-known-count c = search needs
-
-enum-told : tie.Need-enum-told
-enum-told c = search needs
-
 returns : tie.Need-returns
 returns c =
     let r = c .before .before in
@@ -72,9 +63,6 @@ write-message-requires c κs =
     let s = entry k .args .assignment .now in
     subst (Rest s 10) (c .before .if1 .taken) (whole k .records)
 
-same-length : tie.Need-same-length
-same-length c = search needs
-
 returns-2 : tie.Need-returns-2
 returns-2 c =
     let w = c .before .before in
@@ -85,21 +73,12 @@ returns-2 c =
 segments-outside-requires : tie.Need-segments-outside-requires
 segments-outside-requires c κs = whole (c .before) .records
 
-enum-known-x : tie.Need-enum-known-x
-enum-known-x c = search needs
-
 returns-3 : tie.Need-returns-3
 returns-3 c =
     let q = c .before .before .before in
     let k = q .before .before in
     let a = entry k .args in
     write-outside (a .assignment .now) (a .parent .now) (a .out .now) _ (whole k) _ (sym (c .before .x .given .1) ∙ q .segments-outside .ensures)
-
-enum-told-2 : tie.Need-enum-told-2
-enum-told-2 c = search needs
-
-is-utf8-requires : tie.Need-is-utf8-requires
-is-utf8-requires c κs = search needs
 
 returns-4 : tie.Need-returns-4
 returns-4 c =
@@ -109,9 +88,6 @@ returns-4 c =
     let a = entry k .args in
     write-not-utf8 (a .assignment .now) (a .parent .now) (a .out .now) _ (whole k) (some e) (all-inside i)
     (sym (c .before .is-utf8 .ensures) ∙ not-true _ (c .if2 .taken))
-
-is-parent-requires : tie.Need-is-parent-requires
-is-parent-requires c κs = search needs
 
 returns-5 : tie.Need-returns-5
 returns-5 c =
@@ -129,14 +105,8 @@ sub-write-message c = parent-long (entry (from-parent c) .args .parent .now) (is
 part-write-message-start : tie.Need-part-write-message-start
 part-write-message-start c = omega (arith, sub-write-message c)
 
-part-write-message-end : tie.Need-part-write-message-end
-part-write-message-end c = search needs
-
 write-message-requires-2 : tie.Need-write-message-requires-2
 write-message-requires-2 c κs = whole (from-parent (c .before .before)) .records
-
-same-length-2 : tie.Need-same-length-2
-same-length-2 c = search needs
 
 returns-6 : tie.Need-returns-6
 returns-6 c =
@@ -152,25 +122,10 @@ returns-6 c =
 pub to-pb-spec : {M : Type 1} → statement M
 to-pb-spec =
     tie.close
-    (tie.spec
-    read-whole-requires
-    enum-known-count
-    enum-told
-    returns
-    write-message-requires
-    same-length
-    returns-2
-    segments-outside-requires
-    enum-known-x
-    returns-3
-    enum-told-2
-    is-utf8-requires
-    returns-4
-    is-parent-requires
-    returns-5
-    sub-write-message
-    part-write-message-start
-    part-write-message-end
-    write-message-requires-2
-    same-length-2
-    returns-6)
+    (tie.spec (λ c κs. search needs) (λ c. search needs) (λ c. search needs) returns write-message-requires
+    (λ c. search needs) returns-2 segments-outside-requires
+    (λ c. search needs) returns-3
+    (λ c. search needs) (λ c κs. search needs) returns-4
+    (λ c κs. search needs) returns-5 sub-write-message part-write-message-start
+    (λ c. search needs) write-message-requires-2
+    (λ c. search needs) returns-6)

@@ -65,20 +65,11 @@ loop-holds c =
 range-at-requires : tie.Need-range-at-requires Inv-loop μ-loop
 range-at-requires c κs = omega (arith, c .before .loop .inv .0)
 
-range-size-requires : tie.Need-range-size-requires Inv-loop μ-loop
-range-size-requires c κs = search needs
-
 write-part-head-requires : tie.Need-write-part-head-requires Inv-loop μ-loop
 write-part-head-requires c κs = (omega arith, rw (c .range-size .ensures) (writing-room (all-left (c .before .before))))
 
-cast-write-number : tie.Need-cast-write-number Inv-loop μ-loop
-cast-write-number c = search needs
-
 write-number-requires : tie.Need-write-number-requires Inv-loop μ-loop
 write-number-requires c κs = (omega arith, writing-room (wrote-head (c .before .before .before .before)))
-
-cast-write-number-2 : tie.Need-cast-write-number-2 Inv-loop μ-loop
-cast-write-number-2 c = search needs
 
 write-number-requires-2 : tie.Need-write-number-requires-2 Inv-loop μ-loop
 write-number-requires-2 c κs = (omega arith, writing-room (wrote-start (c .before .before .before .before)))
@@ -111,20 +102,7 @@ returns c =
 pub write-buckets-spec : {M : Type 1} → statement M
 write-buckets-spec =
     tie.close
-    (tie.spec
-    Inv-loop
-    μ-loop
-    loop-holds
-    range-at-requires
-    range-size-requires
-    write-part-head-requires
-    cast-write-number
-    write-number-requires
-    cast-write-number-2
-    write-number-requires-2
-    add-p
-    sub-left
-    loop-less
-    loop-again
-    same-length
-    returns)
+    (tie.spec Inv-loop μ-loop loop-holds range-at-requires
+    (λ c κs. search needs) write-part-head-requires
+    (λ c. search needs) write-number-requires
+    (λ c. search needs) write-number-requires-2 add-p sub-left loop-less loop-again same-length returns)

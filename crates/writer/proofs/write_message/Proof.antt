@@ -83,29 +83,11 @@ wrote-all : (c : tie.After-write-segments) →
     Goes (entry (from-segments c)) (c .write-segments .last .1 .1 .1 .1 .0) (c .write-segments .result) []
 wrote-all c = writing-next (wrote-epoch (c .before .before .before .before)) _ _ (c .write-segments .ensures)
 
-read-u64-requires : tie.Need-read-u64-requires
-read-u64-requires c κs = search needs
-
-number-size-requires : tie.Need-number-size-requires
-number-size-requires c κs = search needs
-
 returns : tie.Need-returns
 returns c =
     let i = c .before .before .before .before .before .before in
     let a = i .args in
     message-no-head (a .path .now) (segments i) (epoch i) (a .out .now) (omega (arith, c .if1 .taken, head-is (c .before)))
-
-sub-segments-room : tie.Need-sub-segments-room
-sub-segments-room c = search needs
-
-segments-room-requires : tie.Need-segments-room-requires
-segments-room-requires c κs = search needs
-
-enum-known-size : tie.Need-enum-known-size
-enum-known-size c = search needs
-
-enum-told : tie.Need-enum-told
-enum-told c = search needs
 
 returns-2 : tie.Need-returns-2
 returns-2 c =
@@ -116,17 +98,11 @@ returns-2 c =
     message-beyond (a .path .now) (segments i) (epoch i) (a .out .now) (n .number-size .result) (head-is n) (r .before .if1 .left)
     (sym (c .enum-told .given .1) ∙ r .segments-room .ensures)
 
-write-number-requires : tie.Need-write-number-requires
-write-number-requires c κs = search needs
-
 write-segments-requires : tie.Need-write-segments-requires
 write-segments-requires c κs = (entry (from-epoch (c .before .before .before)) .pre, writing-room (wrote-epoch (c .before .before .before)))
 
 add-t13 : tie.Need-add-t13
 add-t13 c = let k = from-segments (c .before .before) in omega (arith, entry k .good, message-fits k .size)
-
-same-length : tie.Need-same-length
-same-length c = search needs
 
 returns-3 : tie.Need-returns-3
 returns-3 c =
@@ -138,17 +114,7 @@ returns-3 c =
 pub write-message-spec : {M : Type 1} → statement M
 write-message-spec =
     tie.close
-    (tie.spec
-    read-u64-requires
-    number-size-requires
-    returns
-    sub-segments-room
-    segments-room-requires
-    enum-known-size
-    enum-told
-    returns-2
-    write-number-requires
-    write-segments-requires
-    add-t13
-    same-length
-    returns-3)
+    (tie.spec (λ c κs. search needs) (λ c κs. search needs) returns
+    (λ c. search needs) (λ c κs. search needs) (λ c. search needs) (λ c. search needs) returns-2
+    (λ c κs. search needs) write-segments-requires add-t13
+    (λ c. search needs) returns-3)

@@ -85,42 +85,24 @@ read-u64-requires c κs =
     let i = c .before .before .before in
     omega (arith, head-inside (i .args .s .now) (i .args .p) (i .pre .0))
 
-add-range-at : tie.Need-add-range-at
-add-range-at c = search needs
-
 range-at-requires : tie.Need-range-at-requires
 range-at-requires c κs =
     let i = c .before .before .before .before in
     omega (arith, head-inside (i .args .s .now) (i .args .p) (i .pre .0))
-
-add-read-u16 : tie.Need-add-read-u16
-add-read-u16 c = search needs
 
 read-u16-requires : tie.Need-read-u16-requires
 read-u16-requires c κs =
     let i = c .before .before .before .before .before in
     omega (arith, head-inside (i .args .s .now) (i .args .p) (i .pre .0))
 
-cast-count : tie.Need-cast-count
-cast-count c = search needs
-
 write-number-requires : tie.Need-write-number-requires
 write-number-requires c κs = (omega arith, writing-room (all-left (c .before)))
-
-cast-write-number : tie.Need-cast-write-number
-cast-write-number c = search needs
 
 write-number-requires-2 : tie.Need-write-number-requires-2
 write-number-requires-2 c κs = (omega arith, writing-room (wrote-id (c .before .before .before .before)))
 
-cast-write-number-2 : tie.Need-cast-write-number-2
-cast-write-number-2 c = search needs
-
 write-number-requires-3 : tie.Need-write-number-requires-3
 write-number-requires-3 c κs = (omega arith, writing-room (wrote-start (c .before .before .before .before)))
-
-topic-size-requires : tie.Need-topic-size-requires
-topic-size-requires c κs = search needs
 
 write-part-head-requires : tie.Need-write-part-head-requires
 write-part-head-requires c κs =
@@ -144,31 +126,17 @@ write-buckets-requires c κs =
       writing-room (wrote-topic (c .before .before .before)),
     )
 
-same-length : tie.Need-same-length
-same-length c = search needs
-
 returns : tie.Need-returns
 returns c = writing-end (wrote-buckets (c .before .before))
 
 pub write-segment-spec : {M : Type 1} → statement M
 write-segment-spec =
     tie.close
-    (tie.spec
-    read-u64-requires
-    add-range-at
-    range-at-requires
-    add-read-u16
-    read-u16-requires
-    cast-count
-    write-number-requires
-    cast-write-number
-    write-number-requires-2
-    cast-write-number-2
-    write-number-requires-3
-    topic-size-requires
-    write-part-head-requires
-    write-topic-requires
-    add-write-buckets
-    write-buckets-requires
-    same-length
-    returns)
+    (tie.spec read-u64-requires
+    (λ c. search needs) range-at-requires
+    (λ c. search needs) read-u16-requires
+    (λ c. search needs) write-number-requires
+    (λ c. search needs) write-number-requires-2
+    (λ c. search needs) write-number-requires-3
+    (λ c κs. search needs) write-part-head-requires write-topic-requires add-write-buckets write-buckets-requires
+    (λ c. search needs) returns)

@@ -120,17 +120,5 @@ returns c =
 pub write-segments-spec : {M : Type 1} → statement M
 write-segments-spec =
     tie.close
-    (tie.spec
-    Inv-loop
-    μ-loop
-    loop-holds
-    segment-size-requires
-    write-part-head-requires
-    write-segment-requires
-    size-at-requires
-    add-p
-    sub-left
-    loop-less
-    loop-again
-    same-length
-    returns)
+    (tie.spec Inv-loop μ-loop loop-holds segment-size-requires write-part-head-requires write-segment-requires
+    size-at-requires add-p sub-left loop-less loop-again same-length returns)

@@ -42,29 +42,8 @@ wrote c =
     let i = entry w in
     name-written (name i) (part i) (w .write-segment-topic .last .1 .1 .1 .0) (part-fits i) _ (said w _ (c .before .len .given .1))
 
-sub-write-segment-topic : tie.Need-sub-write-segment-topic
-sub-write-segment-topic c = search needs
-
-part-write-segment-topic-start : tie.Need-part-write-segment-topic-start
-part-write-segment-topic-start c = search needs
-
-part-write-segment-topic-end : tie.Need-part-write-segment-topic-end
-part-write-segment-topic-end c = search needs
-
-write-segment-topic-requires : tie.Need-write-segment-topic-requires
-write-segment-topic-requires c κs = search needs
-
-enum-known-len : tie.Need-enum-known-len
-enum-known-len c = search needs
-
 add-result : tie.Need-add-result
 add-result c = let i = entry (c .before .before .before .before .before) in omega (arith, i .good, i .pre, wrote c .0)
-
-enum-told : tie.Need-enum-told
-enum-told c = search needs
-
-same-length : tie.Need-same-length
-same-length c = search needs
 
 returns : tie.Need-returns
 returns c =
@@ -74,9 +53,6 @@ returns c =
       ap (λ (n : ℕ). a .to + n) (wrote c .0),
       ap (putMid (a .to) (length o - a .to) o) (wrote c .1) ∙ put-rest o (a .to) (name i) (i .pre),
     )
-
-same-length-2 : tie.Need-same-length-2
-same-length-2 c = search needs
 
 returns-2 : tie.Need-returns-2
 returns-2 c =
@@ -88,15 +64,7 @@ returns-2 c =
 pub write-topic-spec : {M : Type 1} → statement M
 write-topic-spec =
     tie.close
-    (tie.spec
-    sub-write-segment-topic
-    part-write-segment-topic-start
-    part-write-segment-topic-end
-    write-segment-topic-requires
-    enum-known-len
+    (tie.spec (λ c. search needs) (λ c. search needs) (λ c. search needs) (λ c κs. search needs) (λ c. search needs)
     add-result
-    enum-told
-    same-length
-    returns
-    same-length-2
-    returns-2)
+    (λ c. search needs) (λ c. search needs) returns
+    (λ c. search needs) returns-2)

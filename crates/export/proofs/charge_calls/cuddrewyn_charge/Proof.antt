@@ -17,11 +17,5 @@ returns-2 c = let k = c .before .before in c .refused .ensures ∙ ap chargeRepl
 pub cuddrewyn-charge-spec : {M : Type 1} → statement M
 cuddrewyn-charge-spec =
     tie.close
-    (tie.spec
-    (λ c κs. search needs)
-    (λ c. search needs)
-    (λ c κs. search needs)
-    (λ c. search needs)
-    (λ c κs. search needs)
-    returns
-    returns-2)
+    (tie.spec (λ c κs. search needs) (λ c. search needs) (λ c κs. search needs) (λ c. search needs)
+    (λ c κs. search needs) returns returns-2)

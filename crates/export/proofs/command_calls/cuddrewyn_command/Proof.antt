@@ -6,14 +6,8 @@ use borrow.Author.Needs.{needs}
 use Rattle.export.proofs.command_calls.cuddrewyn_command.Statement.{statement}
 use Rattle.export.proofs.command_calls.cuddrewyn_command.Tie as tie
 
-read-command-requires : tie.Need-read-command-requires
-read-command-requires c κs = search needs
-
-command-reply-requires : tie.Need-command-reply-requires
-command-reply-requires c κs = search needs
-
 returns : tie.Need-returns
 returns c = c .command-reply .ensures ∙ ap commandReply (c .before .read-command .ensures)
 
 pub cuddrewyn-command-spec : {M : Type 1} → statement M
-cuddrewyn-command-spec = tie.close (tie.spec read-command-requires command-reply-requires returns)
+cuddrewyn-command-spec = tie.close (tie.spec (λ c κs. search needs) (λ c κs. search needs) returns)

@@ -19,11 +19,5 @@ returns-2 c = c .refused .ensures
 pub cuddrewyn-is-open-spec : {M : Type 1} → statement M
 cuddrewyn-is-open-spec =
     tie.close
-    (tie.spec
-    (λ c κs. search needs)
-    (λ c. search needs)
-    (λ c κs. search needs)
-    (λ c. search needs)
-    (λ c κs. search needs)
-    returns
-    returns-2)
+    (tie.spec (λ c κs. search needs) (λ c. search needs) (λ c κs. search needs) (λ c. search needs)
+    (λ c κs. search needs) returns returns-2)

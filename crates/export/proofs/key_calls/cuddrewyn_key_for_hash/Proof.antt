@@ -6,14 +6,8 @@ use borrow.Author.Needs.{needs}
 use Rattle.export.proofs.key_calls.cuddrewyn_key_for_hash.Statement.{statement}
 use Rattle.export.proofs.key_calls.cuddrewyn_key_for_hash.Tie as tie
 
-key-for-hash-requires : tie.Need-key-for-hash-requires
-key-for-hash-requires c κs = search needs
-
-key-reply-requires : tie.Need-key-reply-requires
-key-reply-requires c κs = search needs
-
 returns : tie.Need-returns
 returns c = c .key-reply .ensures ∙ ap keyReply (c .before .key-for-hash .ensures)
 
 pub cuddrewyn-key-for-hash-spec : {M : Type 1} → statement M
-cuddrewyn-key-for-hash-spec = tie.close (tie.spec key-for-hash-requires key-reply-requires returns)
+cuddrewyn-key-for-hash-spec = tie.close (tie.spec (λ c κs. search needs) (λ c κs. search needs) returns)

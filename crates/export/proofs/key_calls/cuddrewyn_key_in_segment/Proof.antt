@@ -6,27 +6,6 @@ use borrow.Author.Needs.{needs}
 use Rattle.export.proofs.key_calls.cuddrewyn_key_in_segment.Statement.{statement}
 use Rattle.export.proofs.key_calls.cuddrewyn_key_in_segment.Tie as tie
 
-key-in-segment-requires : tie.Need-key-in-segment-requires
-key-in-segment-requires c κs = search needs
-
-enum-known-k : tie.Need-enum-known-k
-enum-known-k c = search needs
-
-key-reply-requires : tie.Need-key-reply-requires
-key-reply-requires c κs = search needs
-
-enum-told : tie.Need-enum-told
-enum-told c = search needs
-
-plain-requires : tie.Need-plain-requires
-plain-requires c κs = search needs
-
-enum-known-x : tie.Need-enum-known-x
-enum-known-x c = search needs
-
-refused-requires : tie.Need-refused-requires
-refused-requires c κs = search needs
-
 returns : tie.Need-returns
 unfolding keyInReply
 returns c = let k = c .before .before in c .key-reply .ensures ∙ ap keyInReply (sym (k .k .given .1) ∙ k .before .before .key-in-segment .ensures)
@@ -42,14 +21,5 @@ returns-3 c = let k = c .before .before in c .refused .ensures ∙ ap keyInReply
 pub cuddrewyn-key-in-segment-spec : {M : Type 1} → statement M
 cuddrewyn-key-in-segment-spec =
     tie.close
-    (tie.spec
-    key-in-segment-requires
-    enum-known-k
-    key-reply-requires
-    enum-told
-    plain-requires
-    enum-known-x
-    refused-requires
-    returns
-    returns-2
-    returns-3)
+    (tie.spec (λ c κs. search needs) (λ c. search needs) (λ c κs. search needs) (λ c. search needs)
+    (λ c κs. search needs) (λ c. search needs) (λ c κs. search needs) returns returns-2 returns-3)

@@ -6,27 +6,6 @@ use borrow.Author.Needs.{needs}
 use Rattle.export.proofs.key_calls.cuddrewyn_segment_for_key.Statement.{statement}
 use Rattle.export.proofs.key_calls.cuddrewyn_segment_for_key.Tie as tie
 
-segment-for-key-requires : tie.Need-segment-for-key-requires
-segment-for-key-requires c κs = search needs
-
-enum-known-id : tie.Need-enum-known-id
-enum-known-id c = search needs
-
-one-requires : tie.Need-one-requires
-one-requires c κs = search needs
-
-enum-told : tie.Need-enum-told
-enum-told c = search needs
-
-plain-requires : tie.Need-plain-requires
-plain-requires c κs = search needs
-
-enum-known-x : tie.Need-enum-known-x
-enum-known-x c = search needs
-
-refused-requires : tie.Need-refused-requires
-refused-requires c κs = search needs
-
 returns : tie.Need-returns
 unfolding segmentReply
 returns c = let k = c .before .before in c .one .ensures ∙ ap segmentReply (sym (k .id .given .1) ∙ k .before .before .segment-for-key .ensures)
@@ -42,14 +21,5 @@ returns-3 c = let k = c .before .before in c .refused .ensures ∙ ap segmentRep
 pub cuddrewyn-segment-for-key-spec : {M : Type 1} → statement M
 cuddrewyn-segment-for-key-spec =
     tie.close
-    (tie.spec
-    segment-for-key-requires
-    enum-known-id
-    one-requires
-    enum-told
-    plain-requires
-    enum-known-x
-    refused-requires
-    returns
-    returns-2
-    returns-3)
+    (tie.spec (λ c κs. search needs) (λ c. search needs) (λ c κs. search needs) (λ c. search needs)
+    (λ c κs. search needs) (λ c. search needs) (λ c κs. search needs) returns returns-2 returns-3)

@@ -7,21 +7,10 @@ use borrow.Author.Needs.{needs}
 use Rattle.export.proofs.key_calls.key_reply.Statement.{statement}
 use Rattle.export.proofs.key_calls.key_reply.Tie as tie
 
-cast-t2 : tie.Need-cast-t2
-cast-t2 c = search needs
-
-cast-t3 : tie.Need-cast-t3
-cast-t3 c = search needs
-
-cast-t4 : tie.Need-cast-t4
-cast-t4 c = search needs
-
-cast-t5 : tie.Need-cast-t5
-cast-t5 c = search needs
-
 returns : tie.Need-returns
 unfolding keyReply replyWith wordAt wordOf
 returns c = refl
 
 pub key-reply-spec : {M : Type 1} → statement M
-key-reply-spec = tie.close (tie.spec cast-t2 cast-t3 cast-t4 cast-t5 returns)
+key-reply-spec =
+    tie.close (tie.spec (λ c. search needs) (λ c. search needs) (λ c. search needs) (λ c. search needs) returns)

@@ -20,11 +20,5 @@ returns-2 c = let e = c .before .before .before .before in
 pub cuddrewyn-check-log-spec : {M : Type 1} → statement M
 cuddrewyn-check-log-spec =
     tie.close
-    (tie.spec
-    (λ c κs. search needs)
-    (λ c. search needs)
-    (λ c κs. search needs)
-    (λ c. search needs)
-    (λ c κs. search needs)
-    returns
-    returns-2)
+    (tie.spec (λ c κs. search needs) (λ c. search needs) (λ c κs. search needs) (λ c. search needs)
+    (λ c κs. search needs) returns returns-2)

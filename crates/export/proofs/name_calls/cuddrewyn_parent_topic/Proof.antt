@@ -5,18 +5,9 @@ use borrow.Author.Needs.{needs}
 use Rattle.export.proofs.name_calls.cuddrewyn_parent_topic.Statement.{statement}
 use Rattle.export.proofs.name_calls.cuddrewyn_parent_topic.Tie as tie
 
-parent-topic-requires : tie.Need-parent-topic-requires
-parent-topic-requires c κs = search needs
-
-name-reply-requires : tie.Need-name-reply-requires
-name-reply-requires c κs = search needs
-
-same-length : tie.Need-same-length
-same-length c = search needs
-
 returns : tie.Need-returns
 returns c = name-call (c .name-reply .ensures) (c .before .before .before .parent-topic .ensures)
 
 pub cuddrewyn-parent-topic-spec : {M : Type 1} → statement M
 cuddrewyn-parent-topic-spec =
-    tie.close (tie.spec parent-topic-requires name-reply-requires same-length returns)
+    tie.close (tie.spec (λ c κs. search needs) (λ c κs. search needs) (λ c. search needs) returns)

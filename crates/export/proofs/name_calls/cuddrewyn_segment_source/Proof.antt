@@ -6,27 +6,6 @@ use borrow.Author.Needs.{needs}
 use Rattle.export.proofs.name_calls.cuddrewyn_segment_source.Statement.{statement}
 use Rattle.export.proofs.name_calls.cuddrewyn_segment_source.Tie as tie
 
-segment-source-requires : tie.Need-segment-source-requires
-segment-source-requires c κs = search needs
-
-enum-known-s : tie.Need-enum-known-s
-enum-known-s c = search needs
-
-cast-two : tie.Need-cast-two
-cast-two c = search needs
-
-cast-two-2 : tie.Need-cast-two-2
-cast-two-2 c = search needs
-
-two-requires : tie.Need-two-requires
-two-requires c κs = search needs
-
-enum-known-x : tie.Need-enum-known-x
-enum-known-x c = search needs
-
-refused-requires : tie.Need-refused-requires
-refused-requires c κs = search needs
-
 returns : tie.Need-returns
 unfolding sourceReply
 returns c =
@@ -42,13 +21,5 @@ returns-2 c =
 pub cuddrewyn-segment-source-spec : {M : Type 1} → statement M
 cuddrewyn-segment-source-spec =
     tie.close
-    (tie.spec
-    segment-source-requires
-    enum-known-s
-    cast-two
-    cast-two-2
-    two-requires
-    enum-known-x
-    refused-requires
-    returns
-    returns-2)
+    (tie.spec (λ c κs. search needs) (λ c. search needs) (λ c. search needs) (λ c. search needs) (λ c κs. search needs)
+    (λ c. search needs) (λ c κs. search needs) returns returns-2)

@@ -8,16 +8,10 @@ use borrow.Author.Needs.{needs}
 use Rattle.export.proofs.range_calls.cuddrewyn_consumer_type.Statement.{statement}
 use Rattle.export.proofs.range_calls.cuddrewyn_consumer_type.Tie as tie
 
-from-pb-i32-requires : tie.Need-from-pb-i32-requires
-from-pb-i32-requires c κs = search needs
-
-to-pb-i32-requires : tie.Need-to-pb-i32-requires
-to-pb-i32-requires c κs = search needs
-
 returns : tie.Need-returns
 returns c =
     let s = c .before .before in
     kind-call (fromWire (s .args .value)) (c .to-pb-i32 .ensures ∙ ap toWire (rw (toZ-ofZ (s .fits .value)) at (c .before .from-pb-i32 .ensures)))
 
 pub cuddrewyn-consumer-type-spec : {M : Type 1} → statement M
-cuddrewyn-consumer-type-spec = tie.close (tie.spec from-pb-i32-requires to-pb-i32-requires returns)
+cuddrewyn-consumer-type-spec = tie.close (tie.spec (λ c κs. search needs) (λ c κs. search needs) returns)

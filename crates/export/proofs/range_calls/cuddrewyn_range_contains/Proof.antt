@@ -6,14 +6,8 @@ use borrow.Author.Needs.{needs}
 use Rattle.export.proofs.range_calls.cuddrewyn_range_contains.Statement.{statement}
 use Rattle.export.proofs.range_calls.cuddrewyn_range_contains.Tie as tie
 
-contains-requires : tie.Need-contains-requires
-contains-requires c κs = search needs
-
-told-reply-requires : tie.Need-told-reply-requires
-told-reply-requires c κs = search needs
-
 returns : tie.Need-returns
 returns c = c .told-reply .ensures ∙ ap toldReply (c .before .contains .ensures)
 
 pub cuddrewyn-range-contains-spec : {M : Type 1} → statement M
-cuddrewyn-range-contains-spec = tie.close (tie.spec contains-requires told-reply-requires returns)
+cuddrewyn-range-contains-spec = tie.close (tie.spec (λ c κs. search needs) (λ c κs. search needs) returns)

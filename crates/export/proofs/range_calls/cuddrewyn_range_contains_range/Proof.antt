@@ -6,15 +6,8 @@ use borrow.Author.Needs.{needs}
 use Rattle.export.proofs.range_calls.cuddrewyn_range_contains_range.Statement.{statement}
 use Rattle.export.proofs.range_calls.cuddrewyn_range_contains_range.Tie as tie
 
-contains-range-requires : tie.Need-contains-range-requires
-contains-range-requires c κs = search needs
-
-told-reply-requires : tie.Need-told-reply-requires
-told-reply-requires c κs = search needs
-
 returns : tie.Need-returns
 returns c = c .told-reply .ensures ∙ ap toldReply (c .before .contains-range .ensures)
 
 pub cuddrewyn-range-contains-range-spec : {M : Type 1} → statement M
-cuddrewyn-range-contains-range-spec =
-    tie.close (tie.spec contains-range-requires told-reply-requires returns)
+cuddrewyn-range-contains-range-spec = tie.close (tie.spec (λ c κs. search needs) (λ c κs. search needs) returns)

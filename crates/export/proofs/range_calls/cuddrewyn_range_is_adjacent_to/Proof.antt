@@ -6,15 +6,8 @@ use borrow.Author.Needs.{needs}
 use Rattle.export.proofs.range_calls.cuddrewyn_range_is_adjacent_to.Statement.{statement}
 use Rattle.export.proofs.range_calls.cuddrewyn_range_is_adjacent_to.Tie as tie
 
-is-adjacent-to-requires : tie.Need-is-adjacent-to-requires
-is-adjacent-to-requires c κs = search needs
-
-told-reply-requires : tie.Need-told-reply-requires
-told-reply-requires c κs = search needs
-
 returns : tie.Need-returns
 returns c = c .told-reply .ensures ∙ ap toldReply (c .before .is-adjacent-to .ensures)
 
 pub cuddrewyn-range-is-adjacent-to-spec : {M : Type 1} → statement M
-cuddrewyn-range-is-adjacent-to-spec =
-    tie.close (tie.spec is-adjacent-to-requires told-reply-requires returns)
+cuddrewyn-range-is-adjacent-to-spec = tie.close (tie.spec (λ c κs. search needs) (λ c κs. search needs) returns)

@@ -16,4 +16,5 @@ returns c =
 
 pub cuddrewyn-save-spec : {M : Type 1} → statement M
 cuddrewyn-save-spec =
-    tie.close (tie.spec (λ c κs. search needs) (λ c κs. search needs) (λ c κs. search needs) (λ c. search needs) returns)
+    tie.close
+    (tie.spec (λ c κs. search needs) (λ c κs. search needs) (λ c κs. search needs) (λ c. search needs) returns)

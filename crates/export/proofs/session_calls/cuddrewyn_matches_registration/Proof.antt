@@ -28,30 +28,6 @@ told :
     matchReply m ≡ matchReply (called k)
 told k e = ap matchReply (sym e ∙ rw (k .before .from-pb-i32 .ensures, toZ-ofZ (k .before .before .before .before .before .before .fits .kind)) at (k .matches-registration .ensures))
 
-from-pb-i32-requires : tie.Need-from-pb-i32-requires
-from-pb-i32-requires c κs = search needs
-
-matches-registration-requires : tie.Need-matches-registration-requires
-matches-registration-requires c κs = search needs
-
-enum-told : tie.Need-enum-told
-enum-told c = search needs
-
-plain-requires : tie.Need-plain-requires
-plain-requires c κs = search needs
-
-enum-told-2 : tie.Need-enum-told-2
-enum-told-2 c = search needs
-
-plain-requires-2 : tie.Need-plain-requires-2
-plain-requires-2 c κs = search needs
-
-enum-known-x : tie.Need-enum-known-x
-enum-known-x c = search needs
-
-refused-requires : tie.Need-refused-requires
-refused-requires c κs = search needs
-
 returns : tie.Need-returns
 unfolding matchReply
 returns c = c .plain .ensures ∙ told (c .before .before .before) (c .before .enum-told .given .1)
@@ -67,15 +43,5 @@ returns-3 c = c .refused .ensures ∙ told (c .before .before .before .before) (
 pub cuddrewyn-matches-registration-spec : {M : Type 1} → statement M
 cuddrewyn-matches-registration-spec =
     tie.close
-    (tie.spec
-    from-pb-i32-requires
-    matches-registration-requires
-    enum-told
-    plain-requires
-    enum-told-2
-    plain-requires-2
-    enum-known-x
-    refused-requires
-    returns
-    returns-2
-    returns-3)
+    (tie.spec (λ c κs. search needs) (λ c κs. search needs) (λ c. search needs) (λ c κs. search needs)
+    (λ c. search needs) (λ c κs. search needs) (λ c. search needs) (λ c κs. search needs) returns returns-2 returns-3)

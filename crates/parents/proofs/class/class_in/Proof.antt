@@ -4,11 +4,8 @@ use borrow.Author.Needs.{needs}
 use Rattle.parents.proofs.class.class_in.Statement.{statement}
 use Rattle.parents.proofs.class.class_in.Tie as tie
 
-element-copy-out-result : tie.Need-element-copy-out-result
-element-copy-out-result c = search needs
-
 returns : tie.Need-returns
 returns c = c .before .pre (c .before .args .b) (search needs)
 
 pub class-in-spec : {M : Type 1} → statement M
-class-in-spec = tie.close (tie.spec element-copy-out-result returns)
+class-in-spec = tie.close (tie.spec (λ c. search needs) returns)

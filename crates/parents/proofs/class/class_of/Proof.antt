@@ -6,12 +6,9 @@ use Rattle.parents.proofs.Table.{values-at}
 use Rattle.parents.proofs.class.class_of.Statement.{statement}
 use Rattle.parents.proofs.class.class_of.Tie as tie
 
-array-read-result : tie.Need-array-read-result
-array-read-result c = search needs
-
 returns : tie.Need-returns
 unfolding classOf
 returns c = values-at classOf 256 (c .args .b) (search needs)
 
 pub class-of-spec : {M : Type 1} → statement M
-class-of-spec = tie.close (tie.spec array-read-result returns)
+class-of-spec = tie.close (tie.spec (λ c. search needs) returns)

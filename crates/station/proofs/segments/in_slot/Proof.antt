@@ -12,12 +12,5 @@ slice-aggregate-segment-for-key c = sym (length-take-le _ _ (c .before .if1 .tak
 pub in-slot-spec : {M : Type 1} → statement M
 in-slot-spec =
     tie.close
-    (tie.spec
-    (λ c κs. search needs)
-    (λ c. search needs)
-    slice-aggregate-segment-for-key
-    (λ c κs. search needs)
-    (λ c. search needs)
-    (λ c. search needs)
-    (λ c. search needs)
-    (λ c. search needs))
+    (tie.spec (λ c κs. search needs) (λ c. search needs) slice-aggregate-segment-for-key
+    (λ c κs. search needs) (λ c. search needs) (λ c. search needs) (λ c. search needs) (λ c. search needs))

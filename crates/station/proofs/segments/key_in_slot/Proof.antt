@@ -12,12 +12,5 @@ slice-aggregate-key-in-segment c = sym (length-take-le _ _ (c .before .if1 .take
 pub key-in-slot-spec : {M : Type 1} → statement M
 key-in-slot-spec =
     tie.close
-    (tie.spec
-    (λ c κs. search needs)
-    (λ c. search needs)
-    slice-aggregate-key-in-segment
-    (λ c κs. search needs)
-    (λ c. search needs)
-    (λ c. search needs)
-    (λ c. search needs)
-    (λ c. search needs))
+    (tie.spec (λ c κs. search needs) (λ c. search needs) slice-aggregate-key-in-segment
+    (λ c κs. search needs) (λ c. search needs) (λ c. search needs) (λ c. search needs) (λ c. search needs))

@@ -20,14 +20,8 @@ loop-holds c = counting-start (c .args .id) _ refl refl (omega arith)
 sub-from : tie.Need-sub-from Inv-loop μ-loop
 sub-from c = omega (arith, c .before .loop .inv .room)
 
-digit-requires : tie.Need-digit-requires Inv-loop μ-loop
-digit-requires c κs = search needs
-
 array-write-bytes : tie.Need-array-write-bytes Inv-loop μ-loop
 array-write-bytes c = omega (arith, c .before .before .loop .inv .room)
-
-loop-less : tie.Need-loop-less Inv-loop μ-loop
-loop-less c = omega arith
 
 loop-again : tie.Need-loop-again Inv-loop μ-loop
 loop-again c =
@@ -38,9 +32,6 @@ loop-again c =
 
 sub-from-2 : tie.Need-sub-from-2 Inv-loop μ-loop
 sub-from-2 c = omega (arith, c .before .loop .inv .room)
-
-digit-requires-2 : tie.Need-digit-requires-2 Inv-loop μ-loop
-digit-requires-2 c κs = search needs
 
 array-write-bytes-2 : tie.Need-array-write-bytes-2 Inv-loop μ-loop
 array-write-bytes-2 c = omega (arith, c .before .before .loop .inv .room)
@@ -55,16 +46,7 @@ returns c =
 pub put-decimal-spec : {M : Type 1} → statement M
 put-decimal-spec =
     tie.close
-    (tie.spec
-    Inv-loop
-    μ-loop
-    loop-holds
-    sub-from
-    digit-requires
-    array-write-bytes
-    loop-less
-    loop-again
-    sub-from-2
-    digit-requires-2
-    array-write-bytes-2
-    returns)
+    (tie.spec Inv-loop μ-loop loop-holds sub-from
+    (λ c κs. search needs) array-write-bytes
+    (λ c. omega arith) loop-again sub-from-2
+    (λ c κs. search needs) array-write-bytes-2 returns)

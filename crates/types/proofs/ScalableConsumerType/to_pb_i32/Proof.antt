@@ -6,12 +6,6 @@ use Rattle.types.specs.ConsumerTypes.{toWire}
 use Rattle.types.proofs.ScalableConsumerType.to_pb_i32.Statement.{statement}
 use Rattle.types.proofs.ScalableConsumerType.to_pb_i32.Tie as tie
 
-enum-told : tie.Need-enum-told
-enum-told c = search needs
-
-enum-told-2 : tie.Need-enum-told-2
-enum-told-2 c = search needs
-
 returns : tie.Need-returns
 unfolding toWire
 returns c = sym (ap toWire (c .enum-told .given .1))
@@ -21,4 +15,4 @@ unfolding toWire
 returns-2 c = sym (ap toWire (c .enum-told2 .given .1))
 
 pub to-pb-i32-spec : {M : Type 1} → statement M
-to-pb-i32-spec = tie.close (tie.spec enum-told enum-told-2 returns returns-2)
+to-pb-i32-spec = tie.close (tie.spec (λ c. search needs) (λ c. search needs) returns returns-2)

@@ -4,15 +4,9 @@ use borrow.Author.Needs.{needs}
 use Rattle.vectors.proofs.intake_vectors.of_response.Statement.{statement}
 use Rattle.vectors.proofs.intake_vectors.of_response.Tie as tie
 
-read-response-requires : tie.Need-read-response-requires
-read-response-requires c κs = search needs
-
 take-in-requires : tie.Need-take-in-requires
 unfolding responseOf
 take-in-requires c κs = (search needs, c .before .read-response .ensures .epoch)
 
-returns : tie.Need-returns
-returns c = search needs
-
 pub of-response-spec : {M : Type 1} → statement M
-of-response-spec = tie.close (tie.spec read-response-requires take-in-requires returns)
+of-response-spec = tie.close (tie.spec (λ c κs. search needs) take-in-requires (λ c. search needs))

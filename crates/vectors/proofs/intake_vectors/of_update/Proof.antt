@@ -4,15 +4,9 @@ use borrow.Author.Needs.{needs}
 use Rattle.vectors.proofs.intake_vectors.of_update.Statement.{statement}
 use Rattle.vectors.proofs.intake_vectors.of_update.Tie as tie
 
-read-update-requires : tie.Need-read-update-requires
-read-update-requires c κs = search needs
-
 take-in-requires : tie.Need-take-in-requires
 unfolding updateOf
 take-in-requires c κs = (search needs, c .before .read-update .ensures .epoch)
 
-returns : tie.Need-returns
-returns c = search needs
-
 pub of-update-spec : {M : Type 1} → statement M
-of-update-spec = tie.close (tie.spec read-update-requires take-in-requires returns)
+of-update-spec = tie.close (tie.spec (λ c κs. search needs) take-in-requires (λ c. search needs))

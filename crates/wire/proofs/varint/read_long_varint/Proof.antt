@@ -38,12 +38,6 @@ returns c =
     let p = c .before .before .loop in
     sym (p .inv .3 ∙ shifted-short _ (p .i) (p .value) (p .weight) (c .if1 .taken))
 
-shared-slice-read-wide : tie.Need-shared-slice-read-wide Inv-loop μ-loop
-shared-slice-read-wide c = omega arith
-
-wide-requires : tie.Need-wide-requires Inv-loop μ-loop
-wide-requires c κs = search needs
-
 mul-t11 : tie.Need-mul-t11 Inv-loop μ-loop
 mul-t11 c =
     let p = c .before .before .before .before .before .loop in
@@ -55,9 +49,6 @@ add-t12 c =
     let p = c .before .before .before .before .before .loop in
     let b = c .before .wide .result in
     omega (arith, sum-fits-63 (p .value) (p .weight) b (p .i) (p .inv .1) (p .inv .2) (omega arith) (omega arith))
-
-add-t13 : tie.Need-add-t13 Inv-loop μ-loop
-add-t13 c = omega arith
 
 returns-2 : tie.Need-returns-2 Inv-loop μ-loop
 returns-2 c =
@@ -81,12 +72,6 @@ add-value c =
 mul-weight : tie.Need-mul-weight Inv-loop μ-loop
 mul-weight c = omega (arith, weight-le (c .before .before .before .before .before .loop .i) 8 (omega arith))
 
-add-i : tie.Need-add-i Inv-loop μ-loop
-add-i c = omega arith
-
-loop-less : tie.Need-loop-less Inv-loop μ-loop
-loop-less c = omega arith
-
 loop-again : tie.Need-loop-again Inv-loop μ-loop
 loop-again c =
     let p = c .before .before .before .before .before .loop in
@@ -102,12 +87,6 @@ returns-3 : tie.Need-returns-3 Inv-loop μ-loop
 returns-3 c =
     let p = c .before .before .loop in
     sym (p .inv .3 ∙ shifted-short _ (p .i) (p .value) (p .weight) (omega arith))
-
-shared-slice-read-wide-2 : tie.Need-shared-slice-read-wide-2 Inv-loop μ-loop
-shared-slice-read-wide-2 c = omega arith
-
-wide-requires-2 : tie.Need-wide-requires-2 Inv-loop μ-loop
-wide-requires-2 c κs = search needs
 
 mul-t21 : tie.Need-mul-t21 Inv-loop μ-loop
 mul-t21 c =
@@ -136,27 +115,8 @@ returns-5 c =
 pub read-long-varint-spec : {M : Type 1} → statement M
 read-long-varint-spec =
     tie.close
-    (tie.spec
-    Inv-loop
-    μ-loop
-    loop-holds
-    returns
-    shared-slice-read-wide
-    wide-requires
-    mul-t11
-    add-t12
-    add-t13
-    returns-2
-    mul-value
-    add-value
-    mul-weight
-    add-i
-    loop-less
-    loop-again
-    returns-3
-    shared-slice-read-wide-2
-    wide-requires-2
-    mul-t21
-    add-t22
-    returns-4
-    returns-5)
+    (tie.spec Inv-loop μ-loop loop-holds returns
+    (λ c. omega arith) (λ c κs. search needs) mul-t11 add-t12
+    (λ c. omega arith) returns-2 mul-value add-value mul-weight
+    (λ c. omega arith) (λ c. omega arith) loop-again returns-3
+    (λ c. omega arith) (λ c κs. search needs) mul-t21 add-t22 returns-4 returns-5)

@@ -12,12 +12,6 @@ use Rattle.wire.proofs.varint.read_short_varint.Tie as tie
 returns : tie.Need-returns
 returns c = sym (varint-nil (c .before .before .args .s .now) (omega arith))
 
-shared-slice-read-wide : tie.Need-shared-slice-read-wide
-shared-slice-read-wide c = search needs
-
-wide-requires : tie.Need-wide-requires
-wide-requires c κs = search needs
-
 returns-2 : tie.Need-returns-2
 returns-2 c =
     let s = c .before .before .before .before .before .args .s .now in
@@ -27,18 +21,6 @@ returns-3 : tie.Need-returns-3
 returns-3 c =
     let s = c .before .before .before .before .before .before .args .s .now in
     sym (varint-behind-one s (omega arith) (omega arith) ∙ shifted-short s 1 (getD s 0 0 - 128) 128 (omega arith))
-
-shared-slice-read-wide-2 : tie.Need-shared-slice-read-wide-2
-shared-slice-read-wide-2 c = search needs
-
-wide-requires-2 : tie.Need-wide-requires-2
-wide-requires-2 c κs = search needs
-
-mul-t11 : tie.Need-mul-t11
-mul-t11 c = search needs
-
-add-t12 : tie.Need-add-t12
-add-t12 c = search needs
 
 returns-4 : tie.Need-returns-4
 returns-4 c =
@@ -55,24 +37,6 @@ returns-5 c =
     (varint-behind-two s (omega arith) (omega arith) (omega arith) (omega arith)
     ∙ shifted-short s 2 (getD s 0 0 - 128 + 128 * (getD s 1 0 - 128)) 16384 (omega arith))
 
-shared-slice-read-wide-3 : tie.Need-shared-slice-read-wide-3
-shared-slice-read-wide-3 c = search needs
-
-wide-requires-3 : tie.Need-wide-requires-3
-wide-requires-3 c κs = search needs
-
-mul-t16 : tie.Need-mul-t16
-mul-t16 c = search needs
-
-add-t17 : tie.Need-add-t17
-add-t17 c = search needs
-
-mul-t18 : tie.Need-mul-t18
-mul-t18 c = search needs
-
-add-t19 : tie.Need-add-t19
-add-t19 c = search needs
-
 returns-6 : tie.Need-returns-6
 returns-6 c =
     let s = c .before .before .before .before .before .before .before .before .before .before .before .before .before .args .s .now in
@@ -82,33 +46,12 @@ returns-6 c =
     (varint-behind-two s (omega arith) (omega arith) (omega arith) (omega arith)
     ∙ shifted-ends s 2 (getD s 0 0 - 128 + 128 * (getD s 1 0 - 128)) 16384 (omega arith) (omega arith) (omega arith)))
 
-read-long-varint-requires : tie.Need-read-long-varint-requires
-read-long-varint-requires c κs = search needs
-
-returns-7 : tie.Need-returns-7
-returns-7 c = search needs
-
 pub read-short-varint-spec : {M : Type 1} → statement M
 read-short-varint-spec =
     tie.close
-    (tie.spec
-    returns
-    shared-slice-read-wide
-    wide-requires
-    returns-2
-    returns-3
-    shared-slice-read-wide-2
-    wide-requires-2
-    mul-t11
-    add-t12
-    returns-4
-    returns-5
-    shared-slice-read-wide-3
-    wide-requires-3
-    mul-t16
-    add-t17
-    mul-t18
-    add-t19
-    returns-6
-    read-long-varint-requires
-    returns-7)
+    (tie.spec returns
+    (λ c. search needs) (λ c κs. search needs) returns-2 returns-3
+    (λ c. search needs) (λ c κs. search needs) (λ c. search needs) (λ c. search needs) returns-4 returns-5
+    (λ c. search needs) (λ c κs. search needs) (λ c. search needs) (λ c. search needs) (λ c. search needs)
+    (λ c. search needs) returns-6
+    (λ c κs. search needs) (λ c. search needs))

@@ -10,30 +10,12 @@ use Rattle.wire.proofs.varint.read_varint.Tie as tie
 returns : tie.Need-returns
 returns c = sym (varint-nil (c .before .before .args .s .now) (omega arith))
 
-shared-slice-read-wide : tie.Need-shared-slice-read-wide
-shared-slice-read-wide c = search needs
-
-wide-requires : tie.Need-wide-requires
-wide-requires c κs = search needs
-
 returns-2 : tie.Need-returns-2
 returns-2 c =
     let s = c .before .before .before .before .before .args .s .now in
     rw (c .before .wide .ensures .0) (sym (varint-one s (omega arith) (omega arith)))
 
-read-long-varint-requires : tie.Need-read-long-varint-requires
-read-long-varint-requires c κs = search needs
-
-returns-3 : tie.Need-returns-3
-returns-3 c = search needs
-
 pub read-varint-spec : {M : Type 1} → statement M
 read-varint-spec =
     tie.close
-    (tie.spec
-    returns
-    shared-slice-read-wide
-    wide-requires
-    returns-2
-    read-long-varint-requires
-    returns-3)
+    (tie.spec returns (λ c. search needs) (λ c κs. search needs) returns-2 (λ c κs. search needs) (λ c. search needs))
