@@ -18,10 +18,10 @@ use Rattle.packed_int.specs.Put.{put}
 use Rattle.packed_int.proofs.BeLaws.{length-bytesOf}
 use Rattle.packed_int.proofs.PutLaws.{put-before}
 use Rattle.packed.specs.Assignment.{AssignedSegment, ConsumerAssignment, slotSize, encodeSegments, encodeAssignment, sizeSegments}
-use Rattle.packed.specs.Assignment.{sizeAssignment, num, segmentsOf, assignmentOf, isAssignment}
+use Rattle.packed.specs.Assignment.{sizeAssignment, num, decodeSegments, decodeAssignment, isAssignment}
 use Rattle.packed.proofs.RoundLaws.{length-encodeSegments, length-encodeAssignment}
 use Rattle.packed.proofs.WholeLaws.{Whole}
-use Rattle.delta.specs.Delta.{idsOf, deltaOf, isDelta}
+use Rattle.delta.specs.Delta.{decodeIds, decodeDelta, isDelta}
 use Rattle.delta.specs.Join.{apply}
 use Rattle.delta.proofs.RoundLaws.{Walkable}
 use Rattle.delta.proofs.ShortLaws.{size-records}
@@ -50,7 +50,7 @@ few-fit {gs} f = omega (arith, f .count, f .within, size-records gs)
 -- count records behind the head of s, overlaid with losses ids and gains records of d
 abbrev pub overlaid : List ℕ → List ℕ → ℕ → ℕ → ℕ → List AssignedSegment
 overlaid s d count losses gains =
-    overlay (idsOf losses (drop 12 d)) (segmentsOf gains (drop (12 + 8 * losses) d)) (segmentsOf count (drop 10 s))
+    overlay (decodeIds losses (drop 12 d)) (decodeSegments gains (drop (12 + 8 * losses) d)) (decodeSegments count (drop 10 s))
 
 module _ {s d : List ℕ} {count losses gains : ℕ} (w : Whole s count) (v : Walkable d losses gains) (o : List ℕ) where
   abbrev R : List AssignedSegment
@@ -60,9 +60,9 @@ module _ {s d : List ℕ} {count losses gains : ℕ} (w : Whole s count) (v : Wa
   X = record { layoutEpoch = num 8 d; segments = R }
 
   result : applyOutcome s d o ≡ applied X o
-  unfolding applyOutcome applied apply deltaOf overlay
+  unfolding applyOutcome applied apply decodeDelta overlay
   result =
-      let e : apply (deltaOf d) (assignmentOf s) ≡ X = cc (w .segments-are, v .lost-is, v .gained-is) in
+      let e : apply (decodeDelta d) (decodeAssignment s) ≡ X = cc (w .segments-are, v .lost-is, v .gained-is) in
       simp (w .is-assignment, v .is-delta, e)
 
   pub too-long : Beyond ≡ fitOf 2038 R → refuse AssignmentTooLong o ≡ applyOutcome s d o

@@ -7,15 +7,15 @@ use lib.Dec.{leb}
 use Rattle.refusal.specs.declared.Refusal.the-variants.{MalformedInput, AssignmentTooLong}
 use Rattle.refusal.specs.Steps.{_>>_, refuseUnless}
 use Rattle.output.specs.Output.{Outcome, unwritten, written}
-use Rattle.packed.specs.Assignment.{ConsumerAssignment, slotSize, encodeAssignment, sizeAssignment, assignmentOf, isAssignment}
-use Rattle.delta.specs.Delta.{deltaOf, isDelta}
+use Rattle.packed.specs.Assignment.{ConsumerAssignment, slotSize, encodeAssignment, sizeAssignment, decodeAssignment, isAssignment}
+use Rattle.delta.specs.Delta.{decodeDelta, isDelta}
 use Rattle.delta.specs.Join.{apply}
 
 -- the delta d applied to the packed assignment s
 unfoldable pub applyOutcome : (s d out : List ℕ) → Outcome
 applyOutcome s d out = do
   refuseUnless (unwritten out) (isAssignment s && isDelta d) MalformedInput  -- 20
-  let a = apply (deltaOf d) (assignmentOf s)
+  let a = apply (decodeDelta d) (decodeAssignment s)
   refuseUnless (unwritten out) (leb (sizeAssignment a) slotSize) AssignmentTooLong  -- 15
   written (encodeAssignment a) out  -- 21
 

@@ -16,7 +16,7 @@ use Rattle.wire_writer.specs.Encode.{numberField, partHead, partField}
 use Rattle.wire_writer.proofs.EncodeLaws.{number-reads, part-reads}
 use Rattle.packed.specs.Assignment.{AssignedSegment, ConsumerAssignment}
 use Rattle.packed.proofs.RoundLaws.{FitRange, FitSegment}
-use Rattle.assignment_message.specs.Message.{rangeMessage, bucketFields, topicOf, segmentMessage, segmentFields, assignmentMessage}
+use Rattle.assignment_message.specs.Message.{rangeMessage, bucketFields, segmentTopicOf, segmentMessage, segmentFields, assignmentMessage}
 pub use Rattle.assignment_message.specs.WireRows.{numbered, parted, partRow}
 
 -- ---- fields that each hold a part
@@ -81,14 +81,14 @@ segments-parts path (g ∷ gs) = ap (λ (l : List ℕ). partField 2 (segmentMess
 -- a segment's row, with the parts of its buckets
 abbrev pub segmentRowOf : List ℕ → AssignedSegment → List (List ℕ) → List Field
 segmentRowOf path g ps =
-    numbered 1 (g .segmentId) ∷ numbered 2 (g .range .start) ∷ numbered 3 (g .range .end) ∷ parted 4 (topicOf path g) ∷ partRow 5 ps
+    numbered 1 (g .segmentId) ∷ numbered 2 (g .range .start) ∷ numbered 3 (g .range .end) ∷ parted 4 (segmentTopicOf path g) ∷ partRow 5 ps
 
 pub segment-row : (path : List ℕ) (g : AssignedSegment) → FitSegment g → length (segmentMessage path g) < 2 ^ 64
     → fieldsOf (segmentMessage path g) ≡ segmentRowOf path g (map rangeMessage (g .buckets))
 unfolding segmentMessage
 segment-row path g f s =
     let bs : List (List ℕ) = map rangeMessage (g .buckets) in
-    let t : List ℕ = topicOf path g in
+    let t : List ℕ = segmentTopicOf path g in
     let B : List ℕ = partFields 5 bs in
     let T : List ℕ = partField 4 t ++ B in
     let E : List ℕ = numberField 3 (g .range .end) ++ T in

@@ -19,7 +19,7 @@ use Rattle.wire_writer.specs.Encode.{varintBytes, numberKey, partKey, numberFie
 use Rattle.wire_writer.proofs.EncodeLaws.{length-varint-le}
 use Rattle.packed.specs.Assignment.{AssignedSegment, ConsumerAssignment, slotSize, sizeSegment, sizeSegments, sizeAssignment}
 use Rattle.packed.specs.Assignment.{okFrom, okAssignment}
-use Rattle.assignment_message.specs.Message.{rangeMessage, bucketFields, topicOf, segmentMessage, segmentFields, assignmentMessage}
+use Rattle.assignment_message.specs.Message.{rangeMessage, bucketFields, segmentTopicOf, segmentMessage, segmentFields, assignmentMessage}
 
 number-le : (f v : ℕ) → length (numberField f v) ≤ 20
 unfolding numberField
@@ -54,7 +54,7 @@ segment-le path g =
       number-le 1 (g .segmentId),
       number-le 2 (g .range .start),
       number-le 3 (g .range .end),
-      part-le 4 (topicOf path g),
+      part-le 4 (segmentTopicOf path g),
       segmentTopic-length (g .range) (record { 0 = g .segmentId }) path,
       descriptor-short (g .range) (record { 0 = g .segmentId }),
       buckets-le (g .buckets),

@@ -26,7 +26,7 @@ use Rattle.values.specs.Values.{partsOf}
 use Rattle.packed.specs.Assignment.{AssignedSegment, ConsumerAssignment}
 use Rattle.packed.proofs.RoundLaws.{FitRanges}
 use Rattle.keyed.proofs.EachLaws.{Each, each-map}
-use Rattle.assignment_message.specs.Message.{rangeMessage, topicOf, segmentMessage, assignmentMessage}
+use Rattle.assignment_message.specs.Message.{rangeMessage, segmentTopicOf, segmentMessage, assignmentMessage}
 use Rattle.assignment_message.proofs.TextLaws.{topic-utf8}
 use Rattle.assignment_message.proofs.RowLaws.{numbered, partRow, range-row, segmentRowOf, segment-row, assignment-row}
 use Rattle.assignment_message.proofs.WireLaws.{Written}
@@ -44,7 +44,7 @@ module _ (d : ℕ) (k j : MessageKind) (f : ℕ) where
 
 -- by their rows, whatever they are nested in
 pub segment-row-valid : (d : ℕ) (p path : List ℕ) (g : AssignedSegment) (ps : List (List ℕ)) → fieldsOf p ≡ segmentRowOf path g ps
-    → isUtf8 (topicOf path g) ≡ true → Each (Sound d IntRange) ps → Sound (suc d) ScalableAssignedSegment p
+    → isUtf8 (segmentTopicOf path g) ≡ true → Each (Sound d IntRange) ps → Sound (suc d) ScalableAssignedSegment p
 unfolding valueFor
 segment-row-valid d p path g ps e u v =
     record {

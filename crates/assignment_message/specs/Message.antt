@@ -19,14 +19,14 @@ unfoldable pub bucketFields : List KeyRange → List ℕ
 bucketFields [] = []
 bucketFields (r ∷ rs) = partField 5 (rangeMessage r) ++ bucketFields rs
 
-abbrev pub topicOf : List ℕ → AssignedSegment → List ℕ
-topicOf path g = segmentTopic path (g .range) (record { 0 = g .segmentId })
+abbrev pub segmentTopicOf : List ℕ → AssignedSegment → List ℕ
+segmentTopicOf path g = segmentTopic path (g .range) (record { 0 = g .segmentId })
 
 -- ScalableAssignedSegment
 unfoldable pub segmentMessage : List ℕ → AssignedSegment → List ℕ
 segmentMessage path g =
     numberField 1 (g .segmentId)
-    ++ (numberField 2 (g .range .start) ++ (numberField 3 (g .range .end) ++ (partField 4 (topicOf path g) ++ bucketFields (g .buckets))))
+    ++ (numberField 2 (g .range .start) ++ (numberField 3 (g .range .end) ++ (partField 4 (segmentTopicOf path g) ++ bucketFields (g .buckets))))
 
 unfoldable pub segmentFields : List ℕ → List AssignedSegment → List ℕ
 segmentFields path [] = []

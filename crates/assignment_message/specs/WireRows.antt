@@ -9,7 +9,7 @@ use Rattle.wire.specs.Fields.{number, bytes, Field, field}
 use Rattle.readers.specs.declared.IntRange.{IntRange}
 use Rattle.readers.specs.Messages.{WireSegment}
 use Rattle.packed.specs.Assignment.{AssignedSegment}
-use Rattle.assignment_message.specs.Message.{topicOf}
+use Rattle.assignment_message.specs.Message.{segmentTopicOf}
 
 -- ---- fields
 
@@ -34,6 +34,6 @@ wireSegment path g =
       segmentId = g .segmentId;
       hashStart = g .range .start;
       hashEnd = g .range .end;
-      segmentTopic = topicOf path g;
+      segmentTopic = segmentTopicOf path g;
       bucketRanges = map wireRange (g .buckets);
     }

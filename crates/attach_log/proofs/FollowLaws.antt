@@ -16,14 +16,14 @@ use lib.Dec.{leb, eqb}
 use borrow.Author.Tests.{le-leb, lt-leb, eq-eqb, ne-eqb}
 use Rattle.parts.specs.BoolLaws.{both-true}
 use Rattle.refusal.specs.declared.Refusal.the-variants.{MalformedInput, InvalidLog}
-use Rattle.packed.specs.Assignment.{AssignedSegment, segmentsOf}
-use Rattle.delta.specs.Delta.{AssignmentDelta, idsOf, deltaOf, sizeDelta, okDelta, startsDelta}
+use Rattle.packed.specs.Assignment.{AssignedSegment, decodeSegments}
+use Rattle.delta.specs.Delta.{AssignmentDelta, decodeIds, decodeDelta, sizeDelta, okDelta, startsDelta}
 use Rattle.delta.proofs.RoundLaws.{Front}
 use Rattle.log_entries.specs.declared.Entry.{Entry}
 use Rattle.log_entries.specs.declared.Entry.the-variants.{Detach}
 use Rattle.log_entries.specs.declared.LogAnswer.the-variants.{Told, Refused}
 use Rattle.log_entries.specs.Log.{isNil, behind, areAtMost, deltasAtMost, areDeltas, deltasOf}
-use Rattle.log_entries.specs.Log.{entriesIn, entriesOf, clearIn, isLog}
+use Rattle.log_entries.specs.Log.{entriesIn, logEntries, clearIn, isLog}
 use Rattle.log_entries.specs.Passes.{attachOf, detaches, attaches, Checked}
 use Rattle.log_entries.specs.Follows.{allIn, follows}
 use Rattle.attach_log.specs.Steps.{partIn, deltaIn}
@@ -35,7 +35,7 @@ use Rattle.log_entries.proofs.PassLaws.{AllGood, follows-passes, passes-follows
 -- ---- a delta's entries
 
 module _ (s : List ℕ) (m n : ℕ) (log : List ℕ) (q : ℕ) (t : Bool) (e : t ≡ partIn false s 12 m log q m) where
-  lost-there : t ≡ allIn (map Detach (idsOf m (drop 12 s))) (entriesIn m (drop q log))
+  lost-there : t ≡ allIn (map Detach (decodeIds m (drop 12 s))) (entriesIn m (drop q log))
   lost-there = e
 
   pub in-not : t ≡ false → false ≡ deltaIn s m n (drop q log)
@@ -46,7 +46,7 @@ module _ (s : List ℕ) (m n : ℕ) (log : List ℕ) (q : ℕ) (t : Bool) (e : t
   unfolding deltaIn
   in-both h r f =
       f
-      ∙ ap (λ (l : List Entry). allIn l (entriesIn n (drop (q + 9 * m) log))) (attach-ids (segmentsOf n (drop (12 + 8 * m) s)))
+      ∙ ap (λ (l : List Entry). allIn l (entriesIn n (drop (q + 9 * m) log))) (attach-ids (decodeSegments n (drop (12 + 8 * m) s)))
       ∙ simp (← lost-there, h, drop-drop (9 * m) q log)
 
 -- ---- one delta of a walk
@@ -59,7 +59,7 @@ nil-most (suc f) l h = simp h
 record Most (f : ℕ) (l : List ℕ) : Type 0 where
   starts : startsDelta l ≡ true
   rest : areAtMost (f - 1) (behind l) ≡ true
-  deltas : deltasAtMost f l ≡ deltaOf l ∷ deltasAtMost (f - 1) (behind l)
+  deltas : deltasAtMost f l ≡ decodeDelta l ∷ deltasAtMost (f - 1) (behind l)
 
 most : (f : ℕ) (l : List ℕ) → isNil l ≡ false → areAtMost f l ≡ true → Most f l
 unfolding areAtMost deltasAtMost
@@ -70,7 +70,7 @@ most (suc f) l h k =
     record {
       starts = b .0;
       rest = ap (λ (g : ℕ). areAtMost g (behind l)) (sym e) ∙ b .1;
-      deltas = simp h (ap (λ (g : ℕ). deltaOf l ∷ deltasAtMost g (behind l)) e);
+      deltas = simp h (ap (λ (g : ℕ). decodeDelta l ∷ deltasAtMost g (behind l)) e);
     }
 
 and-assoc : (a b c : Bool) → (a && (b && c)) ≡ ((a && b) && c)
@@ -101,14 +101,14 @@ pub record Follow (s log : List ℕ) (p q left : ℕ) : Type 0 where
   pub bound : p ≤ length s
   pub place : q + 9 * left ≤ length log
   pub good : areAtMost count (drop p s) ≡ true
-  pub decides : follows (deltasOf s) (entriesOf log) ≡ follows (deltasAtMost count (drop p s)) (entriesIn left (drop q log))
+  pub decides : follows (deltasOf s) (logEntries log) ≡ follows (deltasAtMost count (drop p s)) (entriesIn left (drop q log))
 
 pub follow-start : (s log : List ℕ) → areDeltas s ≡ true → Follow s log 0 0 (length log / 9)
-unfolding areDeltas deltasOf entriesOf
+unfolding areDeltas deltasOf logEntries
 follow-start s log h = record { count = length s; bound = omega arith; place = omega arith; good = h; decides = refl }
 
 module _ (s log : List ℕ) (p q left : ℕ) (w : Follow s log p q left) where
-  pub follow-end : length s ≤ p → eqb left 0 ≡ follows (deltasOf s) (entriesOf log)
+  pub follow-end : length s ≤ p → eqb left 0 ≡ follows (deltasOf s) (logEntries log)
   unfolding follows
   follow-end h =
       sym (w .decides
@@ -132,9 +132,9 @@ module _ (s log : List ℕ) (p q left : ℕ) (w : Follow s log p q left) where
       later = deltasAtMost (w .count - 1) (behind (drop p s))
 
       abbrev d : AssignmentDelta
-      d = deltaOf (drop p s)
+      d = decodeDelta (drop p s)
 
-      turn : follows (deltasOf s) (entriesOf log) ≡ (leb (m + n) left && (parts d m n es && follows later (drop (m + n) es)))
+      turn : follows (deltasOf s) (logEntries log) ≡ (leb (m + n) left && (parts d m n es && follows later (drop (m + n) es)))
       turn =
           w .decides
           ∙ ap (λ (ds : List AssignmentDelta). follows ds es) (here .deltas)
@@ -142,7 +142,7 @@ module _ (s log : List ℕ) (p q left : ℕ) (w : Follow s log p q left) where
           ∙ ap (λ (k : ℕ). leb (m + n) k && (parts d m n es && follows later (drop (m + n) es)))
           (length-entries left (drop q log))
 
-      pub follow-few : left < m + n → false ≡ follows (deltasOf s) (entriesOf log)
+      pub follow-few : left < m + n → false ≡ follows (deltasOf s) (logEntries log)
       follow-few k = sym (turn ∙ simp (lt-leb (m + n) left k))
 
       module _ (k : m + n ≤ left) where
@@ -164,22 +164,22 @@ module _ (s log : List ℕ) (p q left : ℕ) (w : Follow s log p q left) where
         here-is : parts d m n es ≡ deltaIn (drop p s) m n (drop q log)
         unfolding deltaIn
         here-is =
-            let ids : List ℕ = idsOf m (drop 12 (drop p s)) in
-            let gs : List AssignedSegment = segmentsOf n (drop (12 + 8 * m) (drop p s)) in
+            let ids : List ℕ = decodeIds m (drop 12 (drop p s)) in
+            let gs : List AssignedSegment = decodeSegments n (drop (12 + 8 * m) (drop p s)) in
             ap (λ (x : List ℕ). allIn (map Detach x) (take m es) && allIn (attaches d) (take n (drop m es))) (f .lost-is)
             ∙ ap (λ (x : List AssignedSegment). allIn (map Detach ids) (take m es) && allIn (map attachOf x) (take n (drop m es)))
             (f .gained-is)
             ∙ ap (λ (x : List Entry). allIn (map Detach ids) x && allIn (map attachOf gs) (take n (drop m es))) lost-entries
             ∙ ap (λ (x : List Entry). allIn (map Detach ids) (entriesIn m (drop q log)) && allIn (map attachOf gs) x) gained-entries
 
-        turn-in : follows (deltasOf s) (entriesOf log)
+        turn-in : follows (deltasOf s) (logEntries log)
             ≡ (deltaIn (drop p s) m n (drop q log) && follows later (drop (m + n) es))
         turn-in =
             turn
             ∙ ap (λ (t : Bool). t && (parts d m n es && follows later (drop (m + n) es))) (le-leb (m + n) left k)
             ∙ ap (λ (t : Bool). t && follows later (drop (m + n) es)) here-is
 
-        pub follow-wrong : deltaIn (drop p s) m n (drop q log) ≡ false → false ≡ follows (deltasOf s) (entriesOf log)
+        pub follow-wrong : deltaIn (drop p s) m n (drop q log) ≡ false → false ≡ follows (deltasOf s) (logEntries log)
         follow-wrong e = sym (turn-in ∙ ap (λ (t : Bool). t && follows later (drop (m + n) es)) e)
 
         behind-is : behind (drop p s) ≡ drop (p + z) s
@@ -224,14 +224,14 @@ all-good zero l h = tt
 all-good (suc f) l h = go (isNil l) refl (all-good f (behind l))
   where
     go : (t : Bool) → isNil l ≡ t → (areAtMost f (behind l) ≡ true → AllGood (deltasAtMost f (behind l)))
-        → AllGood (cond (isNil l) [] (deltaOf l ∷ deltasAtMost f (behind l)))
-    go true e r = subst AllGood (sym (ap (λ (t : Bool). cond t [] (deltaOf l ∷ deltasAtMost f (behind l))) e)) tt
+        → AllGood (cond (isNil l) [] (decodeDelta l ∷ deltasAtMost f (behind l)))
+    go true e r = subst AllGood (sym (ap (λ (t : Bool). cond t [] (decodeDelta l ∷ deltasAtMost f (behind l))) e)) tt
     go false e r =
         let k : (startsDelta l && areAtMost f (behind l)) ≡ true =
         sym (ap (λ (t : Bool). t || (startsDelta l && areAtMost f (behind l))) e) ∙ h in
         let b = both-true (startsDelta l) _ k in
-        let o : okDelta (deltaOf l) ≡ true = both-true (leb (sizeDelta (deltaOf l)) (length l)) _ (b .0) .1 in
-        subst AllGood (sym (ap (λ (t : Bool). cond t [] (deltaOf l ∷ deltasAtMost f (behind l))) e)) (o, r (b .1))
+        let o : okDelta (decodeDelta l) ≡ true = both-true (leb (sizeDelta (decodeDelta l)) (length l)) _ (b .0) .1 in
+        subst AllGood (sym (ap (λ (t : Bool). cond t [] (decodeDelta l ∷ deltasAtMost f (behind l))) e)) (o, r (b .1))
 
 module _ (s log : List ℕ) where
   pub checked-deltas : areDeltas s ≡ false → Checked s log (Refused MalformedInput)
@@ -243,11 +243,11 @@ module _ (s log : List ℕ) where
     unfolding Checked
     checked-log f = inr (e, f, refl)
 
-    pub checked-told : isLog log ≡ true → (b : Bool) → b ≡ follows (deltasOf s) (entriesOf log) → Checked s log (Told b)
+    pub checked-told : isLog log ≡ true → (b : Bool) → b ≡ follows (deltasOf s) (logEntries log) → Checked s log (Told b)
     unfolding Checked areDeltas deltasOf
     checked-told f b h = (
       e,
       f,
-      λ t. follows-passes (deltasOf s) (entriesOf log) (all-good (length s) s e) (sym h ∙ t),
-      λ p. h ∙ passes-follows (deltasOf s) (entriesOf log) p,
+      λ t. follows-passes (deltasOf s) (logEntries log) (all-good (length s) s e) (sym h ∙ t),
+      λ p. h ∙ passes-follows (deltasOf s) (logEntries log) p,
     )

@@ -15,9 +15,9 @@ use lib.Seq.{drop-drop}
 use lib.Dec.{leb}
 use borrow.Author.Tests.{le-leb}
 use Rattle.packed_int.specs.Be.{beAt}
-use Rattle.packed.specs.Assignment.{AssignedSegment, num, idOf, segmentOf, segmentsOf, sizeSegment, okFrom}
+use Rattle.packed.specs.Assignment.{AssignedSegment, num, idOf, decodeSegment, decodeSegments, sizeSegment, okFrom}
 use Rattle.packed.proofs.AssignmentLaws.{size-least, segments-at, size-turn, ok-head, ok-tail}
-use Rattle.delta.specs.Delta.{idsOf, idsFrom}
+use Rattle.delta.specs.Delta.{decodeIds, idsFrom}
 use Rattle.delta.proofs.RoundLaws.{ids-at, ids-none}
 use Rattle.repeats.specs.Repeats.{risesFrom, rises}
 use Rattle.repeats.proofs.RowLaws.{rises-cons}
@@ -32,30 +32,30 @@ use Rattle.attach_log.proofs.EntryLaws.{has-at}
 
 -- ---- a part by its first id
 
-segments-none : (n : ℕ) (l : List ℕ) → n ≤ 0 → segmentsOf n l ≡ []
-unfolding segmentsOf
-segments-none n l h = let e : n ≡ 0 = omega arith in ap (λ (k : ℕ). segmentsOf k l) e
+segments-none : (n : ℕ) (l : List ℕ) → n ≤ 0 → decodeSegments n l ≡ []
+unfolding decodeSegments
+segments-none n l h = let e : n ≡ 0 = omega arith in ap (λ (k : ℕ). decodeSegments k l) e
 
 pub size-least-first : (attach : Bool) (l : List ℕ) → 8 ≤ sizeFirst attach l
-size-least-first true l = omega (arith, size-least (segmentOf l))
+size-least-first true l = omega (arith, size-least (decodeSegment l))
 size-least-first false l = omega arith
 
 pub size-record : (attach : Bool) (l : List ℕ) → attach ≡ true → 14 ≤ sizeFirst attach l
-size-record attach l e = rw e (size-least (segmentOf l))
+size-record attach l e = rw e (size-least (decodeSegment l))
 
 module _ (s : List ℕ) (p n : ℕ) (h : 0 < n) where
   ids-step : (attach : Bool) (i : ℕ) → i ≡ beAt 8 s p
       → idsIn attach n (drop p s) ≡ i ∷ idsIn attach (n - 1) (drop (p + sizeFirst attach (drop p s)) s)
-  unfolding num beAt segmentOf
+  unfolding num beAt decodeSegment
   ids-step true i e =
-      let z : ℕ = sizeSegment (segmentOf (drop p s)) in
+      let z : ℕ = sizeSegment (decodeSegment (drop p s)) in
       ap (map idOf) (segments-at s p n z h refl)
-      ∙ ap (λ (k : ℕ). k ∷ map idOf (segmentsOf (n - 1) (drop (p + z) s))) (sym e)
-  ids-step false i e = ids-at s p n h ∙ ap (λ (k : ℕ). k ∷ idsOf (n - 1) (drop (p + 8) s)) (sym e)
+      ∙ ap (λ (k : ℕ). k ∷ map idOf (decodeSegments (n - 1) (drop (p + z) s))) (sym e)
+  ids-step false i e = ids-at s p n h ∙ ap (λ (k : ℕ). k ∷ decodeIds (n - 1) (drop (p + 8) s)) (sym e)
 
   size-step : (attach : Bool) → let z = sizeFirst attach (drop p s) in
       p + sizeIn attach n (drop p s) ≡ p + z + sizeIn attach (n - 1) (drop (p + z) s)
-  size-step true = size-turn s p n (sizeSegment (segmentOf (drop p s))) h refl
+  size-step true = size-turn s p n (sizeSegment (decodeSegment (drop p s))) h refl
   size-step false = omega arith
 
 ids-done : (attach : Bool) (n : ℕ) (l : List ℕ) → n ≤ 0 → idsIn attach n l ≡ []
@@ -75,11 +75,11 @@ records-rise low [] e = refl
 records-rise low (g ∷ gs) e =
     simp (le-leb low (g .segmentId) (ok-head low g gs e), records-rise (suc (g .segmentId)) gs (ok-tail low g gs e))
 
-pub lost-rise : (n : ℕ) (l : List ℕ) → idsFrom 0 (idsOf n l) ≡ true → rises (idsIn false n l) ≡ true
-lost-rise n l e = ids-rise 0 (idsOf n l) ∙ e
+pub lost-rise : (n : ℕ) (l : List ℕ) → idsFrom 0 (decodeIds n l) ≡ true → rises (idsIn false n l) ≡ true
+lost-rise n l e = ids-rise 0 (decodeIds n l) ∙ e
 
-pub gained-rise : (n : ℕ) (l : List ℕ) → okFrom 0 (segmentsOf n l) ≡ true → rises (idsIn true n l) ≡ true
-gained-rise n l e = records-rise 0 (segmentsOf n l) e
+pub gained-rise : (n : ℕ) (l : List ℕ) → okFrom 0 (decodeSegments n l) ≡ true → rises (idsIn true n l) ≡ true
+gained-rise n l e = records-rise 0 (decodeSegments n l) e
 
 rises-weaken : (low : ℕ) (l : List ℕ) → risesFrom low l ≡ true → rises l ≡ true
 unfolding risesFrom

@@ -12,9 +12,9 @@ use mathlib.Core.List.{List}
 use lib.ListN.{length, drop, length-drop}
 use lib.Seq.{drop-drop}
 use borrow.Author.Tests.{eq-eqb, ne-eqb}
-use Rattle.packed.specs.Assignment.{AssignedSegment, segmentsOf}
+use Rattle.packed.specs.Assignment.{AssignedSegment, decodeSegments}
 use Rattle.packed.proofs.AssignmentLaws.{length-segmentsOf}
-use Rattle.delta.specs.Delta.{deltaOf, startsDelta}
+use Rattle.delta.specs.Delta.{decodeDelta, startsDelta}
 use Rattle.delta.proofs.RoundLaws.{length-idsOf, Front}
 use Rattle.delta.proofs.ShortLaws.{size-records}
 use Rattle.log_entries.specs.Log.{isNil, behind, areAtMost, areDeltas}
@@ -22,10 +22,10 @@ use Rattle.log_entries.specs.Log.{isNil, behind, areAtMost, areDeltas}
 -- ---- the delta that was read
 
 module _ {l : List ℕ} {m n z : ℕ} (f : Front l m n z) where
-  pub lost-count : length (deltaOf l .lost) ≡ m
+  pub lost-count : length (decodeDelta l .lost) ≡ m
   lost-count = ap length (f .lost-is) ∙ length-idsOf m (drop 12 l)
 
-  pub gained-count : length (deltaOf l .gained) ≡ n
+  pub gained-count : length (decodeDelta l .gained) ≡ n
   gained-count = ap length (f .gained-is) ∙ length-segmentsOf n (drop (12 + 8 * m) l)
 
   pub long : 12 ≤ z
@@ -37,7 +37,7 @@ module _ {l : List ℕ} {m n z : ℕ} (f : Front l m n z) where
   -- there are fewer entries than bytes
   pub few : m + n ≤ length l
   few =
-      let gs : List AssignedSegment = segmentsOf n (drop (12 + 8 * m) l) in
+      let gs : List AssignedSegment = decodeSegments n (drop (12 + 8 * m) l) in
       omega (arith, f .records .fits, size-records gs, length-segmentsOf n (drop (12 + 8 * m) l))
 
 -- ---- deltas one behind another

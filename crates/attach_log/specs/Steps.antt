@@ -7,8 +7,8 @@ use mathlib.Core.Path.{_≡_}
 use mathlib.Core.Bool.{Bool, true, false, _&&_}
 use mathlib.Core.List.{List, _++_, map}
 use lib.ListN.{length, take, drop}
-use Rattle.packed.specs.Assignment.{idOf, segmentOf, segmentsOf, sizeSegment, sizeSegments}
-use Rattle.delta.specs.Delta.{idsOf}
+use Rattle.packed.specs.Assignment.{idOf, decodeSegment, decodeSegments, sizeSegment, sizeSegments}
+use Rattle.delta.specs.Delta.{decodeIds}
 use Rattle.log_entries.specs.declared.Entry.the-variants.{Detach}
 use Rattle.log_entries.specs.Log.{entriesIn}
 use Rattle.log_entries.specs.Passes.{attachOf}
@@ -18,16 +18,16 @@ use Rattle.attach_log.specs.declared.Loaded.{Loaded}
 
 -- the first n ids of a part
 abbrev pub idsIn : (attach : Bool) (n : ℕ) → List ℕ → List ℕ
-idsIn true n l = map idOf (segmentsOf n l)
-idsIn false n l = idsOf n l
+idsIn true n l = map idOf (decodeSegments n l)
+idsIn false n l = decodeIds n l
 
 -- the bytes of its first id or record, and of its first n
 abbrev pub sizeFirst : (attach : Bool) → List ℕ → ℕ
-sizeFirst true l = sizeSegment (segmentOf l)
+sizeFirst true l = sizeSegment (decodeSegment l)
 sizeFirst false l = 8
 
 abbrev pub sizeIn : (attach : Bool) (n : ℕ) → List ℕ → ℕ
-sizeIn true n l = sizeSegments (segmentsOf n l)
+sizeIn true n l = sizeSegments (decodeSegments n l)
 sizeIn false n l = 8 * n
 
 -- ids loaded into a row from the place `at` on, of n that stand there, and what is left of them
@@ -48,5 +48,5 @@ partIn attach s at n log q m = allIn (map (entryFor attach) (idsIn attach n (dro
 -- the front delta of s, with so many ids and records, has its entries at the front of the log
 unfoldable pub deltaIn : (s : List ℕ) (lost gained : ℕ) (log : List ℕ) → Bool
 deltaIn s lost gained log =
-    allIn (map Detach (idsOf lost (drop 12 s))) (entriesIn lost log)
-    && allIn (map attachOf (segmentsOf gained (drop (12 + 8 * lost) s))) (entriesIn gained (drop (9 * lost) log))
+    allIn (map Detach (decodeIds lost (drop 12 s))) (entriesIn lost log)
+    && allIn (map attachOf (decodeSegments gained (drop (12 + 8 * lost) s))) (entriesIn gained (drop (9 * lost) log))

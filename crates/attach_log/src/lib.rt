@@ -8,8 +8,8 @@ ghost use mathlib.Core.Bool.{true, false};
 ghost use Prim.Native.Nat.{_+_, _*_, _≤_, _<_};
 ghost use lib.ListN.{length, drop};
 ghost use Rattle.repeats.specs.Repeats.{rises};
-ghost use Rattle.packed.specs.Assignment.{segmentsOf, sizeSegments};
-ghost use Rattle.log_entries.specs.Log.{areDeltas, deltasOf, entriesOf, clearIn};
+ghost use Rattle.packed.specs.Assignment.{decodeSegments, sizeSegments};
+ghost use Rattle.log_entries.specs.Log.{areDeltas, deltasOf, logEntries, clearIn};
 ghost use Rattle.log_entries.specs.Passes.{Checked};
 ghost use Rattle.log_entries.specs.Follows.{follows};
 ghost use Rattle.attach_log.specs.Steps.{idsIn, sizeFirst, sizeIn, LoadedIs, partIn, deltaIn};
@@ -125,7 +125,7 @@ fn part_in(s: &[u8], at: usize, n: usize, attach: bool, log: &[u8], q: usize) ->
 
 // The delta at the front of s has its entries at the place q of the log.
 fn delta_in(s: &[u8], lost: usize, gained: usize, log: &[u8], q: usize) -> bool
-    requires { ⌜ (12 + 8 * lost + sizeSegments (segmentsOf gained (drop (12 + 8 * lost) (now s))) ≤ length (now s))
+    requires { ⌜ (12 + 8 * lost + sizeSegments (decodeSegments gained (drop (12 + 8 * lost) (now s))) ≤ length (now s))
         × (q + 9 * (lost + gained) ≤ length (now log)) ⌝ }
     requires { ⌜ (rises (idsIn false lost (drop 12 (now s))) ≡ true)
         × (rises (idsIn true gained (drop (12 + 8 * lost) (now s))) ≡ true) ⌝ }
@@ -148,7 +148,7 @@ fn delta_in(s: &[u8], lost: usize, gained: usize, log: &[u8], q: usize) -> bool
 // The log is what the deltas ask for.
 fn log_follows(deltas: &[u8], log: &[u8]) -> bool
     requires { ⌜ areDeltas (now deltas) ≡ true ⌝ }
-    ensures { λ r. ⌜ r ≡ follows (deltasOf (now (deltas .entry))) (entriesOf (now (log .entry))) ⌝ }
+    ensures { λ r. ⌜ r ≡ follows (deltasOf (now (deltas .entry))) (logEntries (now (log .entry))) ⌝ }
 {
     let mut p: usize = 0;
     let mut q: usize = 0;

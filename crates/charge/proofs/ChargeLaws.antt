@@ -18,7 +18,7 @@ use Rattle.types.specs.declared.KeyRange.{KeyRange}
 use Rattle.refusal.specs.declared.Refusal.the-variants.{MalformedInput, ChargeTooLarge}
 use Rattle.key_range.specs.Calls.{valuesIn}
 use Rattle.packed_int.specs.Be.{beAt}
-use Rattle.packed.specs.Assignment.{rangeOf, rangesOf, segmentOf, sizeSegment, inOrder, allInOrder, okBuckets, okSegment}
+use Rattle.packed.specs.Assignment.{decodeRange, decodeRanges, decodeSegment, sizeSegment, inOrder, allInOrder, okBuckets, okSegment}
 use Rattle.packed.specs.Answers.{recordGood, recordRead}
 use Rattle.packed.specs.declared.RecordRead.the-variants as read
 use Rattle.packed.proofs.AssignmentLaws.{ranges-none, size-least, segment-at, Seen, seen-size, Got}
@@ -88,26 +88,26 @@ pub lengths-first : (r : KeyRange) (rs : List KeyRange) → lengthsOf (r ∷ rs)
 unfolding lengthsOf
 lengths-first r rs = refl
 
-pub lengths-none : (n : ℕ) (l : List ℕ) → n ≤ 0 → lengthsOf (rangesOf n l) ≡ 0
+pub lengths-none : (n : ℕ) (l : List ℕ) → n ≤ 0 → lengthsOf (decodeRanges n l) ≡ 0
 unfolding lengthsOf
 lengths-none n l h = ap lengthsOf (ranges-none n l h)
 
 -- ---- the record lent
 
 -- a row that is not empty
-held-some : (r : KeyRange) (n : ℕ) (l : List ℕ) → 0 < n → heldIn r (rangesOf n l) ≡ lengthsOf (rangesOf n l)
-unfolding rangesOf heldIn
+held-some : (r : KeyRange) (n : ℕ) (l : List ℕ) → 0 < n → heldIn r (decodeRanges n l) ≡ lengthsOf (decodeRanges n l)
+unfolding decodeRanges heldIn
 held-some r zero l h = absurd (not-suc-le-zero h)
 held-some r (suc n) l h = refl
 
-held-none : (r : KeyRange) (n : ℕ) (l : List ℕ) → n ≡ 0 → heldIn r (rangesOf n l) ≡ valuesIn r
+held-none : (r : KeyRange) (n : ℕ) (l : List ℕ) → n ≡ 0 → heldIn r (decodeRanges n l) ≡ valuesIn r
 unfolding heldIn
 held-none r n l h = ap (heldIn r) (ranges-none n l (omega arith))
 
 not-read : (l : List ℕ) → read.Malformed ≡ recordRead l 0 (length l) → recordGood l 0 (length l) ≡ true → ⊥
 unfolding recordRead
 not-read l e g =
-    let f : read.Malformed ≡ read.Record (segmentOf l .segmentId) (sizeSegment (segmentOf l)) = e ∙ rw g in
+    let f : read.Malformed ≡ read.Record (decodeSegment l .segmentId) (sizeSegment (decodeSegment l)) = e ∙ rw g in
     let z : _≡_ {A = ℕ} 0 1 = cc in omega arith
 
 module _ (l : List ℕ) where
@@ -115,18 +115,18 @@ module _ (l : List ℕ) where
   unfolding holdsOf
   holds-not e = rw e
 
-  read-good : sizeSegment (segmentOf l) ≡ length l → okSegment (segmentOf l) ≡ true → recordGood l 0 (length l) ≡ true
+  read-good : sizeSegment (decodeSegment l) ≡ length l → okSegment (decodeSegment l) ≡ true → recordGood l 0 (length l) ≡ true
   unfolding recordGood
   read-good q k =
-      let m : leb (0 + sizeSegment (segmentOf l)) (length l) ≡ true = le-leb (0 + sizeSegment (segmentOf l)) (length l) (omega arith) in
+      let m : leb (0 + sizeSegment (decodeSegment l)) (length l) ≡ true = le-leb (0 + sizeSegment (decodeSegment l)) (length l) (omega arith) in
       simp (m, k)
 
   -- no good record stands at the front
   pub holds-bad : read.Malformed ≡ recordRead l 0 (length l) → Malformed ≡ holdsOf l
   unfolding isSegment
-  holds-bad e = holds-not (go (eqb (sizeSegment (segmentOf l)) (length l)) (okSegment (segmentOf l)) refl refl)
+  holds-bad e = holds-not (go (eqb (sizeSegment (decodeSegment l)) (length l)) (okSegment (decodeSegment l)) refl refl)
     where
-      go : (t u : Bool) → eqb (sizeSegment (segmentOf l)) (length l) ≡ t → okSegment (segmentOf l) ≡ u → t && u ≡ false
+      go : (t u : Bool) → eqb (sizeSegment (decodeSegment l)) (length l) ≡ t → okSegment (decodeSegment l) ≡ u → t && u ≡ false
       go true true h k = absurd (not-read l e (read-good (eqb-true _ _ h) k))
       go true false h k = refl
       go false u h k = refl
@@ -136,71 +136,71 @@ module _ (l : List ℕ) where
     pub holds-longer : (z ≡ length l → ⊥) → Malformed ≡ holdsOf l
     unfolding isSegment
     holds-longer h =
-        let k : sizeSegment (segmentOf l) ≡ length l → ⊥ = λ e. h (g .size-is ∙ e) in
-        holds-not (simp (ne-eqb (sizeSegment (segmentOf l)) (length l) k))
+        let k : sizeSegment (decodeSegment l) ≡ length l → ⊥ = λ e. h (g .size-is ∙ e) in
+        holds-not (simp (ne-eqb (sizeSegment (decodeSegment l)) (length l) k))
 
     module _ (e : z ≡ length l) where
       pub long-enough : 14 ≤ length l
-      long-enough = omega (arith, size-least (segmentOf l), g .size-is)
+      long-enough = omega (arith, size-least (decodeSegment l), g .size-is)
 
       segment-good : isSegment l ≡ true
       unfolding isSegment
       segment-good =
-          let k : sizeSegment (segmentOf l) ≡ length l = sym (g .size-is) ∙ e in
-          let o : okSegment (segmentOf l) ≡ true = g .ok in
-          simp (eq-eqb (sizeSegment (segmentOf l)) (length l) k, o)
+          let k : sizeSegment (decodeSegment l) ≡ length l = sym (g .size-is) ∙ e in
+          let o : okSegment (decodeSegment l) ≡ true = g .ok in
+          simp (eq-eqb (sizeSegment (decodeSegment l)) (length l) k, o)
 
-      holds-values : (v : ℕ) → v ≡ valuesHeld (segmentOf l) → Values v ≡ holdsOf l
+      holds-values : (v : ℕ) → v ≡ valuesHeld (decodeSegment l) → Values v ≡ holdsOf l
       unfolding holdsOf
       holds-values v h = simp (segment-good, h)
 
       module _ (n : ℕ) (f : n ≡ beAt 2 l 12) where
-        seen : Seen l 0 (beAt 8 l 0) (rangeOf (drop 8 l)) n
+        seen : Seen l 0 (beAt 8 l 0) (decodeRange (drop 8 l)) n
         seen = record { id-is = refl; range-is = refl; count-is = f }
 
         pub all-inside : 14 + 4 * n ≤ length l
         all-inside = omega (arith, seen-size l 0 _ _ n seen, g .size-is)
 
-        segment-is : segmentOf l ≡ record { segmentId = beAt 8 l 0; range = rangeOf (drop 8 l); buckets = rangesOf n (drop 14 l) }
-        segment-is = segment-at l 0 (beAt 8 l 0) (rangeOf (drop 8 l)) n refl refl f
+        segment-is : decodeSegment l ≡ record { segmentId = beAt 8 l 0; range = decodeRange (drop 8 l); buckets = decodeRanges n (drop 14 l) }
+        segment-is = segment-at l 0 (beAt 8 l 0) (decodeRange (drop 8 l)) n refl refl f
 
-        orders : inOrder (rangeOf (drop 8 l)) && okBuckets (rangesOf n (drop 14 l)) ≡ true
+        orders : inOrder (decodeRange (drop 8 l)) && okBuckets (decodeRanges n (drop 14 l)) ≡ true
         unfolding okSegment
         orders = sym (ap okSegment segment-is) ∙ g .ok
 
-        pub range-in-order : rangeOf (drop 8 l) .start ≤ rangeOf (drop 8 l) .end
-        range-in-order = leb-true _ _ (both-true (inOrder (rangeOf (drop 8 l))) _ orders .0)
+        pub range-in-order : decodeRange (drop 8 l) .start ≤ decodeRange (drop 8 l) .end
+        range-in-order = leb-true _ _ (both-true (inOrder (decodeRange (drop 8 l))) _ orders .0)
 
-        pub buckets-in-order : allInOrder (rangesOf n (drop 14 l)) ≡ true
+        pub buckets-in-order : allInOrder (decodeRanges n (drop 14 l)) ≡ true
         unfolding okBuckets
         buckets-in-order =
-            both-true (allInOrder (rangesOf n (drop 14 l))) _ (both-true (inOrder (rangeOf (drop 8 l))) _ orders .1) .0
+            both-true (allInOrder (decodeRanges n (drop 14 l))) _ (both-true (inOrder (decodeRange (drop 8 l))) _ orders .1) .0
 
-        held-is : valuesHeld (segmentOf l) ≡ heldIn (rangeOf (drop 8 l)) (rangesOf n (drop 14 l))
+        held-is : valuesHeld (decodeSegment l) ≡ heldIn (decodeRange (drop 8 l)) (decodeRanges n (drop 14 l))
         unfolding valuesHeld
         held-is = ap valuesHeld segment-is
 
         -- no buckets: the range's values
-        pub holds-range : (v : ℕ) → n ≡ 0 → v ≡ valuesIn (rangeOf (drop 8 l)) → Values v ≡ holdsOf l
-        holds-range v h k = holds-values v (k ∙ sym (held-none (rangeOf (drop 8 l)) n (drop 14 l) h) ∙ sym held-is)
+        pub holds-range : (v : ℕ) → n ≡ 0 → v ≡ valuesIn (decodeRange (drop 8 l)) → Values v ≡ holdsOf l
+        holds-range v h k = holds-values v (k ∙ sym (held-none (decodeRange (drop 8 l)) n (drop 14 l) h) ∙ sym held-is)
 
-        pub holds-buckets : (v : ℕ) → (n ≡ 0 → ⊥) → v ≡ lengthsOf (rangesOf n (drop 14 l)) → Values v ≡ holdsOf l
+        pub holds-buckets : (v : ℕ) → (n ≡ 0 → ⊥) → v ≡ lengthsOf (decodeRanges n (drop 14 l)) → Values v ≡ holdsOf l
         holds-buckets v h k =
             let p : 0 < n = omega (arith, h) in
-            holds-values v (k ∙ sym (held-some (rangeOf (drop 8 l)) n (drop 14 l) p) ∙ sym held-is)
+            holds-values v (k ∙ sym (held-some (decodeRange (drop 8 l)) n (drop 14 l) p) ∙ sym held-is)
 
 -- ---- the answers of `charge`
 
 pub record Held (l : List ℕ) (v : ℕ) : Type 0 where
   pub good : isSegment l ≡ true
-  pub values-are : v ≡ valuesHeld (segmentOf l)
+  pub values-are : v ≡ valuesHeld (decodeSegment l)
 
 pub held : (l : List ℕ) (v : ℕ) → Values v ≡ holdsOf l → Held l v
 unfolding holdsOf
 held l v e = go (isSegment l) refl
   where
     go : (t : Bool) → isSegment l ≡ t → Held l v
-    go true h = let f : Values v ≡ Values (valuesHeld (segmentOf l)) = e ∙ rw h in record { good = h; values-are = cc }
+    go true h = let f : Values v ≡ Values (valuesHeld (decodeSegment l)) = e ∙ rw h in record { good = h; values-are = cc }
     go false h = let f : Values v ≡ Malformed = e ∙ rw h in let z : _≡_ {A = ℕ} 0 1 = cc in absurd (omega arith)
 
 not-held : (l : List ℕ) → Malformed ≡ holdsOf l → isSegment l ≡ false
@@ -210,7 +210,7 @@ not-held l e = go (isSegment l) refl
     go : (t : Bool) → isSegment l ≡ t → isSegment l ≡ false
     go false h = h
     go true h =
-        let f : Malformed ≡ Values (valuesHeld (segmentOf l)) = e ∙ rw h in
+        let f : Malformed ≡ Values (valuesHeld (decodeSegment l)) = e ∙ rw h in
         let z : _≡_ {A = ℕ} 0 1 = cc in absurd (omega arith)
 
 module _ (l : List ℕ) (s r m : ℕ) where

@@ -13,7 +13,7 @@ use Rattle.types.specs.declared.KeyRange.{KeyRange}
 use Rattle.refusal.specs.declared.Refusal.the-variants.{MalformedInput, ChargeTooLarge}
 use Rattle.refusal.specs.Steps.{_>>_, refuseIf}
 use Rattle.key_range.specs.Calls.{valuesIn}
-use Rattle.packed.specs.Assignment.{AssignedSegment, segmentOf, sizeSegment, okSegment}
+use Rattle.packed.specs.Assignment.{AssignedSegment, decodeSegment, sizeSegment, okSegment}
 use Rattle.charge.specs.declared.ChargeAnswer.{ChargeAnswer}
 use Rattle.charge.specs.declared.ChargeAnswer.the-variants.{Charged, Refused}
 use Rattle.charge.specs.declared.Holds.{Holds}
@@ -28,7 +28,7 @@ divisor = 235929600
 -- "the segment is lent as one record packed as in a sheet, of any bucket count": it is well-formed, and the bytes end
 -- where it ends
 unfoldable pub isSegment : List ℕ → Bool
-isSegment l = eqb (sizeSegment (segmentOf l)) (length l) && okSegment (segmentOf l)
+isSegment l = eqb (sizeSegment (decodeSegment l)) (length l) && okSegment (decodeSegment l)
 
 -- "the sum of its buckets' lengths"
 unfoldable pub lengthsOf : List KeyRange → ℕ
@@ -45,7 +45,7 @@ valuesHeld g = heldIn (g .range) (g .buckets)
 
 -- "A holding costs values held, times whole seconds, times the rate": the product, before it is divided
 unfoldable pub costOf : (segment : List ℕ) (seconds rate : ℕ) → ℕ
-costOf segment seconds rate = valuesHeld (segmentOf segment) * seconds * rate
+costOf segment seconds rate = valuesHeld (decodeSegment segment) * seconds * rate
 
 -- "36, product plus remainder is 2^64 or more, or the remainder lent in is not below the divisor"
 unfoldable pub tooLarge : (cost remainder : ℕ) → Bool
@@ -67,7 +67,7 @@ chargeOf segment seconds rate remainder = do
 
 -- what a lent record holds
 unfoldable pub holdsOf : List ℕ → Holds
-holdsOf segment = cond (isSegment segment) (holds.Values (valuesHeld (segmentOf segment))) holds.Malformed
+holdsOf segment = cond (isSegment segment) (holds.Values (valuesHeld (decodeSegment segment))) holds.Malformed
 
 -- a product, where 64 bits hold it
 unfoldable pub productOf : ℕ → Product

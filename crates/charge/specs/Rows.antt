@@ -7,7 +7,7 @@ use mathlib.Core.List.{List, [], _∷_, _++_}
 use Rattle.ranges.specs.Overlap.{overlapsAny, anyOverlap}
 use Rattle.refusal.specs.declared.Refusal.the-variants.{MalformedInput, ChargeTooLarge}
 use Rattle.packed_int.specs.Be.{beFrom, be}
-use Rattle.packed.specs.Assignment.{num, rangeOf, rangesOf, segmentOf, sizeSegment, allInOrder, okBuckets, okSegment}
+use Rattle.packed.specs.Assignment.{num, decodeRange, decodeRanges, decodeSegment, sizeSegment, allInOrder, okBuckets, okSegment}
 use Rattle.charge.specs.declared.ChargeAnswer.the-variants.{Charged, Refused}
 use Rattle.charge.specs.Charge.{divisor, isSegment, lengthsOf, heldIn, valuesHeld, costOf, tooLarge, chargeOf}
 use Rattle.charge.specs.Account.{Holding, Account, opened, book, bookAll}
@@ -90,7 +90,7 @@ pub record Rows : Type 0 where
       ≡ record { charged = 1000001; exact = 235929835929600; remainder = 0 }
 
 pub rows : Rows
-unfolding overlapsAny anyOverlap beFrom be num rangeOf rangesOf segmentOf sizeSegment allInOrder okBuckets okSegment
+unfolding overlapsAny anyOverlap beFrom be num decodeRange decodeRanges decodeSegment sizeSegment allInOrder okBuckets okSegment
     isSegment lengthsOf heldIn valuesHeld costOf tooLarge chargeOf book bookAll
 rows = record {
   the-divisor = refl;

@@ -15,7 +15,7 @@ use Rattle.refusal.specs.declared.Refusal.the-variants.{InvalidWindow}
 use Rattle.churn.specs.declared.ChurnAnswer.{ChurnAnswer}
 use Rattle.churn.specs.declared.ChurnAnswer.the-variants.{Counted, Refused}
 use Rattle.churn.specs.Window.{countsOf, pushed, cleared}
-use Rattle.churn.specs.Churn.{Outcome, totalsOf, outcome, push, clear, current}
+use Rattle.churn.specs.Churn.{ChurnOutcome, totalsOf, churnOutcome, push, clear, current}
 use Rattle.churn.specs.Fresh.{Step, EmptyWindow, stepOn, answersOn, windowAfter, latest, after, keptAfter, reckoning}
 use Rattle.churn.specs.Fresh.{freshAnswer, freshAnswers, Fresh, FreshCurrent, ClearedEmpty}
 use Rattle.churn.specs.Fresh.Step.{count, clearing}
@@ -46,19 +46,19 @@ stepped w kept h (count c) = go (ltb 65535 c) refl
   where
     go : (t : Bool) → ltb 65535 c ≡ t → Stepped w kept (count c)
     go true e =
-        let p : push w c ≡ outcome (Refused InvalidWindow) w = sym (push-large w c (ltb-true 65535 c e)) in
+        let p : push w c ≡ churnOutcome (Refused InvalidWindow) w = sym (push-large w c (ltb-true 65535 c e)) in
         record {
-          answer-is = ap (λ (o : Outcome). o .answer) p ∙ rw e;
+          answer-is = ap (λ (o : ChurnOutcome). o .answer) p ∙ rw e;
           holds = rw (p, e) h;
         }
     go false e =
         let j : c ≤ 65535 = ltb-false 65535 c e in
         let b : c < 65536 = omega arith in
-        let p : push w c ≡ outcome (Counted (totalsOf (countsOf (pushed w c)))) (pushed w c) = push-is w c j (h .window) in
+        let p : push w c ≡ churnOutcome (Counted (totalsOf (countsOf (pushed w c)))) (pushed w c) = push-is w c j (h .window) in
         let k : countsOf (pushed w c) ≡ latest 256 (kept ++ (c ∷ [])) =
         pushed-counts w (h .window) c b ∙ ap (λ (l : List ℕ). latest 256 (l ++ (c ∷ []))) (h .counts) ∙ latest-again 256 kept c in
         record {
-          answer-is = ap (λ (o : Outcome). o .answer) p ∙ ap (λ (l : List ℕ). Counted (totalsOf l)) k ∙ rw e;
+          answer-is = ap (λ (o : ChurnOutcome). o .answer) p ∙ ap (λ (l : List ℕ). Counted (totalsOf l)) k ∙ rw e;
           holds = rw (p, e) (record { window = pushed-window w (h .window) c b; counts = k });
         }
 

@@ -21,7 +21,7 @@ use Rattle.packed_int.proofs.PutLaws.{length-put}
 use Rattle.churn.specs.declared.Totals.{Totals}
 use Rattle.churn.specs.declared.ChurnAnswer.the-variants.{Counted, Refused}
 use Rattle.churn.specs.Window.{places, countsIn, markOf, rowOf, isWindow, heldIn, countsOf, nextMark, pushed, cleared}
-use Rattle.churn.specs.Churn.{sumOf, largestOf, totalsOf, outcome, push, clear, current}
+use Rattle.churn.specs.Churn.{sumOf, largestOf, totalsOf, churnOutcome, push, clear, current}
 use Rattle.churn.specs.Fresh.{latest}
 use Rattle.churn.proofs.CountLaws.{length-counts, take-counts, behind-drop, front-first, front-drop, set-counts}
 use Rattle.churn.proofs.CountLaws.{totals-turned, held-few, held-all, held-next, next-below}
@@ -174,30 +174,30 @@ reckoned w = go (ltb (markOf w) 256) refl
 -- ---- the answers of the calls
 
 module _ (w : List ℕ) (c : ℕ) where
-  pub push-large : 65535 < c → outcome (Refused InvalidWindow) w ≡ push w c
+  pub push-large : 65535 < c → churnOutcome (Refused InvalidWindow) w ≡ push w c
   unfolding push
   push-large h = simp (lt-ltb 65535 c h)
 
-  pub push-not : isWindow w ≡ false → outcome (Refused InvalidWindow) w ≡ push w c
+  pub push-not : isWindow w ≡ false → churnOutcome (Refused InvalidWindow) w ≡ push w c
   unfolding push
   push-not e = simp (e, or-true)
 
   module _ (h : c ≤ 65535) (g : Window w) where
-    pub push-is : push w c ≡ outcome (Counted (totalsOf (countsOf (pushed w c)))) (pushed w c)
+    pub push-is : push w c ≡ churnOutcome (Counted (totalsOf (countsOf (pushed w c)))) (pushed w c)
     unfolding push
     push-is = simp (le-ltb 65535 c h, window-good w g)
 
     -- what the program wrote and reckoned
     pub push-answer : (v : List ℕ) (t : Totals) → v ≡ pushed w c → t ≡ totalsOf (countsIn (min (nextMark (markOf w)) 256) (drop 2 v))
-        → outcome (Counted t) v ≡ push w c
+        → churnOutcome (Counted t) v ≡ push w c
     push-answer v t e f =
         let j : t ≡ totalsOf (countsOf (pushed w c)) =
         f
         ∙ ap (λ (l : List ℕ). totalsOf (countsIn (min (nextMark (markOf w)) 256) (drop 2 l))) e
         ∙ ap (λ (m : ℕ). totalsOf (countsIn (min m 256) (drop 2 (pushed w c)))) (sym (pushed-mark w g c (omega arith)))
         ∙ reckoned (pushed w c) in
-        ap (λ (x : Totals). outcome (Counted x) v) j
-        ∙ ap (λ (l : List ℕ). outcome (Counted (totalsOf (countsOf (pushed w c)))) l) e
+        ap (λ (x : Totals). churnOutcome (Counted x) v) j
+        ∙ ap (λ (l : List ℕ). churnOutcome (Counted (totalsOf (countsOf (pushed w c)))) l) e
         ∙ sym push-is
 
 pub pushed-is : (w : List ℕ) (c m n : ℕ) → m ≡ beAt 2 w 0 → n ≡ nextMark m
@@ -206,11 +206,11 @@ unfolding pushed markOf
 pushed-is w c m n e f = cc
 
 module _ (w : List ℕ) where
-  pub none-wrote : 2 ≤ length w → outcome (Counted (record { sum = 0; largest = 0 })) (put w 0 (bytesOf 2 0)) ≡ clear w
+  pub none-wrote : 2 ≤ length w → churnOutcome (Counted (record { sum = 0; largest = 0 })) (put w 0 (bytesOf 2 0)) ≡ clear w
   unfolding clear cleared sumOf largestOf
   none-wrote h = simp (le-leb 2 (length w) h)
 
-  pub none-short : length w < 2 → outcome (Counted (record { sum = 0; largest = 0 })) w ≡ clear w
+  pub none-short : length w < 2 → churnOutcome (Counted (record { sum = 0; largest = 0 })) w ≡ clear w
   unfolding clear cleared sumOf largestOf
   none-short h = simp (lt-leb 2 (length w) h)
 

@@ -11,7 +11,7 @@ use Rattle.refusal.specs.declared.Refusal.the-variants.{InvalidWindow}
 use Rattle.churn.specs.declared.ChurnAnswer.{ChurnAnswer}
 use Rattle.churn.specs.declared.ChurnAnswer.the-variants.{Counted, Refused}
 use Rattle.churn.specs.Window.{places, windowSize, isWindow, countsOf}
-use Rattle.churn.specs.Churn.{Outcome, totalsOf, push, clear, current}
+use Rattle.churn.specs.Churn.{ChurnOutcome, totalsOf, push, clear, current}
 
 -- what the station does with a window
 pub data Step : Type 0 where
@@ -25,7 +25,7 @@ pub record EmptyWindow (w : List ℕ) : Type 0 where
 
 -- ---- the calls
 
-unfoldable pub stepOn : List ℕ → Step → Outcome
+unfoldable pub stepOn : List ℕ → Step → ChurnOutcome
 stepOn w (count c) = push w c
 stepOn w clearing = clear w
 

@@ -8,7 +8,7 @@ use mathlib.Core.List.{List, [], _∷_, _++_}
 use lib.IntN.{pos, negsuc}
 use Rattle.refusal.specs.declared.Refusal.the-variants.{InvalidWireFormat, WrongWireType, MissingField}
 use Rattle.wire.specs.Varints.{varintOf}
-use Rattle.wire.specs.Field.{keyOf, fixedOf, numberOf, partOf}
+use Rattle.wire.specs.Field.{keyOf, fixedOf, numberBody, partOf}
 use Rattle.wire.specs.Fields.{fieldsOf}
 use Rattle.values.specs.Integers.{int32Of}
 use Rattle.values.specs.Places.{frontOf}
@@ -59,7 +59,7 @@ pub record Rows : Type 0 where
   pub group : commandOf (0x08 ∷ 0x4b ∷ (assigned 7 ++ (0x13 ∷ []))) ≡ Refused InvalidWireFormat
 
 pub rows : Rows
-unfolding varintOf keyOf fixedOf numberOf partOf fieldsOf int32Of frontOf shellValue shellFault placesOf messageIn commandBy commandOf
+unfolding varintOf keyOf fixedOf numberBody partOf fieldsOf int32Of frontOf shellValue shellFault placesOf messageIn commandBy commandOf
 rows =
     record {
       an-update = refl;

@@ -18,19 +18,19 @@ use Rattle.wire.specs.declared.WireType.the-variants as type
 use Rattle.wire.specs.declared.Key.{Key}
 use Rattle.wire.specs.declared.Key.the-variants as key
 use Rattle.wire.specs.Varints.{varintOf}
-use Rattle.wire.specs.Field.{numberFrom, partFrom, fixedOf, numberOf, partOf, keyOf, bodyOf}
-use Rattle.wire.specs.Fields.{Content, number, bytes, fixed, cut, Field, badKey, field, contentOf, fieldBy, sizeBy, fieldsAfter, fieldsOf}
+use Rattle.wire.specs.Field.{numberFrom, partFrom, fixedOf, numberBody, partOf, keyOf, bodyOf}
+use Rattle.wire.specs.Fields.{Payload, number, bytes, fixed, cut, Field, badKey, field, payloadOf, fieldBy, sizeBy, fieldsAfter, fieldsOf}
 use Rattle.wire.proofs.VarintLaws.{varint-fits}
 use Rattle.values.specs.declared.Last.{Last}
 use Rattle.values.specs.declared.Last.the-variants as last
 use Rattle.values.specs.Values.{numbersOf, partsOf, lastAfter, joinFields, mergedFields, orZero, numberIn}
-use Rattle.readers.specs.Messages.{WireSegment, segmentOf, WireAssignment, assignmentOf, updateOf, responseOf}
+use Rattle.readers.specs.Messages.{WireSegment, readSegment, WireAssignment, readAssignment, updateOf, responseOf}
 use Rattle.keyed.proofs.KeyedLaws.{choose}
 use Rattle.keyed.proofs.EachLaws.{Each, each-append, each-map}
 
 -- ---- the fields of bytes
 
-abbrev pub FittingContent : Content → Type 0
+abbrev pub FittingContent : Payload → Type 0
 FittingContent (number v) = v < 2 ^ 64
 FittingContent (bytes l) = Bytes l
 FittingContent fixed = Unit {0}
@@ -44,21 +44,21 @@ abbrev pub Fitting : List Field → Type 0
 Fitting fs = Each FittingField fs
 
 module _ (l : List ℕ) (h : Bytes l) where
-  number-fitting : (v : Varint) → varintOf l ≡ v → FittingContent (contentOf (numberFrom v) l)
+  number-fitting : (v : Varint) → varintOf l ≡ v → FittingContent (payloadOf (numberFrom v) l)
   number-fitting (varint.Value v n) e = varint-fits l h v n e
   number-fitting varint.Broken e = tt
 
-  part-fitting : (v : Varint) → FittingContent (contentOf (partFrom v (length l)) l)
+  part-fitting : (v : Varint) → FittingContent (payloadOf (partFrom v (length l)) l)
   part-fitting (varint.Value v n) =
-      choose (λ b. FittingContent (contentOf b l)) (leb _ (length l)) (λ t. Bytes-take v (drop n l) (Bytes-drop n l h)) (λ t. tt)
+      choose (λ b. FittingContent (payloadOf b l)) (leb _ (length l)) (λ t. Bytes-take v (drop n l) (Bytes-drop n l h)) (λ t. tt)
   part-fitting varint.Broken = tt
 
-  fixed-fitting : (n : ℕ) → FittingContent (contentOf (fixedOf n l) l)
+  fixed-fitting : (n : ℕ) → FittingContent (payloadOf (fixedOf n l) l)
   unfolding fixedOf
-  fixed-fitting n = choose (λ b. FittingContent (contentOf b l)) (leb n (length l)) (λ t. tt) (λ t. tt)
+  fixed-fitting n = choose (λ b. FittingContent (payloadOf b l)) (leb n (length l)) (λ t. tt) (λ t. tt)
 
-  body-fitting : (w : WireType) → FittingContent (contentOf (bodyOf w l) l)
-  unfolding numberOf partOf
+  body-fitting : (w : WireType) → FittingContent (payloadOf (bodyOf w l) l)
+  unfolding numberBody partOf
   body-fitting type.Varint = number-fitting (varintOf l) refl
   body-fitting type.I64 = fixed-fitting 8
   body-fitting type.Len = part-fitting (varintOf l)
@@ -121,17 +121,17 @@ pub record Wide (a : WireAssignment) : Type 0 where
   pub epoch : a .layoutEpoch < 256 ^ 8
   pub segments : Each WideSegment (a .segments)
 
-segment-wide : (p : List ℕ) → Bytes p → WideSegment (segmentOf p)
-unfolding segmentOf
+segment-wide : (p : List ℕ) → Bytes p → WideSegment (readSegment p)
+unfolding readSegment
 segment-wide p h = number-below 1 (fieldsOf p) (fields-fitting p h)
 
-pub assignment-wide : (fs : List Field) → Fitting fs → Wide (assignmentOf fs)
-unfolding assignmentOf
+pub assignment-wide : (fs : List Field) → Fitting fs → Wide (readAssignment fs)
+unfolding readAssignment
 assignment-wide fs h =
-    record { epoch = number-below 1 fs h; segments = each-map Bytes WideSegment segmentOf segment-wide (partsOf 2 fs) (parts-bytes 2 fs h) }
+    record { epoch = number-below 1 fs h; segments = each-map Bytes WideSegment readSegment segment-wide (partsOf 2 fs) (parts-bytes 2 fs h) }
 
 -- of the singular message in field n
-merged-wide : (n : ℕ) (m : List ℕ) → Bytes m → Wide (assignmentOf (mergedFields n (fieldsOf m)))
+merged-wide : (n : ℕ) (m : List ℕ) → Bytes m → Wide (readAssignment (mergedFields n (fieldsOf m)))
 merged-wide n m h =
     assignment-wide (mergedFields n (fieldsOf m)) (join-fitting (partsOf n (fieldsOf m)) (parts-bytes n (fieldsOf m) (fields-fitting m h)))
 
@@ -143,10 +143,10 @@ pub response-wide : (m : List ℕ) → Bytes m → Wide (responseOf m .assignmen
 unfolding responseOf
 response-wide m h = merged-wide 4 m h
 
-pub start-below : (p : List ℕ) → segmentOf p .hashStart < 2 ^ 32
-unfolding segmentOf
+pub start-below : (p : List ℕ) → readSegment p .hashStart < 2 ^ 32
+unfolding readSegment
 start-below p = omega arith
 
-pub end-below : (p : List ℕ) → segmentOf p .hashEnd < 2 ^ 32
-unfolding segmentOf
+pub end-below : (p : List ℕ) → readSegment p .hashEnd < 2 ^ 32
+unfolding readSegment
 end-below p = omega arith

@@ -21,7 +21,7 @@ use Rattle.packed.specs.Assignment.{AssignedSegment, idOf, ConsumerAssignment, 
 use Rattle.packed.specs.Equal.{sameSegment}
 use Rattle.packed.proofs.AssignmentLaws.{ok-head, ok-tail}
 use Rattle.packed.proofs.EqualLaws.{segment-refl, segment-eq}
-use Rattle.delta.specs.Delta.{AssignmentDelta, sizeDelta, deltaOf, idsFrom, okDelta, isDelta}
+use Rattle.delta.specs.Delta.{AssignmentDelta, sizeDelta, decodeDelta, idsFrom, okDelta, isDelta}
 use Rattle.delta.specs.Change.{hasSame, without, deltaBetween}
 use Rattle.delta.specs.Join.{Proper, ProperDelta, strike, apply, names, join}
 
@@ -53,9 +53,9 @@ unfolding okDelta
 delta-ok-proper d e =
     let p = both-true (idsFrom 0 (d .lost)) _ e in (ids-proper 0 (d .lost) (p .0), ok-proper 0 (d .gained) (p .1))
 
-pub is-delta-proper : (l : List ℕ) → isDelta l ≡ true → ProperDelta (deltaOf l)
+pub is-delta-proper : (l : List ℕ) → isDelta l ≡ true → ProperDelta (decodeDelta l)
 unfolding isDelta
-is-delta-proper l e = delta-ok-proper (deltaOf l) (both-true (eqb (sizeDelta (deltaOf l)) (length l)) _ e .1)
+is-delta-proper l e = delta-ok-proper (decodeDelta l) (both-true (eqb (sizeDelta (decodeDelta l)) (length l)) _ e .1)
 
 -- ---- what an id finds after each operation
 

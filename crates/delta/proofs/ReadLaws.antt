@@ -16,11 +16,11 @@ use lib.Dec.{leb}
 use borrow.Author.Tests.{not-true, not-false, le-leb, lt-leb, leb-true, eq-eqb, ne-eqb}
 use Rattle.parts.specs.BoolLaws.{both-true}
 use Rattle.packed_int.specs.Be.{beAt}
-use Rattle.packed.specs.Assignment.{sizeSegments, num, segmentsOf, okFrom}
+use Rattle.packed.specs.Assignment.{sizeSegments, num, decodeSegments, okFrom}
 use Rattle.packed.specs.Answers.{recordRead}
 use Rattle.packed.specs.declared.RecordRead.the-variants as record-read
 use Rattle.packed.proofs.AssignmentLaws.{length-segmentsOf, Got, rest, size-turn, cut, stale, onward, Rest}
-use Rattle.delta.specs.Delta.{AssignmentDelta, idsOf, deltaOf, sizeDelta, idsFrom, okDelta, startsDelta, isDelta}
+use Rattle.delta.specs.Delta.{AssignmentDelta, decodeIds, decodeDelta, sizeDelta, idsFrom, okDelta, startsDelta, isDelta}
 use Rattle.delta.specs.Answers.{recordsTo, frontRead, deltaRead}
 use Rattle.delta.specs.declared.RecordsTo.the-variants as to
 use Rattle.delta.specs.declared.FrontRead.the-variants as front-read
@@ -52,27 +52,27 @@ module _ (first : Bool) (prev i : ℕ) where
 -- at the place p, with `left` ids of n to read: these decide the whole
 pub record Ids (s : List ℕ) (at n p left : ℕ) (first : Bool) (prev : ℕ) : Type 0 where
   pub place : p + 8 * left ≡ at + 8 * n
-  pub decides : idsFrom 0 (idsOf n (drop at s)) ≡ idsFrom (lowest first prev) (idsOf left (drop p s))
+  pub decides : idsFrom 0 (decodeIds n (drop at s)) ≡ idsFrom (lowest first prev) (decodeIds left (drop p s))
 
 pub ids-start : (s : List ℕ) (at n : ℕ) → Ids s at n at n true 0
 ids-start s at n = record { place = refl; decides = refl }
 
 module _ {s : List ℕ} {at n p left : ℕ} {first : Bool} {prev : ℕ} (I : Ids s at n p left first prev) where
   module _ {i : ℕ} (h : 0 < left) (e : i ≡ beAt 8 s p) where
-    here : idsFrom 0 (idsOf n (drop at s)) ≡ (leb (lowest first prev) i && idsFrom (suc i) (idsOf (left - 1) (drop (p + 8) s)))
+    here : idsFrom 0 (decodeIds n (drop at s)) ≡ (leb (lowest first prev) i && idsFrom (suc i) (decodeIds (left - 1) (drop (p + 8) s)))
     unfolding idsFrom num beAt
     here =
         I .decides
         ∙ ap (idsFrom (lowest first prev)) (ids-at s p left h)
-        ∙ ap (λ (k : ℕ). leb (lowest first prev) k && idsFrom (suc k) (idsOf (left - 1) (drop (p + 8) s))) (sym e)
+        ∙ ap (λ (k : ℕ). leb (lowest first prev) k && idsFrom (suc k) (decodeIds (left - 1) (drop (p + 8) s))) (sym e)
 
-    pub ids-stale : i < lowest first prev → false ≡ idsFrom 0 (idsOf n (drop at s))
+    pub ids-stale : i < lowest first prev → false ≡ idsFrom 0 (decodeIds n (drop at s))
     ids-stale k = sym (here ∙ simp (lt-leb (lowest first prev) i k))
 
     pub ids-next : lowest first prev ≤ i → Ids s at n (p + 8) (left - 1) false i
     ids-next k = let b = I .place in record { place = omega arith; decides = here ∙ simp (le-leb (lowest first prev) i k) }
 
-  pub ids-end : left ≤ 0 → true ≡ idsFrom 0 (idsOf n (drop at s))
+  pub ids-end : left ≤ 0 → true ≡ idsFrom 0 (decodeIds n (drop at s))
   unfolding idsFrom
   ids-end h = sym (I .decides ∙ ap (idsFrom (lowest first prev)) (ids-none left (drop p s) h))
 
@@ -82,7 +82,7 @@ module _ {s : List ℕ} {at n p left : ℕ} {first : Bool} {prev : ℕ} (I : Ids
 pub record Records (s : List ℕ) (at n p left : ℕ) (first : Bool) (prev : ℕ) : Type 0 where
   pub bound : p ≤ length s
   pub decides : rest s (length s) at n 0 ≡ rest s (length s) p left (lowest first prev)
-  pub sums : at + sizeSegments (segmentsOf n (drop at s)) ≡ p + sizeSegments (segmentsOf left (drop p s))
+  pub sums : at + sizeSegments (decodeSegments n (drop at s)) ≡ p + sizeSegments (decodeSegments left (drop p s))
 
 pub records-start : (s : List ℕ) (at n : ℕ) → at ≤ length s → Records s at n at n true 0
 records-start s at n h = record { bound = h; decides = refl; sums = refl }
@@ -108,12 +108,12 @@ module _ {s : List ℕ} {at n p left : ℕ} {first : Bool} {prev : ℕ} (I : Rec
           sums = I .sums ∙ size-turn s p left z h (g .size-is);
         }
 
-  all-read : left ≤ 0 → (rest s (length s) at n 0 ≡ true) × (at + sizeSegments (segmentsOf n (drop at s)) ≡ p)
-  unfolding segmentsOf sizeSegments okFrom
+  all-read : left ≤ 0 → (rest s (length s) at n 0 ≡ true) × (at + sizeSegments (decodeSegments n (drop at s)) ≡ p)
+  unfolding decodeSegments sizeSegments okFrom
   all-read h =
       let e : left ≡ 0 = omega arith in (
         I .decides ∙ ap (λ (m : ℕ). rest s (length s) p m (lowest first prev)) e ∙ simp (add-zero, le-leb p (length s) (I .bound)),
-        I .sums ∙ ap (λ (m : ℕ). p + sizeSegments (segmentsOf m (drop p s))) e ∙ add-zero p,
+        I .sums ∙ ap (λ (m : ℕ). p + sizeSegments (decodeSegments m (drop p s))) e ∙ add-zero p,
       )
 
   pub records-end : left ≤ 0 → to.End p ≡ recordsTo s at n
@@ -121,14 +121,14 @@ module _ {s : List ℕ} {at n p left : ℕ} {first : Bool} {prev : ℕ} (I : Rec
   records-end h = let d = all-read h .0 in ap to.End (sym (all-read h .1)) ∙ simp d
 
 -- what the answer of `records_to` says
-pub records-to : (s : List ℕ) (at n z : ℕ) → to.End z ≡ recordsTo s at n → (Rest s at n) × (z ≡ at + sizeSegments (segmentsOf n (drop at s)))
+pub records-to : (s : List ℕ) (at n z : ℕ) → to.End z ≡ recordsTo s at n → (Rest s at n) × (z ≡ at + sizeSegments (decodeSegments n (drop at s)))
 unfolding recordsTo
 records-to s at n z e = go (rest s (length s) at n 0) refl
   where
-    go : (t : Bool) → rest s (length s) at n 0 ≡ t → (Rest s at n) × (z ≡ at + sizeSegments (segmentsOf n (drop at s)))
+    go : (t : Bool) → rest s (length s) at n 0 ≡ t → (Rest s at n) × (z ≡ at + sizeSegments (decodeSegments n (drop at s)))
     go true h =
-        let f : to.End z ≡ to.End (at + sizeSegments (segmentsOf n (drop at s))) = e ∙ simp h in
-        let b = both-true (leb (at + sizeSegments (segmentsOf n (drop at s))) (length s)) _ h in
+        let f : to.End z ≡ to.End (at + sizeSegments (decodeSegments n (drop at s))) = e ∙ simp h in
+        let b = both-true (leb (at + sizeSegments (decodeSegments n (drop at s))) (length s)) _ h in
         (record { fits = leb-true _ _ (b .0); ok = b .1 }, cc)
     go false h = let f : to.End z ≡ to.Malformed = e ∙ simp h in let y : _≡_ {A = ℕ} 0 1 = cc in absurd (omega arith)
 
@@ -139,7 +139,7 @@ no-records s at n e = go (rest s (length s) at n 0) refl
     go : (t : Bool) → rest s (length s) at n 0 ≡ t → rest s (length s) at n 0 ≡ false
     go false h = h
     go true h =
-        let f : to.Malformed ≡ to.End (at + sizeSegments (segmentsOf n (drop at s))) = e ∙ simp h in
+        let f : to.Malformed ≡ to.End (at + sizeSegments (decodeSegments n (drop at s))) = e ∙ simp h in
         let y : _≡_ {A = ℕ} 0 1 = cc in absurd (omega arith)
 
 -- ---- the cases of `frontRead`
@@ -149,9 +149,9 @@ unfolding frontRead
 front-refused s e = simp e
 
 -- it has to be longer than it is
-front-longer : (s : List ℕ) → length s < sizeDelta (deltaOf s) → front-read.Malformed ≡ frontRead s
+front-longer : (s : List ℕ) → length s < sizeDelta (decodeDelta s) → front-read.Malformed ≡ frontRead s
 unfolding startsDelta
-front-longer s h = front-refused s (simp (lt-leb (sizeDelta (deltaOf s)) (length s) h))
+front-longer s h = front-refused s (simp (lt-leb (sizeDelta (decodeDelta s)) (length s) h))
 
 pub front-short : (s : List ℕ) → length s < 12 → front-read.Malformed ≡ frontRead s
 unfolding sizeDelta
@@ -178,37 +178,37 @@ module _ {s : List ℕ} {m n : ℕ} (x : Counts s m n) where
   -- the records end with the bytes or before, the lost ids pass their test b, and the records are good
   abbrev within : Bool → Bool
   within b =
-      leb (12 + 8 * m + sizeSegments (segmentsOf n (drop (12 + 8 * m) s))) (length s) && (b && okFrom 0 (segmentsOf n (drop (12 + 8 * m) s)))
+      leb (12 + 8 * m + sizeSegments (decodeSegments n (drop (12 + 8 * m) s))) (length s) && (b && okFrom 0 (decodeSegments n (drop (12 + 8 * m) s)))
 
-  starts-is : startsDelta s ≡ within (idsFrom 0 (idsOf m (drop 12 s)))
+  starts-is : startsDelta s ≡ within (idsFrom 0 (decodeIds m (drop 12 s)))
   unfolding startsDelta
   starts-is =
-      let z : ℕ = 12 + 8 * m + sizeSegments (segmentsOf n (drop (12 + 8 * m) s)) in
-      ap (λ (k : ℕ). leb k (length s) && okDelta (deltaOf s)) (size-is s m n lost-count gained-count)
+      let z : ℕ = 12 + 8 * m + sizeSegments (decodeSegments n (drop (12 + 8 * m) s)) in
+      ap (λ (k : ℕ). leb k (length s) && okDelta (decodeDelta s)) (size-is s m n lost-count gained-count)
       ∙ ap (λ (t : Bool). leb z (length s) && t) (ok-is s m n lost-count gained-count)
 
-  pub front-falls : false ≡ idsFrom 0 (idsOf m (drop 12 s)) → front-read.Malformed ≡ frontRead s
+  pub front-falls : false ≡ idsFrom 0 (decodeIds m (drop 12 s)) → front-read.Malformed ≡ frontRead s
   front-falls e = front-refused s (starts-is ∙ simp (← e, and-false))
 
   pub front-bad : to.Malformed ≡ recordsTo s (12 + 8 * m) n → front-read.Malformed ≡ frontRead s
-  front-bad e = front-refused s (starts-is ∙ go (idsFrom 0 (idsOf m (drop 12 s))))
+  front-bad e = front-refused s (starts-is ∙ go (idsFrom 0 (decodeIds m (drop 12 s))))
     where
       go : (t : Bool) → within t ≡ false
       go true = no-records s (12 + 8 * m) n e
-      go false = and-false (leb (12 + 8 * m + sizeSegments (segmentsOf n (drop (12 + 8 * m) s))) (length s))
+      go false = and-false (leb (12 + 8 * m + sizeSegments (decodeSegments n (drop (12 + 8 * m) s))) (length s))
 
-  pub front-good : true ≡ idsFrom 0 (idsOf m (drop 12 s)) → (z : ℕ) → to.End z ≡ recordsTo s (12 + 8 * m) n
+  pub front-good : true ≡ idsFrom 0 (decodeIds m (drop 12 s)) → (z : ℕ) → to.End z ≡ recordsTo s (12 + 8 * m) n
       → front-read.Delta m n z ≡ frontRead s
   unfolding frontRead
   front-good e z f =
       let g = records-to s (12 + 8 * m) n z f in
       let k : startsDelta s ≡ true =
       starts-is
-      ∙ simp (le-leb (12 + 8 * m + sizeSegments (segmentsOf n (drop (12 + 8 * m) s))) (length s) (g .0 .fits), ← e, g .0 .ok) in
-      let y : sizeDelta (deltaOf s) ≡ z = size-is s m n lost-count gained-count ∙ sym (g .1) in
+      ∙ simp (le-leb (12 + 8 * m + sizeSegments (decodeSegments n (drop (12 + 8 * m) s))) (length s) (g .0 .fits), ← e, g .0 .ok) in
+      let y : sizeDelta (decodeDelta s) ≡ z = size-is s m n lost-count gained-count ∙ sym (g .1) in
       let d = by-counts s m n lost-count gained-count in
-      let a : length (deltaOf s .lost) ≡ m = ap (λ (v : AssignmentDelta). length (v .lost)) d ∙ length-idsOf m (drop 12 s) in
-      let b : length (deltaOf s .gained) ≡ n = ap (λ (v : AssignmentDelta). length (v .gained)) d ∙ length-segmentsOf n (drop (12 + 8 * m) s) in
+      let a : length (decodeDelta s .lost) ≡ m = ap (λ (v : AssignmentDelta). length (v .lost)) d ∙ length-idsOf m (drop 12 s) in
+      let b : length (decodeDelta s .gained) ≡ n = ap (λ (v : AssignmentDelta). length (v .gained)) d ∙ length-segmentsOf n (drop (12 + 8 * m) s) in
       simp (k, y, a, b)
 
 -- ---- the cases of `deltaRead`, from the delta at the front
@@ -232,15 +232,15 @@ module _ (s : List ℕ) where
     delta-more h =
         let f = front-answer s m n z e in
         let k : isDelta s ≡ false =
-        simp (ne-eqb (sizeDelta (deltaOf s)) (length s) (λ q. h (f .size-is ∙ q))) in
+        simp (ne-eqb (sizeDelta (decodeDelta s)) (length s) (λ q. h (f .size-is ∙ q))) in
         simp k
 
     pub delta-all : z ≡ length s → Delta m n ≡ deltaRead s
     unfolding deltaRead isDelta startsDelta
     delta-all h =
         let f = front-answer s m n z e in
-        let o : okDelta (deltaOf s) ≡ true = both-true (leb (sizeDelta (deltaOf s)) (length s)) _ (f .starts) .1 in
-        let k : isDelta s ≡ true = simp (eq-eqb (sizeDelta (deltaOf s)) (length s) (sym (f .size-is) ∙ h), o) in
-        let a : length (deltaOf s .lost) ≡ m = ap length (f .lost-is) ∙ length-idsOf m (drop 12 s) in
-        let b : length (deltaOf s .gained) ≡ n = ap length (f .gained-is) ∙ length-segmentsOf n (drop (12 + 8 * m) s) in
+        let o : okDelta (decodeDelta s) ≡ true = both-true (leb (sizeDelta (decodeDelta s)) (length s)) _ (f .starts) .1 in
+        let k : isDelta s ≡ true = simp (eq-eqb (sizeDelta (decodeDelta s)) (length s) (sym (f .size-is) ∙ h), o) in
+        let a : length (decodeDelta s .lost) ≡ m = ap length (f .lost-is) ∙ length-idsOf m (drop 12 s) in
+        let b : length (decodeDelta s .gained) ≡ n = ap length (f .gained-is) ∙ length-segmentsOf n (drop (12 + 8 * m) s) in
         simp (k, a, b)

@@ -9,7 +9,7 @@ use mathlib.Core.List.{List, [], _∷_, _++_}
 use lib.ListN.{length, drop}
 use lib.Dec.{leb, eqb}
 use Rattle.packed_int.specs.Be.{bytesOf}
-use Rattle.packed.specs.Assignment.{AssignedSegment, encodeSegments, sizeSegments, num, segmentsOf, okFrom}
+use Rattle.packed.specs.Assignment.{AssignedSegment, encodeSegments, sizeSegments, num, decodeSegments, okFrom}
 
 -- ---- the value
 
@@ -39,16 +39,16 @@ sizeDelta d = deltaHead + 8 * length (d .lost) + sizeSegments (d .gained)
 
 -- ---- from bytes to a value, whatever the bytes are
 
-unfoldable pub idsOf : ℕ → List ℕ → List ℕ
-idsOf zero l = []
-idsOf (suc n) l = num 8 l ∷ idsOf n (drop 8 l)
+unfoldable pub decodeIds : ℕ → List ℕ → List ℕ
+decodeIds zero l = []
+decodeIds (suc n) l = num 8 l ∷ decodeIds n (drop 8 l)
 
 -- with so many lost ids and gained records
 abbrev pub deltaWith : ℕ → ℕ → List ℕ → AssignmentDelta
-deltaWith m n l = record { layoutEpoch = num 8 l; lost = idsOf m (drop deltaHead l); gained = segmentsOf n (drop (deltaHead + 8 * m) l) }
+deltaWith m n l = record { layoutEpoch = num 8 l; lost = decodeIds m (drop deltaHead l); gained = decodeSegments n (drop (deltaHead + 8 * m) l) }
 
-unfoldable pub deltaOf : List ℕ → AssignmentDelta
-deltaOf l = deltaWith (num 2 (drop 8 l)) (num 2 (drop 10 l)) l
+unfoldable pub decodeDelta : List ℕ → AssignmentDelta
+decodeDelta l = deltaWith (num 2 (drop 8 l)) (num 2 (drop 10 l)) l
 
 -- ---- which values are deltas, and which bytes
 
@@ -63,8 +63,8 @@ okDelta d = idsFrom 0 (d .lost) && okFrom 0 (d .gained)
 
 -- a delta stands at the front; what follows it is not looked at
 unfoldable pub startsDelta : List ℕ → Bool
-startsDelta l = leb (sizeDelta (deltaOf l)) (length l) && okDelta (deltaOf l)
+startsDelta l = leb (sizeDelta (decodeDelta l)) (length l) && okDelta (decodeDelta l)
 
 -- "... or it ends early or late."
 unfoldable pub isDelta : List ℕ → Bool
-isDelta l = eqb (sizeDelta (deltaOf l)) (length l) && okDelta (deltaOf l)
+isDelta l = eqb (sizeDelta (decodeDelta l)) (length l) && okDelta (decodeDelta l)

@@ -11,11 +11,11 @@ use mathlib.Core.List.{List, [], _∷_}
 use lib.ListN.{length, drop}
 use lib.Dec.{ltb}
 use borrow.Author.Tests.{lt-ltb, le-ltb, ltb-true, ltb-false, le-leb, ne-eqb}
-use Rattle.packed.specs.Assignment.{AssignedSegment, segmentOf, segmentsOf, okFrom}
+use Rattle.packed.specs.Assignment.{AssignedSegment, decodeSegment, decodeSegments, okFrom}
 use Rattle.packed.specs.Equal.{sameSegment}
 use Rattle.packed.proofs.AssignmentLaws.{ok-good, ok-head, ok-tail, segments-at}
 use Rattle.delta.specs.Change.{hasSame, without}
-use Rattle.difference.specs.Merge.{stepOf}
+use Rattle.difference.specs.Merge.{mergeStep}
 use Rattle.difference.specs.declared.Step.the-variants.{Keep, Same, Skip}
 
 -- ---- the answer where records are left
@@ -26,21 +26,21 @@ unfolding sameSegment
 ids-differ g h k = simp (ne-eqb (g .segmentId) (h .segmentId) k)
 
 module _ (g : AssignedSegment) (y : List ℕ) (q n : ℕ) (h : 0 < n) where
-  step-at : stepOf g (segmentsOf n (drop q y))
-      ≡ cond (ltb (segmentOf (drop q y) .segmentId) (g .segmentId)) Skip (cond (sameSegment g (segmentOf (drop q y))) Same Keep)
-  unfolding stepOf
-  step-at = ap (stepOf g) (segments-at y q n _ h refl)
+  step-at : mergeStep g (decodeSegments n (drop q y))
+      ≡ cond (ltb (decodeSegment (drop q y) .segmentId) (g .segmentId)) Skip (cond (sameSegment g (decodeSegment (drop q y))) Same Keep)
+  unfolding mergeStep
+  step-at = ap (mergeStep g) (segments-at y q n _ h refl)
 
-  pub step-below : segmentOf (drop q y) .segmentId < g .segmentId → Skip ≡ stepOf g (segmentsOf n (drop q y))
+  pub step-below : decodeSegment (drop q y) .segmentId < g .segmentId → Skip ≡ mergeStep g (decodeSegments n (drop q y))
   step-below k = sym (step-at ∙ simp (lt-ltb _ _ k))
 
-  pub step-above : g .segmentId < segmentOf (drop q y) .segmentId → Keep ≡ stepOf g (segmentsOf n (drop q y))
+  pub step-above : g .segmentId < decodeSegment (drop q y) .segmentId → Keep ≡ mergeStep g (decodeSegments n (drop q y))
   step-above k =
-      let h : g .segmentId ≤ segmentOf (drop q y) .segmentId = omega arith in
-      sym (step-at ∙ simp (le-ltb _ _ h, ids-differ g (segmentOf (drop q y)) (λ e. absurd (omega arith))))
+      let h : g .segmentId ≤ decodeSegment (drop q y) .segmentId = omega arith in
+      sym (step-at ∙ simp (le-ltb _ _ h, ids-differ g (decodeSegment (drop q y)) (λ e. absurd (omega arith))))
 
-  pub step-first : (t : Bool) → g .segmentId ≤ segmentOf (drop q y) .segmentId → sameSegment g (segmentOf (drop q y)) ≡ t
-      → cond t Same Keep ≡ stepOf g (segmentsOf n (drop q y))
+  pub step-first : (t : Bool) → g .segmentId ≤ decodeSegment (drop q y) .segmentId → sameSegment g (decodeSegment (drop q y)) ≡ t
+      → cond t Same Keep ≡ mergeStep g (decodeSegments n (drop q y))
   step-first t k e = sym (step-at ∙ simp (le-ltb _ _ k, e))
 
 -- ---- ids below a list's
@@ -89,25 +89,25 @@ keep-told false true e = apart cc
 keep-told false false e = (refl, refl)
 
 module _ (g : AssignedSegment) where
-  pub skip-some : (hs : List AssignedSegment) → Skip ≡ stepOf g hs → 0 < length hs
-  unfolding stepOf
+  pub skip-some : (hs : List AssignedSegment) → Skip ≡ mergeStep g hs → 0 < length hs
+  unfolding mergeStep
   skip-some [] e = apart cc
   skip-some (h ∷ hs) e = omega arith
 
   pub skip-step : (gs : List AssignedSegment) (h : AssignedSegment) (hs : List AssignedSegment) → okFrom 0 (g ∷ gs) ≡ true
-      → Skip ≡ stepOf g (h ∷ hs) → without (g ∷ gs) (h ∷ hs) ≡ without (g ∷ gs) hs
-  unfolding stepOf
+      → Skip ≡ mergeStep g (h ∷ hs) → without (g ∷ gs) (h ∷ hs) ≡ without (g ∷ gs) hs
+  unfolding mergeStep
   skip-step gs h hs o e =
       let t : ltb (h .segmentId) (g .segmentId) ≡ true = skip-told (ltb (h .segmentId) (g .segmentId)) (sameSegment g h) e in
       without-below (g .segmentId) (g ∷ gs) h hs (ok-from-first 0 g gs o) (ltb-true (h .segmentId) (g .segmentId) t)
 
-  pub same-step : (gs hs : List AssignedSegment) → Same ≡ stepOf g hs → without (g ∷ gs) hs ≡ without gs hs
-  unfolding stepOf hasSame without
+  pub same-step : (gs hs : List AssignedSegment) → Same ≡ mergeStep g hs → without (g ∷ gs) hs ≡ without gs hs
+  unfolding mergeStep hasSame without
   same-step gs [] e = apart cc
   same-step gs (h ∷ hs) e = simp (same-told (ltb (h .segmentId) (g .segmentId)) (sameSegment g h) e)
 
-  pub keep-step : (gs hs : List AssignedSegment) → okFrom 0 hs ≡ true → Keep ≡ stepOf g hs → without (g ∷ gs) hs ≡ g ∷ without gs hs
-  unfolding stepOf hasSame without
+  pub keep-step : (gs hs : List AssignedSegment) → okFrom 0 hs ≡ true → Keep ≡ mergeStep g hs → without (g ∷ gs) hs ≡ g ∷ without gs hs
+  unfolding mergeStep hasSame without
   keep-step gs [] o e = refl
   keep-step gs (h ∷ hs) o e =
       let k = keep-told (ltb (h .segmentId) (g .segmentId)) (sameSegment g h) e in

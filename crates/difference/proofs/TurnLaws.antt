@@ -20,24 +20,24 @@ use Rattle.packed_int.specs.Be.{beAt, bytesOf}
 use Rattle.packed_int.specs.Put.{put}
 use Rattle.packed_int.proofs.BeLaws.{length-bytesOf}
 use Rattle.packed_int.proofs.PutLaws.{put-nil, put-after}
-use Rattle.packed.specs.Assignment.{AssignedSegment, slotSize, segmentOf, segmentsOf, assignmentOf, encodeSegment, sizeSegment}
+use Rattle.packed.specs.Assignment.{AssignedSegment, slotSize, decodeSegment, decodeSegments, decodeAssignment, encodeSegment, sizeSegment}
 use Rattle.packed.specs.Assignment.{sizeAssignment, okFrom, okAssignment, startsAssignment}
 use Rattle.packed.proofs.AssignmentLaws.{size-least, segments-at, length-segmentsOf, first-segments, Rest, rest-start, rest-head, rest-next}
 use Rattle.packed.proofs.RoundLaws.{length-encodeSegment, write-segment}
 use Rattle.records.proofs.CompareLaws.{starts-fits}
 use Rattle.delta.specs.Change.{without}
 use Rattle.delta.proofs.ShortLaws.{few-records}
-use Rattle.difference.specs.Merge.{stepOf, entry, entries, entrySize, onlyIn, MergedIs}
+use Rattle.difference.specs.Merge.{mergeStep, entry, entries, entrySize, onlyIn, MergedIs}
 use Rattle.difference.specs.declared.Step.the-variants.{Keep, Same, Skip}
 use Rattle.difference.proofs.StepLaws.{skip-step, same-step, keep-step}
 
 -- ---- what a packed assignment has room for
 
-pub starts-slot : (s : List ℕ) → startsAssignment s ≡ true → sizeAssignment (assignmentOf s) ≤ slotSize
+pub starts-slot : (s : List ℕ) → startsAssignment s ≡ true → sizeAssignment (decodeAssignment s) ≤ slotSize
 unfolding startsAssignment okAssignment
 starts-slot s e =
-    let a = both-true (leb (sizeAssignment (assignmentOf s)) (length s)) _ e in
-    leb-true _ _ (both-true (leb (sizeAssignment (assignmentOf s)) slotSize) _ (a .1) .0)
+    let a = both-true (leb (sizeAssignment (decodeAssignment s)) (length s)) _ e in
+    leb-true _ _ (both-true (leb (sizeAssignment (decodeAssignment s)) slotSize) _ (a .1) .0)
 
 pub starts-long : (s : List ℕ) → startsAssignment s ≡ true → 10 ≤ length s
 unfolding sizeAssignment
@@ -65,10 +65,10 @@ pub size-within : (w : Bool) (z : ℕ) → 8 ≤ z → entrySize w z ≤ z
 size-within true z h = omega arith
 size-within false z h = h
 
-entry-bytes : (w : Bool) (s : List ℕ) (p z : ℕ) → Bytes s → z ≡ sizeSegment (segmentOf (drop p s)) → p + z ≤ length s
-    → take (entrySize w z) (drop p s) ≡ entry w (segmentOf (drop p s))
+entry-bytes : (w : Bool) (s : List ℕ) (p z : ℕ) → Bytes s → z ≡ sizeSegment (decodeSegment (drop p s)) → p + z ≤ length s
+    → take (entrySize w z) (drop p s) ≡ entry w (decodeSegment (drop p s))
 entry-bytes w s p z b e h =
-    let g : AssignedSegment = segmentOf (drop p s) in
+    let g : AssignedSegment = decodeSegment (drop p s) in
     let k : 14 ≤ sizeSegment g = size-least g in
     let q : encodeSegment g ≡ take (sizeSegment g) (drop p s) =
     write-segment (drop p s) (rw length-drop (omega arith)) (Bytes-drop p s b) in
@@ -91,21 +91,21 @@ pub record Turn (x y : List ℕ) (w : Bool) (o : List ℕ) (at : ℕ) (out : Lis
   pub rest-y : Rest y q n
   -- the records that were written
   pub done : List AssignedSegment
-  pub split : onlyIn x y ≡ done ++ without (segmentsOf m (drop p x)) (segmentsOf n (drop q y))
+  pub split : onlyIn x y ≡ done ++ without (decodeSegments m (drop p x)) (decodeSegments n (drop q y))
   pub wrote : out ≡ put o at (entries w done)
   pub long : length out ≡ length o
   pub here : next ≡ at + length (entries w done)
   pub counted : count ≡ length done
-  pub room : next + length (entries w (segmentsOf m (drop p x))) ≤ length o
+  pub room : next + length (entries w (decodeSegments m (drop p x))) ≤ length o
   pub few : count + m ≤ 145
 
 pub begin : (x y : List ℕ) (w : Bool) (o : List ℕ) (at m n : ℕ) → startsAssignment x ≡ true → startsAssignment y ≡ true
-    → at + length (entries w (assignmentOf x .segments)) ≤ length o → m ≡ beAt 2 x 8 → n ≡ beAt 2 y 8 → Turn x y w o at o m n 10 10 at 0
+    → at + length (entries w (decodeAssignment x .segments)) ≤ length o → m ≡ beAt 2 x 8 → n ≡ beAt 2 y 8 → Turn x y w o at o m n 10 10 at 0
 unfolding entries
 begin x y w o at m n hx hy r em en =
-    let fx : assignmentOf x .segments ≡ segmentsOf m (drop 10 x) = first-segments x m em in
-    let fy : assignmentOf y .segments ≡ segmentsOf n (drop 10 y) = first-segments y n en in
-    let k : length (assignmentOf x .segments) ≡ m = ap length fx ∙ length-segmentsOf m (drop 10 x) in
+    let fx : decodeAssignment x .segments ≡ decodeSegments m (drop 10 x) = first-segments x m em in
+    let fy : decodeAssignment y .segments ≡ decodeSegments n (drop 10 y) = first-segments y n en in
+    let k : length (decodeAssignment x .segments) ≡ m = ap length fx ∙ length-segmentsOf m (drop 10 x) in
     record {
       rest-x = rest-start x m hx em;
       rest-y = rest-start y n hy en;
@@ -116,16 +116,16 @@ begin x y w o at m n hx hy r em en =
       here = sym (add-zero at);
       counted = refl;
       room = subst (λ (l : List AssignedSegment). at + length (entries w l) ≤ length o) fx r;
-      few = omega (arith, few-records (assignmentOf x) (starts-slot x hx));
+      few = omega (arith, few-records (decodeAssignment x) (starts-slot x hx));
     }
 
 module _ {x y o out : List ℕ} {w : Bool} {at m n p q next count : ℕ} (v : Turn x y w o at out m n p q next count) where
   pub finish : m ≤ 0 → MergedIs x y w o at (record { count = count; next = next }) out
-  unfolding segmentsOf without
+  unfolding decodeSegments without
   finish h =
       let e : m ≡ 0 = omega arith in
       let s : onlyIn x y ≡ v .done =
-      v .split ∙ ap (λ (j : ℕ). v .done ++ without (segmentsOf j (drop p x)) (segmentsOf n (drop q y))) e ∙ append-nil (v .done) in
+      v .split ∙ ap (λ (j : ℕ). v .done ++ without (decodeSegments j (drop p x)) (decodeSegments n (drop q y))) e ∙ append-nil (v .done) in
       record {
         count = v .counted ∙ ap length (sym s);
         next = v .here ∙ ap (λ (l : List AssignedSegment). at + length (entries w l)) (sym s);
@@ -134,19 +134,19 @@ module _ {x y o out : List ℕ} {w : Bool} {at m n p q next count : ℕ} (v : Tu
 
   module _ (h : 0 < m) (z : ℕ) where
     abbrev g : AssignedSegment
-    g = segmentOf (drop p x)
+    g = decodeSegment (drop p x)
 
     -- the first record of y is passed over
-    pub skipped : 0 < n → z ≡ sizeSegment (segmentOf (drop q y)) → Skip ≡ stepOf g (segmentsOf n (drop q y))
+    pub skipped : 0 < n → z ≡ sizeSegment (decodeSegment (drop q y)) → Skip ≡ mergeStep g (decodeSegments n (drop q y))
         → Turn x y w o at out m (n - 1) p (q + z) next count
     skipped k e r =
-        let gs : List AssignedSegment = segmentsOf (m - 1) (drop (p + sizeSegment g) x) in
-        let hs : List AssignedSegment = segmentsOf (n - 1) (drop (q + z) y) in
-        let ex : segmentsOf m (drop p x) ≡ g ∷ gs = segments-at x p m _ h refl in
-        let ey : segmentsOf n (drop q y) ≡ segmentOf (drop q y) ∷ hs = segments-at y q n z k e in
+        let gs : List AssignedSegment = decodeSegments (m - 1) (drop (p + sizeSegment g) x) in
+        let hs : List AssignedSegment = decodeSegments (n - 1) (drop (q + z) y) in
+        let ex : decodeSegments m (drop p x) ≡ g ∷ gs = segments-at x p m _ h refl in
+        let ey : decodeSegments n (drop q y) ≡ decodeSegment (drop q y) ∷ hs = segments-at y q n z k e in
         let ok : okFrom 0 (g ∷ gs) ≡ true = subst (λ (l : List AssignedSegment). okFrom 0 l ≡ true) ex (v .rest-x .ok) in
-        let s : without (segmentsOf m (drop p x)) (segmentsOf n (drop q y)) ≡ without (segmentsOf m (drop p x)) hs =
-        cc (skip-step g gs (segmentOf (drop q y)) hs ok (r ∙ ap (stepOf g) ey)) in
+        let s : without (decodeSegments m (drop p x)) (decodeSegments n (drop q y)) ≡ without (decodeSegments m (drop p x)) hs =
+        cc (skip-step g gs (decodeSegment (drop q y)) hs ok (r ∙ ap (mergeStep g) ey)) in
         record {
           rest-x = v .rest-x;
           rest-y = rest-next y q n z k e (v .rest-y);
@@ -162,13 +162,13 @@ module _ {x y o out : List ℕ} {w : Bool} {at m n p q next count : ℕ} (v : Tu
 
     module _ (e : z ≡ sizeSegment g) where
       abbrev gs : List AssignedSegment
-      gs = segmentsOf (m - 1) (drop (p + z) x)
+      gs = decodeSegments (m - 1) (drop (p + z) x)
 
       -- what is left to write falls by the record
       room-next : next + (entrySize w z + length (entries w gs)) ≤ length o
       unfolding entries
       room-next =
-          let a : length (entries w (segmentsOf m (drop p x))) ≡ length (entry w g) + length (entries w gs) =
+          let a : length (entries w (decodeSegments m (drop p x))) ≡ length (entry w g) + length (entries w gs) =
           ap (λ (l : List AssignedSegment). length (entries w l)) (segments-at x p m z h e) ∙ length-append (entry w g) (entries w gs) in
           let b : length (entry w g) ≡ entrySize w z = length-entry w g ∙ ap (entrySize w) (sym e) in
           omega (arith, v .room)
@@ -177,10 +177,10 @@ module _ {x y o out : List ℕ} {w : Bool} {at m n p q next count : ℕ} (v : Tu
       room-here = omega (arith, room-next)
 
       -- y has the record
-      pub matched : Same ≡ stepOf g (segmentsOf n (drop q y)) → Turn x y w o at out (m - 1) n (p + z) q next count
+      pub matched : Same ≡ mergeStep g (decodeSegments n (drop q y)) → Turn x y w o at out (m - 1) n (p + z) q next count
       matched r =
-          let s : without (segmentsOf m (drop p x)) (segmentsOf n (drop q y)) ≡ without gs (segmentsOf n (drop q y)) =
-          cc (segments-at x p m z h e, same-step g gs (segmentsOf n (drop q y)) r) in
+          let s : without (decodeSegments m (drop p x)) (decodeSegments n (drop q y)) ≡ without gs (decodeSegments n (drop q y)) =
+          cc (segments-at x p m z h e, same-step g gs (decodeSegments n (drop q y)) r) in
           record {
             rest-x = rest-next x p m z h e (v .rest-x);
             rest-y = v .rest-y;
@@ -195,14 +195,14 @@ module _ {x y o out : List ℕ} {w : Bool} {at m n p q next count : ℕ} (v : Tu
           }
 
       -- y has not the record: len bytes of it are written
-      pub kept : (len : ℕ) (out′ : List ℕ) → Bytes x → Keep ≡ stepOf g (segmentsOf n (drop q y)) → len ≡ entrySize w z
+      pub kept : (len : ℕ) (out′ : List ℕ) → Bytes x → Keep ≡ mergeStep g (decodeSegments n (drop q y)) → len ≡ entrySize w z
           → out′ ≡ put out next (take len (drop p x)) → length out′ ≡ length out
           → Turn x y w o at out′ (m - 1) n (p + z) q (next + len) (count + 1)
       unfolding entries
       kept len out′ b r el u t =
           let D : List ℕ = entries w (v .done) in
-          let s : without (segmentsOf m (drop p x)) (segmentsOf n (drop q y)) ≡ g ∷ without gs (segmentsOf n (drop q y)) =
-          cc (segments-at x p m z h e, keep-step g gs (segmentsOf n (drop q y)) (v .rest-y .ok) r) in
+          let s : without (decodeSegments m (drop p x)) (decodeSegments n (drop q y)) ≡ g ∷ without gs (decodeSegments n (drop q y)) =
+          cc (segments-at x p m z h e, keep-step g gs (decodeSegments n (drop q y)) (v .rest-y .ok) r) in
           let eb : take len (drop p x) ≡ entry w g =
           ap (λ (k : ℕ). take k (drop p x)) el ∙ entry-bytes w x p z b e (rest-head x p m z h e (v .rest-x)) in
           let le : length (entry w g) ≡ len = length-entry w g ∙ ap (entrySize w) (sym e) ∙ sym el in
@@ -218,7 +218,7 @@ module _ {x y o out : List ℕ} {w : Bool} {at m n p q next count : ℕ} (v : Tu
             split =
                 v .split
                 ∙ ap (λ (l : List AssignedSegment). v .done ++ l) s
-                ∙ sym (append-assoc (v .done) (g ∷ []) (without gs (segmentsOf n (drop q y))));
+                ∙ sym (append-assoc (v .done) (g ∷ []) (without gs (decodeSegments n (drop q y))));
             wrote =
                 u
                 ∙ ap (put out next) eb

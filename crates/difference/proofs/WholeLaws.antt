@@ -13,7 +13,7 @@ use Rattle.packed_int.specs.Be.{bytesOf}
 use Rattle.packed_int.specs.Put.{put}
 use Rattle.packed_int.proofs.BeLaws.{length-bytesOf}
 use Rattle.packed_int.proofs.PutLaws.{put-after, put-before}
-use Rattle.packed.specs.Assignment.{AssignedSegment, idOf, assignmentOf, encodeSegment, encodeSegments}
+use Rattle.packed.specs.Assignment.{AssignedSegment, idOf, decodeAssignment, encodeSegment, encodeSegments}
 use Rattle.packed.specs.Assignment.{sizeSegments, sizeAssignment, startsAssignment}
 use Rattle.packed.proofs.RoundLaws.{length-encodeSegments}
 use Rattle.delta.specs.Delta.{AssignmentDelta, encodeIds, encodeDelta, sizeDelta}
@@ -44,26 +44,26 @@ length-gained gs = ap length (records-entries gs) ∙ length-encodeSegments gs
 
 -- ---- room
 
-pub lost-room : (s : List ℕ) → startsAssignment s ≡ true → length (entries false (assignmentOf s .segments)) ≤ 1160
-lost-room s h = omega (arith, few-records (assignmentOf s) (starts-slot s h), length-lost (assignmentOf s .segments))
+pub lost-room : (s : List ℕ) → startsAssignment s ≡ true → length (entries false (decodeAssignment s .segments)) ≤ 1160
+lost-room s h = omega (arith, few-records (decodeAssignment s) (starts-slot s h), length-lost (decodeAssignment s .segments))
 
 module _ (x y : List ℕ) (hx : startsAssignment x ≡ true) where
   few-only : length (onlyIn x y) ≤ 145
   few-only =
       omega (
         arith,
-        length-without (assignmentOf x .segments) (assignmentOf y .segments),
-        few-records (assignmentOf x) (starts-slot x hx),
+        length-without (decodeAssignment x .segments) (decodeAssignment y .segments),
+        few-records (decodeAssignment x) (starts-slot x hx),
       )
 
   pub few-merged : {w : Bool} {o : List ℕ} {at : ℕ} {r : Merged} {o′ : List ℕ} → MergedIs x y w o at r o′ → r .count ≤ 145
   few-merged v = omega (arith, v .count, few-only)
 
   pub gained-room : (o : List ℕ) (r : Merged) (o′ : List ℕ) → startsAssignment y ≡ true → 3210 ≤ length o → length o′ ≡ length o
-      → MergedIs x y false o 12 r o′ → r .next + length (entries true (assignmentOf y .segments)) ≤ length o′
+      → MergedIs x y false o 12 r o′ → r .next + length (entries true (decodeAssignment y .segments)) ≤ length o′
   unfolding sizeAssignment
   gained-room o r o′ hy k e v =
-      omega (arith, v .next, few-only, length-lost (onlyIn x y), starts-slot y hy, length-gained (assignmentOf y .segments))
+      omega (arith, v .next, few-only, length-lost (onlyIn x y), starts-slot y hy, length-gained (decodeAssignment y .segments))
 
 -- ---- the five writes
 
@@ -96,14 +96,14 @@ together o d at e h =
     cc
 
 pub whole : (x y o : List ℕ) (e : ℕ) (lost gained : Merged) (o1 o2 o3 o4 o5 : List ℕ) → startsAssignment x ≡ true
-    → startsAssignment y ≡ true → 3210 ≤ length o → e ≡ assignmentOf y .layoutEpoch
+    → startsAssignment y ≡ true → 3210 ≤ length o → e ≡ decodeAssignment y .layoutEpoch
     → MergedIs x y false o 12 lost o1 → MergedIs y x true o1 (lost .next) gained o2 → o3 ≡ put o2 10 (bytesOf 2 (gained .count))
     → o4 ≡ put o3 8 (bytesOf 2 (lost .count)) → o5 ≡ put o4 0 (bytesOf 8 e)
-    → (gained .next ≡ sizeDelta (deltaBetween (assignmentOf x) (assignmentOf y)))
-    × (o5 ≡ put o 0 (encodeDelta (deltaBetween (assignmentOf x) (assignmentOf y))))
+    → (gained .next ≡ sizeDelta (deltaBetween (decodeAssignment x) (decodeAssignment y)))
+    × (o5 ≡ put o 0 (encodeDelta (deltaBetween (decodeAssignment x) (decodeAssignment y))))
 unfolding deltaBetween sizeDelta
 whole x y o e lost gained o1 o2 o3 o4 o5 hx hy ho he a b w3 w4 w5 =
-    let d : AssignmentDelta = deltaBetween (assignmentOf x) (assignmentOf y) in
+    let d : AssignmentDelta = deltaBetween (decodeAssignment x) (decodeAssignment y) in
     let L : List ℕ = encodeIds (d .lost) in
     let G : List ℕ = encodeSegments (d .gained) in
     let el : entries false (onlyIn x y) ≡ L = ids-entries (onlyIn x y) in
@@ -117,7 +117,7 @@ whole x y o e lost gained o1 o2 o3 o4 o5 hx hy ho he a b w3 w4 w5 =
     let z : gained .next ≡ 12 + 8 * length (d .lost) + sizeSegments (d .gained) =
     omega (arith, nl, ng, length-encodeIds (d .lost), length-encodeSegments (d .gained)) in
     let s : 12 + 8 * length (d .lost) + sizeSegments (d .gained) ≤ 3210 =
-    delta-short (assignmentOf x) (assignmentOf y) (starts-slot x hx) (starts-slot y hy) in
+    delta-short (decodeAssignment x) (decodeAssignment y) (starts-slot x hx) (starts-slot y hy) in
     let k : o5 ≡ put (put (put (put (put o 12 L) (lost .next) G) 10 (bytesOf 2 (length (d .gained)))) 8 (bytesOf 2 (length (d .lost)))) 0
     (bytesOf 8 (d .layoutEpoch)) =
     cc in

@@ -10,7 +10,7 @@ use lib.ListN.{length}
 use lib.Dec.{ltb}
 use Rattle.packed_int.specs.Be.{bytesOf}
 use Rattle.packed_int.specs.Put.{put}
-use Rattle.packed.specs.Assignment.{AssignedSegment, encodeSegment, assignmentOf}
+use Rattle.packed.specs.Assignment.{AssignedSegment, encodeSegment, decodeAssignment}
 use Rattle.packed.specs.Equal.{sameSegment}
 use Rattle.delta.specs.Change.{without}
 use Rattle.difference.specs.declared.Step.{Step}
@@ -18,9 +18,9 @@ use Rattle.difference.specs.declared.Step.the-variants.{Keep, Same, Skip
 use Rattle.difference.specs.declared.Merged.{Merged}
 
 -- how a record stands to others, whose ids rise: the first of them is below it, or is identical to it; or they have no identical one
-unfoldable pub stepOf : AssignedSegment → List AssignedSegment → Step
-stepOf g [] = Keep
-stepOf g (h ∷ hs) = cond (ltb (h .segmentId) (g .segmentId)) Skip (cond (sameSegment g h) Same Keep)
+unfoldable pub mergeStep : AssignedSegment → List AssignedSegment → Step
+mergeStep g [] = Keep
+mergeStep g (h ∷ hs) = cond (ltb (h .segmentId) (g .segmentId)) Skip (cond (sameSegment g h) Same Keep)
 
 -- a record's bytes, or those of its id alone
 unfoldable pub entry : Bool → AssignedSegment → List ℕ
@@ -38,7 +38,7 @@ entrySize false size = 8
 
 -- the records of x that y has not, as assignments
 abbrev pub onlyIn : List ℕ → List ℕ → List AssignedSegment
-onlyIn x y = without (assignmentOf x .segments) (assignmentOf y .segments)
+onlyIn x y = without (decodeAssignment x .segments) (decodeAssignment y .segments)
 
 -- how many they are, and where the bytes end that were written from the place at on
 pub record MergedIs (x y : List ℕ) (whole : Bool) (o : List ℕ) (at : ℕ) (r : Merged) (o′ : List ℕ) : Type 0 where

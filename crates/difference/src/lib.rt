@@ -5,10 +5,10 @@ ghost use mathlib.Core.Bool.{true};
 ghost use Prim.Native.Nat.{_+_, _≤_, _<_};
 ghost use lib.ListN.{length, take, drop};
 ghost use Rattle.packed_int.specs.Put.{put};
-ghost use Rattle.packed.specs.Assignment.{segmentOf, segmentsOf, sizeSegment, assignmentOf, startsAssignment};
+ghost use Rattle.packed.specs.Assignment.{decodeSegment, decodeSegments, sizeSegment, decodeAssignment, startsAssignment};
 ghost use Rattle.delta.specs.Delta.{encodeDelta, sizeDelta};
 ghost use Rattle.delta.specs.Change.{deltaBetween};
-ghost use Rattle.difference.specs.Merge.{stepOf, entries, entrySize, MergedIs};
+ghost use Rattle.difference.specs.Merge.{mergeStep, entries, entrySize, MergedIs};
 
 // The most bytes of a delta from one packed assignment to another.
 pub const LONGEST: usize = 3210;
@@ -31,9 +31,9 @@ struct Merged {
 
 // How the record at the place p of x stands to the n records of y from the place q on.
 fn next_step(x: &[u8], p: usize, y: &[u8], q: usize, n: usize) -> Step
-    requires { ⌜ p + sizeSegment (segmentOf (drop p (now x))) ≤ length (now x) ⌝ }
-    requires { ⌜ (0 < n → q + sizeSegment (segmentOf (drop q (now y))) ≤ length (now y)) ⌝ }
-    ensures { λ r. ⌜ r ≡ stepOf (segmentOf (drop p (now (x .entry)))) (segmentsOf n (drop q (now (y .entry)))) ⌝ }
+    requires { ⌜ p + sizeSegment (decodeSegment (drop p (now x))) ≤ length (now x) ⌝ }
+    requires { ⌜ (0 < n → q + sizeSegment (decodeSegment (drop q (now y))) ≤ length (now y)) ⌝ }
+    ensures { λ r. ⌜ r ≡ mergeStep (decodeSegment (drop p (now (x .entry)))) (decodeSegments n (drop q (now (y .entry)))) ⌝ }
 {
     if n == 0 {
         return Step::Keep;
@@ -77,7 +77,7 @@ fn copy_bytes(x: &[u8], p: usize, n: usize, out: &mut [u8], at: usize)
 fn merge(x: &[u8], y: &[u8], whole: bool, out: &mut [u8], at: usize) -> Merged
     requires { ⌜ startsAssignment (now x) ≡ true ⌝ }
     requires { ⌜ startsAssignment (now y) ≡ true ⌝ }
-    requires { ⌜ at + length (entries whole (assignmentOf (now x) .segments)) ≤ length (now out) ⌝ }
+    requires { ⌜ at + length (entries whole (decodeAssignment (now x) .segments)) ≤ length (now out) ⌝ }
     ensures { λ r. ⌜ MergedIs (now (x .entry)) (now (y .entry)) whole (now (out .entry)) at r (now (out .exit)) ⌝ }
 {
     let mut m = packed_int::read_u16(x, 8) as usize;
@@ -115,8 +115,8 @@ pub fn write_delta(old: &[u8], new: &[u8], out: &mut [u8]) -> usize
     requires { ⌜ startsAssignment (now old) ≡ true ⌝ }
     requires { ⌜ startsAssignment (now new) ≡ true ⌝ }
     requires { ⌜ 3210 ≤ length (now out) ⌝ }
-    ensures { λ r. ⌜ (r ≡ sizeDelta (deltaBetween (assignmentOf (now (old .entry))) (assignmentOf (now (new .entry)))))
-        × (now (out .exit) ≡ put (now (out .entry)) 0 (encodeDelta (deltaBetween (assignmentOf (now (old .entry))) (assignmentOf (now (new .entry)))))) ⌝ }
+    ensures { λ r. ⌜ (r ≡ sizeDelta (deltaBetween (decodeAssignment (now (old .entry))) (decodeAssignment (now (new .entry)))))
+        × (now (out .exit) ≡ put (now (out .entry)) 0 (encodeDelta (deltaBetween (decodeAssignment (now (old .entry))) (decodeAssignment (now (new .entry)))))) ⌝ }
 {
     let epoch = packed_int::read_u64(new, 0);
     let lost = merge(old, new, false, out, delta::HEAD);

@@ -17,14 +17,14 @@ use Rattle.schema.specs.Schema.{valueFor}
 use Rattle.schema.specs.Required.{isComplete}
 use Rattle.schema.specs.FirstFault.{firstFault}
 use Rattle.wire.specs.Varints.{varintOf}
-use Rattle.wire.specs.Field.{keyOf, numberOf, partOf}
+use Rattle.wire.specs.Field.{keyOf, numberBody, partOf}
 use Rattle.wire.specs.Fields.{fieldsOf}
 use Rattle.readers.specs.Messages as readers
 use Rattle.readers.specs.Messages.{updateOf, responseOf}
 use Rattle.packed.specs.Assignment as packed
-use Rattle.packed.specs.Assignment.{ConsumerAssignment, sizeAssignment, sizeSegments, num, segmentsOf}
+use Rattle.packed.specs.Assignment.{ConsumerAssignment, sizeAssignment, sizeSegments, num, decodeSegments}
 use Rattle.packed.specs.Equal.{sameSegments, sameAssignment}
-use Rattle.packed_queue.specs.Entries.{sizeEntries, entriesOf, startEntries}
+use Rattle.packed_queue.specs.Entries.{sizeEntries, decodeEntries, startEntries}
 use Rattle.delta.specs.Change.{without, deltaBetween}
 use Rattle.delta.specs.Join.{strike, apply}
 use Rattle.content.specs.Content.{firstRefusal, inIdOrder, consumerAssignment, contentOf}
@@ -32,7 +32,7 @@ use Rattle.session.specs.declared.Floor.{Floor}
 use Rattle.session.specs.declared.Floor.the-variants.{Unset, At}
 use Rattle.session.specs.declared.SessionRecord.{SessionRecord}
 use Rattle.session.specs.Store.{slot, listIn, queueIn, queueReads}
-use Rattle.session.specs.Identity.{topicOf, subscriptionOf, consumerNameOf, isIdentity}
+use Rattle.session.specs.Identity.{identityTopic, subscriptionOf, consumerNameOf, isIdentity}
 use Rattle.session.specs.Session.{Session, inUse, view, anyBeyond, damaged}
 use Rattle.session.specs.Update.{updateUnregistered, updateRegistered, updateCall}
 use Rattle.session.specs.Tails.{updateContent, updateValid, responseAssignment, responseContent, responseValid}
@@ -64,7 +64,7 @@ abbrev opened : Session
 opened = record { state = fresh; size = 6156; sound = true; topic = []; baseline = at 0; list = at 0; queue = [] }
 
 opens : view fresh zeros ≡ opened
-unfolding beFrom be beAt textAfter isUtf8 num segmentsOf packed.assignmentOf entriesOf startEntries slot listIn queueIn queueReads topicOf
+unfolding beFrom be beAt textAfter isUtf8 num decodeSegments packed.decodeAssignment decodeEntries startEntries slot listIn queueIn queueReads identityTopic
     subscriptionOf consumerNameOf isIdentity inUse view
 opens = refl
 
@@ -164,7 +164,7 @@ record Computed : Type 0 where
 computed : Computed
 unfolding damaged anyBeyond sizeEntries updateCall updateValid updateContent updateUnregistered updateRegistered responseCall responseValid
     responseContent responseAssignment staleFault lastList nextChange drained drainCall firstFault valueFor isComplete fieldsOf keyOf varintOf
-    numberOf partOf updateOf responseOf readers.assignmentOf contentOf firstRefusal inIdOrder consumerAssignment sizeAssignment sizeSegments
+    numberBody partOf updateOf responseOf readers.readAssignment contentOf firstRefusal inIdOrder consumerAssignment sizeAssignment sizeSegments
     deltaBetween without strike apply sameSegments sameAssignment
 computed =
     record {

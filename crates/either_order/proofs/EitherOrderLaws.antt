@@ -22,9 +22,9 @@ use Rattle.packed_int.specs.Be.{bytesOf}
 use Rattle.packed_int.specs.Put.{put}
 use Rattle.packed_int.proofs.BeLaws.{drop-front}
 use Rattle.packed.specs.Assignment.{ConsumerAssignment, slotSize, encodeSegments, encodeAssignment, sizeAssignment}
-use Rattle.packed.specs.Assignment.{num, assignmentOf, isAssignment}
+use Rattle.packed.specs.Assignment.{num, decodeAssignment, isAssignment}
 use Rattle.packed.proofs.RoundLaws.{length-encodeAssignment}
-use Rattle.delta.specs.Delta.{AssignmentDelta, encodeIds, encodeDelta, sizeDelta, deltaOf, okDelta, isDelta}
+use Rattle.delta.specs.Delta.{AssignmentDelta, encodeIds, encodeDelta, sizeDelta, decodeDelta, okDelta, isDelta}
 use Rattle.delta.specs.Join.{Apart, apply, join}
 use Rattle.delta.proofs.RoundLaws.{length-encodeDelta}
 use Rattle.delta.proofs.DeltaLaws.{is-delta-proper}
@@ -79,15 +79,15 @@ module _ (d e : AssignmentDelta) (p : d .lost ≡ e .lost) (q : d .gained ≡ e 
       chosen (countable d) (countable e) _ (cc) (λ t.
       written-behind _ (encodeDelta e) out (omega (arith, length-encodeDelta d)) delta-length delta-behind)
 
-join-behind : (d e out : List ℕ) → Apart (deltaOf d) (deltaOf e)
+join-behind : (d e out : List ℕ) → Apart (decodeDelta d) (decodeDelta e)
     → SameButEpoch (joinOutcome d e out) (joinOutcome e d out)
 unfolding joinOutcome joinedDelta
 join-behind d e out h =
     chosen (isDelta d && isDelta e) (isDelta e && isDelta d) _ (and-comm (isDelta d) (isDelta e)) (λ t.
     let r = is-delta-proper d (both-true (isDelta d) (isDelta e) t .0) in
     let s = is-delta-proper e (both-true (isDelta d) (isDelta e) t .1) in
-    joined-behind (join (deltaOf d) (deltaOf e)) (join (deltaOf e) (deltaOf d)) (lost-commutes (deltaOf d) (deltaOf e) r s)
-    (gained-commutes (deltaOf d) (deltaOf e) r s h) out)
+    joined-behind (join (decodeDelta d) (decodeDelta e)) (join (decodeDelta e) (decodeDelta d)) (lost-commutes (decodeDelta d) (decodeDelta e) r s)
+    (gained-commutes (decodeDelta d) (decodeDelta e) r s h) out)
 
 -- ---- the call apply
 
@@ -123,12 +123,12 @@ module _ (x y : List ℕ) (h : drop 8 x ≡ drop 8 y) where
   further : (n : ℕ) → drop (8 + n) x ≡ drop (8 + n) y
   further n = sym (drop-drop n 8 x) ∙ ap (drop n) h ∙ drop-drop n 8 y
 
-  lost-behind : deltaOf x .lost ≡ deltaOf y .lost
-  unfolding deltaOf
+  lost-behind : decodeDelta x .lost ≡ decodeDelta y .lost
+  unfolding decodeDelta
   lost-behind = cc (further 4)
 
-  gained-behind : deltaOf x .gained ≡ deltaOf y .gained
-  unfolding deltaOf
+  gained-behind : decodeDelta x .gained ≡ decodeDelta y .gained
+  unfolding decodeDelta
   gained-behind =
       let m : ℕ = num 2 (drop 8 x) in
       let f : drop (8 + (4 + 8 * m)) x ≡ drop (8 + (4 + 8 * m)) y = further (4 + 8 * m) in
@@ -141,9 +141,9 @@ module _ (x y : List ℕ) (h : drop 8 x ≡ drop 8 y) where
   unfolding isDelta okDelta sizeDelta
   is-behind =
       let l : length x - 8 ≡ length y - 8 = sym (length-drop 8 x) ∙ ap length h ∙ length-drop 8 y in
-      cc (lost-behind, gained-behind, size-fits (sizeDelta (deltaOf x)) (length x) (length y) (omega arith) l)
+      cc (lost-behind, gained-behind, size-fits (sizeDelta (decodeDelta x)) (length x) (length y) (omega arith) l)
 
-  segments-behind : (a : ConsumerAssignment) → apply (deltaOf x) a .segments ≡ apply (deltaOf y) a .segments
+  segments-behind : (a : ConsumerAssignment) → apply (decodeDelta x) a .segments ≡ apply (decodeDelta y) a .segments
   unfolding apply
   segments-behind a = cc (lost-behind, gained-behind)
 
@@ -152,7 +152,7 @@ module _ (x y : List ℕ) (h : drop 8 x ≡ drop 8 y) where
   apply-behind s out =
       let both : Bool → Bool = λ t. isAssignment s && t in
       chosen (both (isDelta x)) (both (isDelta y)) _ (ap both is-behind) (λ t.
-      applied-behind (apply (deltaOf x) (assignmentOf s)) (apply (deltaOf y) (assignmentOf s)) (segments-behind (assignmentOf s)) out)
+      applied-behind (apply (decodeDelta x) (decodeAssignment s)) (apply (decodeDelta y) (decodeAssignment s)) (segments-behind (decodeAssignment s)) out)
 
 -- ---- the law
 

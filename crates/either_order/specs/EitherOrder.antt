@@ -13,7 +13,7 @@ use mathlib.Core.List.{List}
 use lib.ListN.{take, drop}
 use Rattle.output.specs.Output.{Outcome}
 use Rattle.output.specs.declared.WriteAnswer.the-variants.{Written}
-use Rattle.delta.specs.Delta.{deltaOf}
+use Rattle.delta.specs.Delta.{decodeDelta}
 use Rattle.delta.specs.Join.{Apart}
 use Rattle.join.specs.JoinOutcome.{joinOutcome}
 use Rattle.apply.specs.ApplyOutcome.{applyOutcome}
@@ -36,4 +36,4 @@ pub record EitherOrder (d e : List ℕ) : Type 0 where
 
 -- the law
 abbrev pub Law : Type 0
-Law = (d e : List ℕ) → Apart (deltaOf d) (deltaOf e) → EitherOrder d e
+Law = (d e : List ℕ) → Apart (decodeDelta d) (decodeDelta e) → EitherOrder d e

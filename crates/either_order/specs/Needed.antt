@@ -15,11 +15,11 @@ use Rattle.ranges.specs.Overlap.{anyOverlap}
 use Rattle.packed_int.specs.Be.{beFrom, be, bytesOf}
 use Rattle.packed_int.specs.Put.{put}
 use Rattle.packed.specs.Assignment.{encodeRange, encodeRanges, encodeSegment, encodeSegments, sizeSegment, sizeSegments}
-use Rattle.packed.specs.Assignment.{num, rangeOf, rangesOf, segmentOf, segmentsOf}
+use Rattle.packed.specs.Assignment.{num, decodeRange, decodeRanges, decodeSegment, decodeSegments}
 use Rattle.packed.specs.Assignment.{allInOrder, okBuckets, okSegment, okFrom}
 use Rattle.packed.specs.Rows.{half, ofThree}
 use Rattle.delta.specs.Delta.{AssignmentDelta, encodeIds, encodeDelta, sizeDelta}
-use Rattle.delta.specs.Delta.{idsOf, deltaOf, idsFrom, okDelta, isDelta}
+use Rattle.delta.specs.Delta.{decodeIds, decodeDelta, idsFrom, okDelta, isDelta}
 use Rattle.delta.specs.Join.{strike, apply, names, join}
 use Rattle.output.specs.Output.{written}
 use Rattle.output.specs.declared.WriteAnswer.the-variants.{Written}
@@ -52,7 +52,7 @@ pub record Needed : Type 0 where
   pub gained-first-answer : joinOutcome (encodeDelta gains) (encodeDelta loses) room .answer ≡ Written 20
 
 pub needed : Needed
-unfolding beFrom be bytesOf put encodeRange encodeRanges encodeSegment encodeSegments sizeSegment sizeSegments num rangeOf rangesOf segmentOf segmentsOf allInOrder okBuckets okSegment okFrom encodeIds encodeDelta sizeDelta idsOf deltaOf idsFrom okDelta isDelta strike apply join written joinedDelta joinOutcome anyOverlap
+unfolding beFrom be bytesOf put encodeRange encodeRanges encodeSegment encodeSegments sizeSegment sizeSegments num decodeRange decodeRanges decodeSegment decodeSegments allInOrder okBuckets okSegment okFrom encodeIds encodeDelta sizeDelta decodeIds decodeDelta idsFrom okDelta isDelta strike apply join written joinedDelta joinOutcome anyOverlap
 needed =
     record {
       both-name = refl;

@@ -45,14 +45,14 @@ pub write-call :
 write-call {out = out} e f = ap (λ (y : Reply). outputs y out) e ∙ ap writeOf f
 
 pub name-call :
-    {x : Reply} {a : NameAnswer} {out : List ℕ} {o : build.Outcome} → x ≡ nameReply a → build.outcome a out ≡ o → outputs x out ≡ nameOf o
+    {x : Reply} {a : NameAnswer} {out : List ℕ} {o : build.NameOutcome} → x ≡ nameReply a → build.nameOutcome a out ≡ o → outputs x out ≡ nameOf o
 name-call {out = out} e f = ap (λ (y : Reply). outputs y out) e ∙ ap nameOf f
 
 abbrev pub windowed : Reply → List ℕ → Windowed
 windowed x window = record { reply = x; window = window }
 
 pub window-call :
-    {x : Reply} {a : ChurnAnswer} {w : List ℕ} {o : window.Outcome} → x ≡ churnReply a → window.outcome a w ≡ o → windowed x w ≡ windowOf o
+    {x : Reply} {a : ChurnAnswer} {w : List ℕ} {o : window.ChurnOutcome} → x ≡ churnReply a → window.churnOutcome a w ≡ o → windowed x w ≡ windowOf o
 window-call {w = w} e f = ap (λ (y : Reply). windowed y w) e ∙ ap windowOf f
 
 pub open-call :
@@ -69,7 +69,7 @@ abbrev pub watched : Reply → List ℕ → List ℕ → Watched
 watched x buffer out = record { reply = x; buffer = buffer; out = out }
 
 pub watch-call :
-    {x : Reply} {a : WatchAnswer} {buffer out : List ℕ} {o : watch.Outcome} →
+    {x : Reply} {a : WatchAnswer} {buffer out : List ℕ} {o : watch.WatchOutcome} →
     x ≡ watchReply a → watch.outcome a buffer out ≡ o → watched x buffer out ≡ watchOf o
 watch-call {buffer = buffer} {out = out} e f = ap (λ (y : Reply). watched y buffer out) e ∙ ap watchOf f
 

@@ -128,7 +128,7 @@ pub record Output : Type 0 where
 abbrev pub writeOf : output.Outcome → Output
 writeOf o = record { reply = writeReply (o .answer); out = o .out }
 
-abbrev pub nameOf : build.Outcome → Output
+abbrev pub nameOf : build.NameOutcome → Output
 nameOf o = record { reply = nameReply (o .answer); out = o .out }
 
 -- reply and window
@@ -136,7 +136,7 @@ pub record Windowed : Type 0 where
   pub reply : Reply
   pub window : List ℕ
 
-abbrev pub windowOf : window.Outcome → Windowed
+abbrev pub windowOf : window.ChurnOutcome → Windowed
 windowOf o = record { reply = churnReply (o .answer); window = o .window }
 
 -- the reply of the answer that a log gets
@@ -151,5 +151,5 @@ pub record Watched : Type 0 where
   pub buffer : List ℕ
   pub out : List ℕ
 
-abbrev pub watchOf : watch.Outcome → Watched
+abbrev pub watchOf : watch.WatchOutcome → Watched
 watchOf o = record { reply = watchReply (o .answer); buffer = o .buffer; out = o .out }

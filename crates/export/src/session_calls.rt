@@ -5,7 +5,7 @@ ghost use Prim.Native.Nat.{ℕ};
 ghost use Rattle.types.specs.ConsumerTypes.{fromWire};
 ghost use Rattle.readers.specs.Places.{responsePlace};
 ghost use Rattle.session.specs.Calls.{matchOf};
-ghost use Rattle.values.specs.Places.{placeOf, PlaceIs};
+ghost use Rattle.values.specs.Places.{textPlace, PlaceIs};
 ghost use Rattle.session_reply.specs.Replies.{recordOf, answerReply};
 ghost use Rattle.session_reply.specs.Exported.{lentOpen, lentBegin, lentInvalidate, lentUpdate, lentResponse, lentDrain};
 ghost use Rattle.session_lent.specs.Check.{checkOf};
@@ -152,7 +152,7 @@ pub extern "C" fn cuddrewyn_matches_registration(
 
 // Where the last part of field n stands.
 pub fn last_part(message: &[u8], n: u64) -> Part
-    ensures { λ x. ⌜ PlaceIs (now (message .entry)) (placeOf n (now (message .entry))) (x .start) (x .length) ⌝ }
+    ensures { λ x. ⌜ PlaceIs (now (message .entry)) (textPlace n (now (message .entry))) (x .start) (x .length) ⌝ }
 {
     let p = values::last_part(message, n);
     Part {

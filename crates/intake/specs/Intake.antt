@@ -17,10 +17,10 @@ use Rattle.wire.specs.Fields.{fieldsOf}
 use Rattle.values.specs.declared.Cursor.{Cursor}
 use Rattle.values.specs.Values.{partsOf, mergedFields}
 use Rattle.values.specs.Places.{Inside, innerFrom}
-use Rattle.readers.specs.Messages.{WireSegment, segmentOf}
+use Rattle.readers.specs.Messages.{WireSegment, readSegment}
 use Rattle.keyed.specs.Keyed.{holds, insert}
 use Rattle.packed.specs.Assignment.{idOf, slotSize}
-use Rattle.packed.specs.Assignment.{sizeSegment, sizeSegments, encodeRanges, encodeSegments, segmentsOf, encodeAssignment, sizeAssignment}
+use Rattle.packed.specs.Assignment.{sizeSegment, sizeSegments, encodeRanges, encodeSegments, decodeSegments, encodeAssignment, sizeAssignment}
 use Rattle.repeats.specs.declared.Repeat.{Repeat}
 use Rattle.repeats.specs.declared.Repeat.the-variants as repeated
 use Rattle.content.specs.Content.{bucketsOf, segmentFault, assignedSegment, Content, refused, taken}
@@ -37,10 +37,10 @@ use Rattle.intake.specs.declared.Intake.the-variants as intake
 
 -- the segments of the message's assignments in field n, and those that a cursor has before it
 abbrev pub wires : ℕ → List ℕ → List WireSegment
-wires n m = map segmentOf (partsOf 2 (mergedFields n (fieldsOf m)))
+wires n m = map readSegment (partsOf 2 (mergedFields n (fieldsOf m)))
 
 abbrev pub wiresFrom : ℕ → List ℕ → Cursor → List WireSegment
-wiresFrom n m c = map segmentOf (innerFrom n 2 m c)
+wiresFrom n m c = map readSegment (innerFrom n 2 m c)
 
 abbrev pub afterTest : Option Refusal → ℕ → Tested → Tested
 afterTest (some x) i t = tested.Bad i x
@@ -82,8 +82,8 @@ pub record PutReady (b : List ℕ) (used at size : ℕ) (p : List ℕ) (scan : S
   pub scanned : ScanOf p scan
   pub good : scan .run .good ≡ true
   pub small : (scan .head .«hash_start» < 65536) × (scan .head .«hash_end» < 65536) × (scan .run .count < 65536)
-  pub size-is : size ≡ sizeSegment (assignedSegment (segmentOf p))
-  pub buckets : take (4 * length (segmentOf p .bucketRanges)) (drop (used + 14) b) ≡ encodeRanges (bucketsOf (segmentOf p))
+  pub size-is : size ≡ sizeSegment (assignedSegment (readSegment p))
+  pub buckets : take (4 * length (readSegment p .bucketRanges)) (drop (used + 14) b) ≡ encodeRanges (bucketsOf (readSegment p))
 
 -- bytes put in at a place, those from there to the used ones' end moved up
 abbrev pub insertedAt : (b : List ℕ) (used at : ℕ) (bytes : List ℕ) → List ℕ
@@ -93,13 +93,13 @@ insertedAt b used at bytes = put b at (bytes ++ take (used - at) (drop at b))
 abbrev pub AddedIs : (b : List ℕ) (m : ℕ) (parent : List ℕ) → WireSegment → (b′ : List ℕ) → Added → Type 0
 AddedIs b m parent w b′ (added.Refused x) =
     (segmentFault parent w ≡ some x)
-    ⊎ ((segmentFault parent w ≡ none) × (holds idOf (w .segmentId) (segmentsOf m (drop 10 b)) ≡ true) × (x ≡ DuplicateSegment (record { 0 = w .segmentId })))
+    ⊎ ((segmentFault parent w ≡ none) × (holds idOf (w .segmentId) (decodeSegments m (drop 10 b)) ≡ true) × (x ≡ DuplicateSegment (record { 0 = w .segmentId })))
 AddedIs b m parent w b′ added.Beyond =
-    (segmentFault parent w ≡ none) × (slotSize < 10 + sizeSegments (segmentsOf m (drop 10 b)) + sizeSegment (assignedSegment w))
+    (segmentFault parent w ≡ none) × (slotSize < 10 + sizeSegments (decodeSegments m (drop 10 b)) + sizeSegment (assignedSegment w))
 AddedIs b m parent w b′ (added.Size id size) =
-    (segmentFault parent w ≡ none) × (holds idOf (w .segmentId) (segmentsOf m (drop 10 b)) ≡ false)
+    (segmentFault parent w ≡ none) × (holds idOf (w .segmentId) (decodeSegments m (drop 10 b)) ≡ false)
     × (id ≡ w .segmentId) × (size ≡ sizeSegment (assignedSegment w))
-    × (b′ ≡ put b 10 (encodeSegments (insert idOf (assignedSegment w) (segmentsOf m (drop 10 b)))))
+    × (b′ ≡ put b 10 (encodeSegments (insert idOf (assignedSegment w) (decodeSegments m (drop 10 b)))))
 
 -- ---- the answer
 

@@ -22,7 +22,7 @@ use Rattle.packed_int.proofs.PutLaws.{put-before}
 use Rattle.packed.specs.Assignment.{AssignedSegment, encodeSegments, sizeSegments, num}
 use Rattle.packed.proofs.AssignmentLaws.{length-segmentsOf}
 use Rattle.packed.proofs.RoundLaws.{length-encodeSegments}
-use Rattle.delta.specs.Delta.{AssignmentDelta, encodeIds, encodeDelta, sizeDelta, deltaOf, isDelta}
+use Rattle.delta.specs.Delta.{AssignmentDelta, encodeIds, encodeDelta, sizeDelta, decodeDelta, isDelta}
 use Rattle.delta.specs.Join.{join}
 use Rattle.delta.proofs.RoundLaws.{length-idsOf, length-encodeIds, length-encodeDelta, Walkable, walkable}
 use Rattle.delta.proofs.DeltaLaws.{is-delta-proper, join-overlay}
@@ -44,7 +44,7 @@ module _ (d e o : List ℕ) where
   unfolding joinOutcome
   no-second h = simp (h, and-false)
 
-  pub both : isDelta d ≡ true → isDelta e ≡ true → joinedDelta (join (deltaOf d) (deltaOf e)) o ≡ joinOutcome d e o
+  pub both : isDelta d ≡ true → isDelta e ≡ true → joinedDelta (join (decodeDelta d) (decodeDelta e)) o ≡ joinOutcome d e o
   unfolding joinOutcome joinedDelta
   both h k = simp (h, k)
 
@@ -52,23 +52,23 @@ module _ (d e o : List ℕ) where
 
 pub rows-in : {d : List ℕ} {m n : ℕ} → Walkable d m n → rowsOf m n ≡ rowsIn d
 rows-in {d} {m} {n} v =
-    let a : m ≡ length (deltaOf d .lost) = sym (ap length (v .lost-is) ∙ length-idsOf m _) in
-    let b : n ≡ length (deltaOf d .gained) = sym (ap length (v .gained-is) ∙ length-segmentsOf n _) in
+    let a : m ≡ length (decodeDelta d .lost) = sym (ap length (v .lost-is) ∙ length-idsOf m _) in
+    let b : n ≡ length (decodeDelta d .gained) = sym (ap length (v .gained-is) ∙ length-segmentsOf n _) in
     cc
 
 pub record Walks (d : List ℕ) (a : Rows) : Type 0 where
   pub is-delta : isDelta d ≡ true
   pub head : 12 ≤ length d
   pub ids : IdRow d (a .lost)
-  pub lost-is : deltaOf d .lost ≡ idsIn d (a .lost)
+  pub lost-is : decodeDelta d .lost ≡ idsIn d (a .lost)
   pub records : RecordRow d (a .gained)
-  pub gained-is : deltaOf d .gained ≡ recordsIn d (a .gained)
+  pub gained-is : decodeDelta d .gained ≡ recordsIn d (a .gained)
 
 pub walks : (d : List ℕ) (a : Rows) → isDelta d ≡ true → a ≡ rowsIn d → Walks d a
-unfolding deltaOf
+unfolding decodeDelta
 walks d a h q =
-    let m : ℕ = length (deltaOf d .lost) in
-    let n : ℕ = length (deltaOf d .gained) in
+    let m : ℕ = length (decodeDelta d .lost) in
+    let n : ℕ = length (decodeDelta d .gained) in
     let v : Walkable d m n = walkable d m n (length-idsOf _ _) (length-segmentsOf _ _) h in
     subst (Walks d) (sym q)
     record {
@@ -84,7 +84,7 @@ walks d a h q =
 
 module _ {d e : List ℕ} {a b : Rows} (v : Walks d a) (w : Walks e b) (o : List ℕ) where
   abbrev J : AssignmentDelta
-  J = join (deltaOf d) (deltaOf e)
+  J = join (decodeDelta d) (decodeDelta e)
 
   abbrev L : List ℕ
   L = union (idsIn d (a .lost)) (idsIn e (b .lost))
@@ -96,10 +96,10 @@ module _ {d e : List ℕ} {a b : Rows} (v : Walks d a) (w : Walks e b) (o : List
   X = record { layoutEpoch = num 8 e; lost = L; gained = G }
 
   result : J ≡ X
-  unfolding join deltaOf union overlay
+  unfolding join decodeDelta union overlay
   result =
       let p = is-delta-proper d (v .is-delta) in
-      cc (join-overlay (deltaOf d) (deltaOf e) p, v .lost-is, v .gained-is, w .lost-is, w .gained-is)
+      cc (join-overlay (decodeDelta d) (decodeDelta e) p, v .lost-is, v .gained-is, w .lost-is, w .gained-is)
 
   long : length (encodeDelta X) ≡ 12 + 8 * length L + sizeSegments G
   unfolding sizeDelta

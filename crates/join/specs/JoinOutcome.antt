@@ -9,7 +9,7 @@ use lib.Dec.{leb}
 use Rattle.refusal.specs.declared.Refusal.the-variants.{MalformedInput, ResultTooLong}
 use Rattle.refusal.specs.Steps.{_>>_, refuseUnless}
 use Rattle.output.specs.Output.{Outcome, unwritten, written}
-use Rattle.delta.specs.Delta.{AssignmentDelta, encodeDelta, deltaOf, isDelta}
+use Rattle.delta.specs.Delta.{AssignmentDelta, encodeDelta, decodeDelta, isDelta}
 use Rattle.delta.specs.Join.{join}
 
 -- the most that a 16-bit count says
@@ -24,7 +24,7 @@ countable d = leb (length (d .lost)) maxCount && leb (length (d .gained)) maxCou
 unfoldable pub joinOutcome : (d e out : List ℕ) → Outcome
 joinOutcome d e out = do
   refuseUnless (unwritten out) (isDelta d && isDelta e) MalformedInput  -- 20
-  let j = join (deltaOf d) (deltaOf e)
+  let j = join (decodeDelta d) (decodeDelta e)
   refuseUnless (unwritten out) (countable j) ResultTooLong  -- 21
   written (encodeDelta j) out  -- 21
 

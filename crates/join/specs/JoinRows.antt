@@ -5,7 +5,7 @@
 use Prim.Native.Nat.{ℕ, _+_, _*_}
 use mathlib.Core.List.{List}
 use lib.ListN.{length}
-use Rattle.delta.specs.Delta.{deltaOf}
+use Rattle.delta.specs.Delta.{decodeDelta}
 use Rattle.join.specs.declared.Rows.{Rows}
 
 -- behind the head: so many lost ids, then so many gained records
@@ -13,4 +13,4 @@ abbrev pub rowsOf : (losses gains : ℕ) → Rows
 rowsOf losses gains = record { lost = record { at = 12; left = losses }; gained = record { at = 12 + 8 * losses; left = gains } }
 
 abbrev pub rowsIn : List ℕ → Rows
-rowsIn d = rowsOf (length (deltaOf d .lost)) (length (deltaOf d .gained))
+rowsIn d = rowsOf (length (decodeDelta d .lost)) (length (decodeDelta d .gained))

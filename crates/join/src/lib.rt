@@ -3,7 +3,7 @@ ghost use mathlib.Core.Path.{_≡_};
 ghost use mathlib.Core.Bool.{true};
 ghost use Prim.Native.Nat.{_+_, _*_, _^_, _<_};
 ghost use Rattle.output.specs.Output.{outcome};
-ghost use Rattle.delta.specs.Delta.{deltaOf, isDelta};
+ghost use Rattle.delta.specs.Delta.{decodeDelta, isDelta};
 ghost use Rattle.delta.specs.Join.{join};
 ghost use Rattle.join.specs.JoinRows.{rowsOf, rowsIn};
 ghost use Rattle.join.specs.JoinOutcome.{joinedDelta, joinOutcome};
@@ -42,7 +42,7 @@ fn write_join(d: &[u8], a: Rows, e: &[u8], b: Rows, out: &mut [u8]) -> WriteAnsw
     requires { ⌜ isDelta (now d) ≡ true ⌝ }
     requires { ⌜ isDelta (now e) ≡ true ⌝ }
     requires { ⌜ (a ≡ rowsIn (now d)) × (b ≡ rowsIn (now e)) ⌝ }
-    ensures { λ r. ⌜ outcome r (now (out .exit)) ≡ joinedDelta (join (deltaOf (now (d .entry))) (deltaOf (now (e .entry)))) (now (out .entry)) ⌝ }
+    ensures { λ r. ⌜ outcome r (now (out .exit)) ≡ joinedDelta (join (decodeDelta (now (d .entry))) (decodeDelta (now (e .entry)))) (now (out .entry)) ⌝ }
 {
     let d_lost = a.lost;
     let d_gained = a.gained;

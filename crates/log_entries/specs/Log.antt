@@ -9,7 +9,7 @@ use mathlib.Core.List.{List, [], _∷_}
 use lib.ListN.{length, drop}
 use lib.Dec.{eqb}
 use Rattle.packed_int.specs.Be.{beAt}
-use Rattle.delta.specs.Delta.{AssignmentDelta, deltaOf, sizeDelta, startsDelta}
+use Rattle.delta.specs.Delta.{AssignmentDelta, decodeDelta, sizeDelta, startsDelta}
 use Rattle.log_entries.specs.declared.Entry.{Entry}
 use Rattle.log_entries.specs.declared.Entry.the-variants.{Detach, Attach}
 
@@ -20,7 +20,7 @@ isNil l = eqb (length l) 0
 
 -- the bytes behind the delta at the front
 abbrev pub behind : List ℕ → List ℕ
-behind l = drop (sizeDelta (deltaOf l)) l
+behind l = drop (sizeDelta (decodeDelta l)) l
 
 -- the bytes are deltas, at most n
 unfoldable pub areAtMost : ℕ → List ℕ → Bool
@@ -29,7 +29,7 @@ areAtMost (suc n) l = isNil l || (startsDelta l && areAtMost n (behind l))
 
 unfoldable pub deltasAtMost : ℕ → List ℕ → List AssignmentDelta
 deltasAtMost zero l = []
-deltasAtMost (suc n) l = cond (isNil l) [] (deltaOf l ∷ deltasAtMost n (behind l))
+deltasAtMost (suc n) l = cond (isNil l) [] (decodeDelta l ∷ deltasAtMost n (behind l))
 
 -- there are never more of them than bytes
 unfoldable pub areDeltas : List ℕ → Bool
@@ -52,8 +52,8 @@ unfoldable pub entriesIn : ℕ → List ℕ → List Entry
 entriesIn zero l = []
 entriesIn (suc n) l = entryOf l ∷ entriesIn n (drop 9 l)
 
-unfoldable pub entriesOf : List ℕ → List Entry
-entriesOf log = entriesIn (length log / 9) log
+unfoldable pub logEntries : List ℕ → List Entry
+logEntries log = entriesIn (length log / 9) log
 
 -- no filling bit of n entries is set
 unfoldable pub clearIn : ℕ → List ℕ → Bool

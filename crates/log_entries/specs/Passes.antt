@@ -13,7 +13,7 @@ use Rattle.log_entries.specs.declared.Entry.{Entry}
 use Rattle.log_entries.specs.declared.Entry.the-variants.{Detach, Attach}
 use Rattle.log_entries.specs.declared.LogAnswer.{LogAnswer}
 use Rattle.log_entries.specs.declared.LogAnswer.the-variants.{Told, Refused}
-use Rattle.log_entries.specs.Log.{areDeltas, deltasOf, isLog, entriesOf}
+use Rattle.log_entries.specs.Log.{areDeltas, deltasOf, isLog, logEntries}
 
 -- es is a permutation of the list: its first stands somewhere in es, and the rest of es is a permutation of its rest
 unfoldable pub Permutes : (es xs : List Entry) → Type 0
@@ -46,5 +46,5 @@ Checked deltas log (Refused x) =
     ⊎ ((areDeltas deltas ≡ true) × (isLog log ≡ false) × (x ≡ InvalidLog))
 Checked deltas log (Told passed) =
     (areDeltas deltas ≡ true) × (isLog log ≡ true)
-    × (passed ≡ true → Passes (deltasOf deltas) (entriesOf log))
-    × (Passes (deltasOf deltas) (entriesOf log) → passed ≡ true)
+    × (passed ≡ true → Passes (deltasOf deltas) (logEntries log))
+    × (Passes (deltasOf deltas) (logEntries log) → passed ≡ true)

@@ -8,14 +8,14 @@ use mathlib.Core.List.{List, [], _∷_, _++_}
 use Rattle.ranges.specs.Overlap.{anyOverlap}
 use Rattle.packed_int.specs.Be.{beFrom, be, beAt, bytesOf}
 use Rattle.packed.specs.Assignment.{encodeRange, encodeRanges, encodeSegment, encodeSegments, sizeSegment, sizeSegments}
-use Rattle.packed.specs.Assignment.{num, rangeOf, rangesOf, segmentOf, segmentsOf, allInOrder, okBuckets, okSegment, okFrom}
+use Rattle.packed.specs.Assignment.{num, decodeRange, decodeRanges, decodeSegment, decodeSegments, allInOrder, okBuckets, okSegment, okFrom}
 use Rattle.packed.specs.Rows.{half}
-use Rattle.delta.specs.Delta.{AssignmentDelta, encodeIds, encodeDelta, sizeDelta, idsOf, deltaOf, idsFrom}
+use Rattle.delta.specs.Delta.{AssignmentDelta, encodeIds, encodeDelta, sizeDelta, decodeIds, decodeDelta, idsFrom}
 use Rattle.delta.specs.Delta.{okDelta, startsDelta}
 use Rattle.log_entries.specs.declared.Entry.{Entry}
 use Rattle.log_entries.specs.declared.Entry.the-variants.{Detach, Attach}
 use Rattle.log_entries.specs.Log.{areAtMost, deltasAtMost, areDeltas, deltasOf}
-use Rattle.log_entries.specs.Log.{entryWith, entryOf, entriesIn, entriesOf, clearIn, isLog}
+use Rattle.log_entries.specs.Log.{entryWith, entryOf, entriesIn, logEntries, clearIn, isLog}
 use Rattle.log_entries.specs.Passes.{Passes}
 
 -- segments 5 and 7 lost, 6 gained and 7 altered
@@ -47,9 +47,9 @@ pub record Rows : Type 0 where
   pub head-short : areDeltas (0 ∷ 0 ∷ 0 ∷ 0 ∷ 0 ∷ 0 ∷ 0 ∷ 4 ∷ 0 ∷ 0 ∷ 0 ∷ []) ≡ false
   pub byte-more : areDeltas (encodeDelta empty ++ (0 ∷ [])) ≡ false
   -- entries: segment 5 detached, then attached; the highest id
-  pub entries : entriesOf (0 ∷ 0 ∷ 0 ∷ 0 ∷ 0 ∷ 0 ∷ 0 ∷ 2 ∷ 0x80 ∷ 0x80 ∷ 0 ∷ 0 ∷ 0 ∷ 0 ∷ 0 ∷ 0 ∷ 2 ∷ 0x80 ∷ [])
+  pub entries : logEntries (0 ∷ 0 ∷ 0 ∷ 0 ∷ 0 ∷ 0 ∷ 0 ∷ 2 ∷ 0x80 ∷ 0x80 ∷ 0 ∷ 0 ∷ 0 ∷ 0 ∷ 0 ∷ 0 ∷ 2 ∷ 0x80 ∷ [])
       ≡ Detach 5 ∷ Attach 5 ∷ []
-  pub entries-highest : entriesOf highest ≡ Detach 0xffffffffffffffff ∷ Attach 0xffffffffffffffff ∷ []
+  pub entries-highest : logEntries highest ≡ Detach 0xffffffffffffffff ∷ Attach 0xffffffffffffffff ∷ []
   -- which bytes are a log
   pub log : isLog highest ≡ true
   pub no-entries : isLog [] ≡ true
@@ -58,7 +58,7 @@ pub record Rows : Type 0 where
   pub highest-filling : isLog (0 ∷ 0 ∷ 0 ∷ 0 ∷ 0 ∷ 0 ∷ 0 ∷ 2 ∷ 0x40 ∷ []) ≡ false
 
 pub rows : Rows
-unfolding anyOverlap be beFrom beAt bytesOf encodeRange encodeRanges encodeSegment encodeSegments sizeSegment sizeSegments num rangeOf rangesOf segmentOf segmentsOf allInOrder okBuckets okSegment okFrom encodeIds encodeDelta sizeDelta idsOf deltaOf idsFrom okDelta startsDelta areAtMost deltasAtMost areDeltas deltasOf entryWith entryOf entriesIn entriesOf clearIn isLog
+unfolding anyOverlap be beFrom beAt bytesOf encodeRange encodeRanges encodeSegment encodeSegments sizeSegment sizeSegments num decodeRange decodeRanges decodeSegment decodeSegments allInOrder okBuckets okSegment okFrom encodeIds encodeDelta sizeDelta decodeIds decodeDelta idsFrom okDelta startsDelta areAtMost deltasAtMost areDeltas deltasOf entryWith entryOf entriesIn logEntries clearIn isLog
 rows = record {
   deltas = refl;
   deltas-are = refl;

@@ -16,7 +16,7 @@ use lib.Dec.{leb}
 use borrow.Author.Tests.{leb-true, le-ltb}
 use Rattle.parts.specs.BoolLaws.{both-true}
 use Rattle.packed.specs.Assignment.{AssignedSegment, slotSize, sizeAssignment, okSegment, okFrom, okAssignment}
-use Rattle.packed.specs.Assignment.{assignmentOf, startsAssignment, isAssignment}
+use Rattle.packed.specs.Assignment.{decodeAssignment, startsAssignment, isAssignment}
 use Rattle.lookup.specs.Lookup.{longestKey, keyHash, takes, firstTaking, segmentForKey}
 use Rattle.lookup.specs.Lowest.{LowestId, Lowest}
 use Rattle.lookup.specs.declared.SegmentAnswer.{SegmentAnswer}
@@ -87,10 +87,10 @@ first-lowest hash low (x ∷ gs) e =
     first-by hash low x gs e (first-lowest hash (suc (x .segmentId)) gs (d .1)) (takes hash x) refl
 
 pub answer-lowest : (key l : List ℕ) → length key ≤ longestKey → isAssignment l ≡ true
-    → Lowest (keyHash key) (assignmentOf l .segments) (segmentForKey key l)
+    → Lowest (keyHash key) (decodeAssignment l .segments) (segmentForKey key l)
 unfolding segmentForKey isAssignment startsAssignment okAssignment
 answer-lowest key l h e =
     let a = both-true (startsAssignment l) _ e in
-    let b = both-true (leb (sizeAssignment (assignmentOf l)) (length l)) _ (a .0) in
-    let d = both-true (leb (sizeAssignment (assignmentOf l)) slotSize) _ (b .1) in
-    rw (le-ltb longestKey (length key) h, e) (first-lowest (keyHash key) 0 (assignmentOf l .segments) (d .1))
+    let b = both-true (leb (sizeAssignment (decodeAssignment l)) (length l)) _ (a .0) in
+    let d = both-true (leb (sizeAssignment (decodeAssignment l)) slotSize) _ (b .1) in
+    rw (le-ltb longestKey (length key) h, e) (first-lowest (keyHash key) 0 (decodeAssignment l .segments) (d .1))

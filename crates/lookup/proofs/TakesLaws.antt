@@ -15,7 +15,7 @@ use Rattle.types.specs.declared.KeyRange.{KeyRange}
 use Rattle.refusal.specs.declared.Refusal.the-variants.{KeyTooLong, MalformedInput}
 use Rattle.key_range.specs.Calls.{holds}
 use Rattle.packed_int.specs.Be.{beAt}
-use Rattle.packed.specs.Assignment.{rangeOf, rangesOf, segmentOf, segmentsOf, sizeSegment, isAssignment}
+use Rattle.packed.specs.Assignment.{decodeRange, decodeRanges, decodeSegment, decodeSegments, sizeSegment, isAssignment}
 use Rattle.packed.proofs.AssignmentLaws.{segment-at, segments-at, seen-size, Rest, rest-next}
 use Rattle.lookup.specs.Lookup.{longestKey, keyHash, anyHolds, inBuckets, takes, firstTaking, segmentForKey}
 use Rattle.lookup.specs.declared.SegmentAnswer.the-variants.{Segment, NoSegment, Refused}
@@ -34,32 +34,32 @@ module _ (hash : ℕ) (r : KeyRange) (rs : List KeyRange) where
 
 -- ---- a record at a place, by the range and the count that were read there
 
-pub counted-size : (s : List ℕ) (p n : ℕ) → n ≡ beAt 2 s (p + 12) → sizeSegment (segmentOf (drop p s)) ≡ 14 + 4 * n
-counted-size s p n en = seen-size s p (beAt 8 s p) (rangeOf (drop (p + 8) s)) n (record { id-is = refl; range-is = refl; count-is = en })
+pub counted-size : (s : List ℕ) (p n : ℕ) → n ≡ beAt 2 s (p + 12) → sizeSegment (decodeSegment (drop p s)) ≡ 14 + 4 * n
+counted-size s p n en = seen-size s p (beAt 8 s p) (decodeRange (drop (p + 8) s)) n (record { id-is = refl; range-is = refl; count-is = en })
 
-module _ (s : List ℕ) (p hash : ℕ) (r : KeyRange) (er : r ≡ rangeOf (drop (p + 8) s)) where
+module _ (s : List ℕ) (p hash : ℕ) (r : KeyRange) (er : r ≡ decodeRange (drop (p + 8) s)) where
   takes-at : (n : ℕ) → n ≡ beAt 2 s (p + 12)
-      → takes hash (segmentOf (drop p s)) ≡ (holds hash r && inBuckets hash (rangesOf n (drop (p + 14) s)))
+      → takes hash (decodeSegment (drop p s)) ≡ (holds hash r && inBuckets hash (decodeRanges n (drop (p + 14) s)))
   unfolding takes
   takes-at n en = ap (takes hash) (segment-at s p (beAt 8 s p) r n refl er en)
 
-  pub takes-outside : holds hash r ≡ false → false ≡ takes hash (segmentOf (drop p s))
+  pub takes-outside : holds hash r ≡ false → false ≡ takes hash (decodeSegment (drop p s))
   takes-outside e =
-      sym (takes-at (beAt 2 s (p + 12)) refl ∙ ap (λ (t : Bool). t && inBuckets hash (rangesOf (beAt 2 s (p + 12)) (drop (p + 14) s))) e)
+      sym (takes-at (beAt 2 s (p + 12)) refl ∙ ap (λ (t : Bool). t && inBuckets hash (decodeRanges (beAt 2 s (p + 12)) (drop (p + 14) s))) e)
 
   module _ (n : ℕ) (en : n ≡ beAt 2 s (p + 12)) (e : holds hash r ≡ true) where
-    inside : takes hash (segmentOf (drop p s)) ≡ inBuckets hash (rangesOf n (drop (p + 14) s))
-    inside = takes-at n en ∙ ap (λ (t : Bool). t && inBuckets hash (rangesOf n (drop (p + 14) s))) e
+    inside : takes hash (decodeSegment (drop p s)) ≡ inBuckets hash (decodeRanges n (drop (p + 14) s))
+    inside = takes-at n en ∙ ap (λ (t : Bool). t && inBuckets hash (decodeRanges n (drop (p + 14) s))) e
 
-    pub takes-whole : n ≡ 0 → true ≡ takes hash (segmentOf (drop p s))
-    unfolding inBuckets rangesOf
-    takes-whole z = sym (inside ∙ ap (λ (k : ℕ). inBuckets hash (rangesOf k (drop (p + 14) s))) z)
+    pub takes-whole : n ≡ 0 → true ≡ takes hash (decodeSegment (drop p s))
+    unfolding inBuckets decodeRanges
+    takes-whole z = sym (inside ∙ ap (λ (k : ℕ). inBuckets hash (decodeRanges k (drop (p + 14) s))) z)
 
-    pub takes-bucketed : (n ≡ 0 → ⊥) → anyHolds hash (rangesOf n (drop (p + 14) s)) ≡ takes hash (segmentOf (drop p s))
-    unfolding anyHolds inBuckets rangesOf
+    pub takes-bucketed : (n ≡ 0 → ⊥) → anyHolds hash (decodeRanges n (drop (p + 14) s)) ≡ takes hash (decodeSegment (drop p s))
+    unfolding anyHolds inBuckets decodeRanges
     takes-bucketed z = sym (inside ∙ some n (drop (p + 14) s) z)
       where
-        some : (k : ℕ) (l : List ℕ) → (k ≡ 0 → ⊥) → inBuckets hash (rangesOf k l) ≡ anyHolds hash (rangesOf k l)
+        some : (k : ℕ) (l : List ℕ) → (k ≡ 0 → ⊥) → inBuckets hash (decodeRanges k l) ≡ anyHolds hash (decodeRanges k l)
         some zero l z = absurd (z refl)
         some (suc k) l z = refl
 
@@ -67,23 +67,23 @@ module _ (s : List ℕ) (p hash : ℕ) (r : KeyRange) (er : r ≡ rangeOf (drop 
 
 pub record Turn (s : List ℕ) (m hash p left : ℕ) : Type 0 where
   pub rest : Rest s p left
-  pub decides : firstTaking hash (segmentsOf m (drop 10 s)) ≡ firstTaking hash (segmentsOf left (drop p s))
+  pub decides : firstTaking hash (decodeSegments m (drop 10 s)) ≡ firstTaking hash (decodeSegments left (drop p s))
 
 pub turn-start : (s : List ℕ) (m hash : ℕ) → Rest s 10 m → Turn s m hash 10 m
 turn-start s m hash r = record { rest = r; decides = refl }
 
 module _ (s : List ℕ) (m hash p left : ℕ) (v : Turn s m hash p left) where
-  pub turn-end : left ≤ 0 → NoSegment ≡ firstTaking hash (segmentsOf m (drop 10 s))
-  unfolding firstTaking segmentsOf
-  turn-end h = let e : left ≡ 0 = omega arith in sym (v .decides ∙ ap (λ (n : ℕ). firstTaking hash (segmentsOf n (drop p s))) e)
+  pub turn-end : left ≤ 0 → NoSegment ≡ firstTaking hash (decodeSegments m (drop 10 s))
+  unfolding firstTaking decodeSegments
+  turn-end h = let e : left ≡ 0 = omega arith in sym (v .decides ∙ ap (λ (n : ℕ). firstTaking hash (decodeSegments n (drop p s))) e)
 
-  module _ (h : 0 < left) (t : Bool) (et : t ≡ takes hash (segmentOf (drop p s))) where
-    pub turn-found : (id : ℕ) → t ≡ true → id ≡ segmentOf (drop p s) .segmentId
-        → Segment (record { 0 = id }) ≡ firstTaking hash (segmentsOf m (drop 10 s))
+  module _ (h : 0 < left) (t : Bool) (et : t ≡ takes hash (decodeSegment (drop p s))) where
+    pub turn-found : (id : ℕ) → t ≡ true → id ≡ decodeSegment (drop p s) .segmentId
+        → Segment (record { 0 = id }) ≡ firstTaking hash (decodeSegments m (drop 10 s))
     unfolding firstTaking
     turn-found id e f = sym (v .decides ∙ ap (firstTaking hash) (segments-at s p left _ h refl) ∙ rw (sym et ∙ e, f))
 
-    pub turn-next : (z : ℕ) → t ≡ false → z ≡ sizeSegment (segmentOf (drop p s)) → Turn s m hash (p + z) (left - 1)
+    pub turn-next : (z : ℕ) → t ≡ false → z ≡ sizeSegment (decodeSegment (drop p s)) → Turn s m hash (p + z) (left - 1)
     unfolding firstTaking
     turn-next z e ez =
         record {
@@ -103,6 +103,6 @@ module _ (key s : List ℕ) where
     unfolding segmentForKey
     for-malformed e = rw (le-ltb longestKey (length key) h, e)
 
-    pub for-whole : (n : ℕ) → Whole s n → firstTaking (keyHash key) (segmentsOf n (drop 10 s)) ≡ segmentForKey key s
+    pub for-whole : (n : ℕ) → Whole s n → firstTaking (keyHash key) (decodeSegments n (drop 10 s)) ≡ segmentForKey key s
     unfolding segmentForKey
     for-whole n w = rw (le-ltb longestKey (length key) h, w .is-assignment, w .segments-are)

@@ -9,7 +9,7 @@ use Rattle.types.specs.declared.KeyRange.{KeyRange}
 use Rattle.refusal.specs.declared.Refusal.the-variants.{KeyTooLong, MalformedInput}
 use Rattle.refusal.specs.Steps.{_>>_, refuseIf, refuseUnless}
 use Rattle.key_range.specs.Calls.{holds}
-use Rattle.packed.specs.Assignment.{AssignedSegment, assignmentOf, isAssignment}
+use Rattle.packed.specs.Assignment.{AssignedSegment, decodeAssignment, isAssignment}
 use Rattle.murmur3.specs.Murmur3.{murmur3}
 use Rattle.lookup.specs.declared.SegmentAnswer.{SegmentAnswer}
 use Rattle.lookup.specs.declared.SegmentAnswer.the-variants.{Segment, NoSegment, Refused}
@@ -46,4 +46,4 @@ unfoldable pub segmentForKey : (key assignment : List ℕ) → SegmentAnswer
 segmentForKey key assignment = do
   refuseIf Refused (ltb longestKey (length key)) KeyTooLong  -- 32
   refuseUnless Refused (isAssignment assignment) MalformedInput  -- 20
-  firstTaking (keyHash key) (assignmentOf assignment .segments)
+  firstTaking (keyHash key) (decodeAssignment assignment .segments)

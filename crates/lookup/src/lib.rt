@@ -2,7 +2,7 @@
 ghost use mathlib.Core.Path.{_≡_};
 ghost use Prim.Native.Nat.{_+_, _*_, _≤_};
 ghost use lib.ListN.{length, drop};
-ghost use Rattle.packed.specs.Assignment.{rangesOf, segmentOf, segmentsOf, sizeSegment};
+ghost use Rattle.packed.specs.Assignment.{decodeRanges, decodeSegment, decodeSegments, sizeSegment};
 ghost use Rattle.packed.proofs.AssignmentLaws.{Rest};
 ghost use Rattle.lookup.specs.Lookup.{anyHolds, takes, firstTaking, segmentForKey};
 use packed::Packed;
@@ -23,7 +23,7 @@ pub enum SegmentAnswer {
 // One of the n ranges from a place on has the hash.
 fn bucket_holds(s: &[u8], at: usize, n: usize, hash: u32) -> bool
     requires { ⌜ at + 4 * n ≤ length (now s) ⌝ }
-    ensures { λ r. ⌜ r ≡ anyHolds hash (rangesOf n (drop at (now (s .entry)))) ⌝ }
+    ensures { λ r. ⌜ r ≡ anyHolds hash (decodeRanges n (drop at (now (s .entry)))) ⌝ }
 {
     let mut p = at;
     let mut left = n;
@@ -39,8 +39,8 @@ fn bucket_holds(s: &[u8], at: usize, n: usize, hash: u32) -> bool
 
 // The segment whose record stands at the place p takes the hash: its range has it, and a bucket where there are buckets.
 fn segment_takes(s: &[u8], p: usize, hash: u32) -> bool
-    requires { ⌜ p + sizeSegment (segmentOf (drop p (now s))) ≤ length (now s) ⌝ }
-    ensures { λ r. ⌜ r ≡ takes hash (segmentOf (drop p (now (s .entry)))) ⌝ }
+    requires { ⌜ p + sizeSegment (decodeSegment (drop p (now s))) ≤ length (now s) ⌝ }
+    ensures { λ r. ⌜ r ≡ takes hash (decodeSegment (drop p (now (s .entry)))) ⌝ }
 {
     if !key_range::holds_hash(packed::range_at(s, p + 8), hash) {
         return false;
@@ -55,7 +55,7 @@ fn segment_takes(s: &[u8], p: usize, hash: u32) -> bool
 // The first of the m records from the place 10 on that takes the hash.
 fn first_taking(s: &[u8], m: usize, hash: u32) -> SegmentAnswer
     requires { ⌜ Rest (now s) 10 m ⌝ }
-    ensures { λ r. ⌜ r ≡ firstTaking hash (segmentsOf m (drop 10 (now (s .entry)))) ⌝ }
+    ensures { λ r. ⌜ r ≡ firstTaking hash (decodeSegments m (drop 10 (now (s .entry)))) ⌝ }
 {
     let mut p: usize = 10;
     let mut left = m;

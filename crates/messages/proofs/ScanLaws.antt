@@ -38,7 +38,7 @@ use Rattle.field_step.specs.declared.Head.the-variants as head
 use Rattle.field_step.specs.declared.Step.{Step}
 use Rattle.field_step.specs.declared.Step.the-variants as step
 use Rattle.field_step.specs.declared.FieldStep.{FieldStep}
-use Rattle.field_step.specs.Steps.{headOf, partStep, stepOf, refusedWith, fieldOf}
+use Rattle.field_step.specs.Steps.{fieldHead, partStep, valueStep, refusedWith, fieldOf}
 
 -- ---- the two looks at a message
 
@@ -107,7 +107,7 @@ module _ {depth : ℕ} {k : MessageKind} {s : List ℕ} {at : ℕ} (i : Scanned 
   HeadAt (head.Refused x) = Refused x ≡ faultWithin depth k s
   HeadAt (head.Field n w v) = Headed k s at n w v
 
-  head-says : at < length s → HeadAt (headOf k (keyOf (drop at s)))
+  head-says : at < length s → HeadAt (fieldHead k (keyOf (drop at s)))
   head-says h = go (keyOf (drop at s)) refl
     where
       low : 0 < length (drop at s)
@@ -120,7 +120,7 @@ module _ {depth : ℕ} {k : MessageKind} {s : List ℕ} {at : ℕ} (i : Scanned 
           record { f = f; found = e; value = refl; fits = g; moved = z .0; inside = omega (arith, length-drop at s) }
       by f w n e false g = sym (i .stands ∙ fault-type inner k (drop at s) low f w n e g)
 
-      go : (q : Key) → keyOf (drop at s) ≡ q → HeadAt (headOf k q)
+      go : (q : Key) → keyOf (drop at s) ≡ q → HeadAt (fieldHead k q)
       go (key.Found f w n) e = by f w n e (fitsWire (valueFor k f) w) refl
       go key.Broken e = sym (i .stands ∙ fault-bad-key inner k (drop at s) low e)
 
@@ -173,13 +173,13 @@ module _ {depth : ℕ} {k : MessageKind} {s : List ℕ} {at : ℕ} (i : Scanned 
       λ q d. inner-at m len g q (inner j (take len (drop m (drop (at + n) s)))) (rw (drop-drop m (at + n) s) (same m len j ∙ d)) e,
     )
 
-    step-says : StepAt n (stepOf v (bodyOf w (drop (at + n) s)) (drop (at + n) s))
+    step-says : StepAt n (valueStep v (bodyOf w (drop (at + n) s)) (drop (at + n) s))
     step-says = go (bodyOf w (drop (at + n) s)) refl
       where
         behind : (b : Body) → bodyOf w (drop (at + n) s) ≡ b → bodyOf w (drop n (drop at s)) ≡ b
         behind b e = rw (drop-drop n at s) e
 
-        go : (b : Body) → bodyOf w (drop (at + n) s) ≡ b → StepAt n (stepOf v b (drop (at + n) s))
+        go : (b : Body) → bodyOf w (drop (at + n) s) ≡ b → StepAt n (valueStep v b (drop (at + n) s))
         go (body.Number x m) e = (
           gone m,
           on-at m (body-size-after w s (at + n) (body.Number x m) e)
@@ -199,13 +199,13 @@ module _ {depth : ℕ} {k : MessageKind} {s : List ℕ} {at : ℕ} (i : Scanned 
 
   -- ---- the whole field
 
-  field-says : at < length s → FieldAt (fieldOf (headOf k (keyOf (drop at s))) (drop at s))
-  field-says h = go (headOf k (keyOf (drop at s))) (head-says h)
+  field-says : at < length s → FieldAt (fieldOf (fieldHead k (keyOf (drop at s))) (drop at s))
+  field-says h = go (fieldHead k (keyOf (drop at s))) (head-says h)
     where
       go : (q : Head) → HeadAt q → FieldAt (fieldOf q (drop at s))
       go (head.Refused x) e = record { inside = omega (arith, i .within); stands = e }
       go (head.Field n w v) g = record { inside = g .inside; stands = rw (drop-drop n at s) (step-says g) }
 
   pub field-at : at < length s → (q : FieldStep)
-      → q ≡ fieldOf (headOf k (keyOf (take (length s - at) (drop at s)))) (take (length s - at) (drop at s)) → FieldAt q
-  field-at h q e = subst FieldAt (sym (e ∙ ap (λ (l : List ℕ). fieldOf (headOf k (keyOf l)) l) (rest s at))) (field-says h)
+      → q ≡ fieldOf (fieldHead k (keyOf (take (length s - at) (drop at s)))) (take (length s - at) (drop at s)) → FieldAt q
+  field-at h q e = subst FieldAt (sym (e ∙ ap (λ (l : List ℕ). fieldOf (fieldHead k (keyOf l)) l) (rest s at))) (field-says h)

@@ -11,9 +11,9 @@ use mathlib.Core.List.{List, [], _∷_}
 use lib.ListN.{length, drop}
 use lib.Dec.{ltb, eqb, leb}
 use Rattle.keyed.specs.Keyed.{self, insertAll}
-use Rattle.packed.specs.Assignment.{AssignedSegment, idOf, sizeSegments, segmentsOf}
+use Rattle.packed.specs.Assignment.{AssignedSegment, idOf, sizeSegments, decodeSegments}
 use Rattle.packed.specs.Rest.{Rest}
-use Rattle.delta.specs.Delta.{idsOf, idsFrom}
+use Rattle.delta.specs.Delta.{decodeIds, idsFrom}
 use Rattle.delta.specs.Join.{strike}
 use Rattle.overlay.specs.declared.Row.{Row}
 use Rattle.overlay.specs.declared.Step.{Step}
@@ -29,10 +29,10 @@ overlay lost gained gs = insertAll idOf gained (strike lost gs)
 
 -- the records, or the ids, of a row in the bytes s
 abbrev pub recordsIn : List ℕ → Row → List AssignedSegment
-recordsIn s row = segmentsOf (row .left) (drop (row .at) s)
+recordsIn s row = decodeSegments (row .left) (drop (row .at) s)
 
 abbrev pub idsIn : List ℕ → Row → List ℕ
-idsIn s row = idsOf (row .left) (drop (row .at) s)
+idsIn s row = decodeIds (row .left) (drop (row .at) s)
 
 -- the row lies in the bytes s, and its ids rise
 abbrev pub RecordRow : List ℕ → Row → Type 0
@@ -57,9 +57,9 @@ stepAtEnd [] = End
 stepAtEnd (g ∷ gained) = Gain
 
 -- the next step, by the first of each row
-unfoldable pub stepOf : (lost : List ℕ) (gained gs : List AssignedSegment) → Step
-stepOf lost gained [] = stepAtEnd gained
-stepOf lost gained (g ∷ gs) = stepByGained (g .segmentId) gained lost
+unfoldable pub overlayStep : (lost : List ℕ) (gained gs : List AssignedSegment) → Step
+overlayStep lost gained [] = stepAtEnd gained
+overlayStep lost gained (g ∷ gs) = stepByGained (g .segmentId) gained lost
 
 -- how many records these are and how many bytes, if those are within the limit
 unfoldable pub fitOf : ℕ → List AssignedSegment → Fit

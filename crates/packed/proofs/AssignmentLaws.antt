@@ -25,7 +25,7 @@ use Rattle.types.specs.KeyRanges.{keyRange}
 use Rattle.ranges.specs.Overlap.{overlap, overlapsAny, anyOverlap, startsFrom, risingFrom}
 use Rattle.ranges.proofs.OverlapLaws.{rising-apart}
 use Rattle.packed_int.specs.Be.{beAt}
-use Rattle.packed.specs.Assignment.{AssignedSegment, slotSize, num, rangeOf, rangesOf, segmentOf, segmentsOf, assignmentOf}
+use Rattle.packed.specs.Assignment.{AssignedSegment, slotSize, num, decodeRange, decodeRanges, decodeSegment, decodeSegments, decodeAssignment}
 use Rattle.packed.specs.Assignment.{sizeSegment, sizeSegments, sizeAssignment, inOrder, allInOrder, okBuckets, okSegment, okFrom}
 use Rattle.packed.specs.Assignment.{okAssignment, startsAssignment}
 use Rattle.packed.specs.Answers.{recordGood, recordRead}
@@ -35,38 +35,38 @@ pub use Rattle.packed.specs.Rest.{Rest}
 -- ---- ranges at a place
 
 -- the range whose two numbers were read there
-pub range-at : (s : List ℕ) (at a b : ℕ) → a ≡ beAt 2 s at → b ≡ beAt 2 s (at + 2) → keyRange a b ≡ rangeOf (drop at s)
-unfolding rangeOf num beAt
+pub range-at : (s : List ℕ) (at a b : ℕ) → a ≡ beAt 2 s at → b ≡ beAt 2 s (at + 2) → keyRange a b ≡ decodeRange (drop at s)
+unfolding decodeRange num beAt
 range-at s at a b ea eb = cc (drop-drop 2 at s)
 
 -- n is not 0: the first, and the others
-ranges-step : (n : ℕ) (l : List ℕ) → 0 < n → rangesOf n l ≡ rangeOf l ∷ rangesOf (n - 1) (drop 4 l)
-unfolding rangesOf
+ranges-step : (n : ℕ) (l : List ℕ) → 0 < n → decodeRanges n l ≡ decodeRange l ∷ decodeRanges (n - 1) (drop 4 l)
+unfolding decodeRanges
 ranges-step zero l h = absurd (not-suc-le-zero h)
-ranges-step (suc n) l h = let e : n ≡ suc n - 1 = omega arith in ap (λ (k : ℕ). rangeOf l ∷ rangesOf k (drop 4 l)) e
+ranges-step (suc n) l h = let e : n ≡ suc n - 1 = omega arith in ap (λ (k : ℕ). decodeRange l ∷ decodeRanges k (drop 4 l)) e
 
-pub ranges-at : (s : List ℕ) (p n : ℕ) (r : KeyRange) → 0 < n → r ≡ rangeOf (drop p s)
-    → rangesOf n (drop p s) ≡ r ∷ rangesOf (n - 1) (drop (p + 4) s)
+pub ranges-at : (s : List ℕ) (p n : ℕ) (r : KeyRange) → 0 < n → r ≡ decodeRange (drop p s)
+    → decodeRanges n (drop p s) ≡ r ∷ decodeRanges (n - 1) (drop (p + 4) s)
 ranges-at s p n r h e =
     ranges-step n (drop p s) h
-    ∙ ap (λ (l : List ℕ). rangeOf (drop p s) ∷ rangesOf (n - 1) l) (drop-drop 4 p s)
-    ∙ ap (λ (x : KeyRange). x ∷ rangesOf (n - 1) (drop (p + 4) s)) (sym e)
+    ∙ ap (λ (l : List ℕ). decodeRange (drop p s) ∷ decodeRanges (n - 1) l) (drop-drop 4 p s)
+    ∙ ap (λ (x : KeyRange). x ∷ decodeRanges (n - 1) (drop (p + 4) s)) (sym e)
 
-pub ranges-none : (n : ℕ) (l : List ℕ) → n ≤ 0 → rangesOf n l ≡ []
-unfolding rangesOf
-ranges-none n l h = let e : n ≡ 0 = omega arith in ap (λ (k : ℕ). rangesOf k l) e
+pub ranges-none : (n : ℕ) (l : List ℕ) → n ≤ 0 → decodeRanges n l ≡ []
+unfolding decodeRanges
+ranges-none n l h = let e : n ≡ 0 = omega arith in ap (λ (k : ℕ). decodeRanges k l) e
 
-pub length-rangesOf : (n : ℕ) (l : List ℕ) → length (rangesOf n l) ≡ n
-unfolding rangesOf
+pub length-rangesOf : (n : ℕ) (l : List ℕ) → length (decodeRanges n l) ≡ n
+unfolding decodeRanges
 length-rangesOf zero l = refl
 length-rangesOf (suc n) l = ap suc (length-rangesOf n (drop 4 l))
 
 -- ---- records at a place
 
 -- the record whose id, range and count were read there
-pub segment-at : (s : List ℕ) (at i : ℕ) (r : KeyRange) (n : ℕ) → i ≡ beAt 8 s at → r ≡ rangeOf (drop (at + 8) s) → n ≡ beAt 2 s (at + 12)
-    → segmentOf (drop at s) ≡ record { segmentId = i; range = r; buckets = rangesOf n (drop (at + 14) s) }
-unfolding segmentOf num beAt
+pub segment-at : (s : List ℕ) (at i : ℕ) (r : KeyRange) (n : ℕ) → i ≡ beAt 8 s at → r ≡ decodeRange (drop (at + 8) s) → n ≡ beAt 2 s (at + 12)
+    → decodeSegment (drop at s) ≡ record { segmentId = i; range = r; buckets = decodeRanges n (drop (at + 14) s) }
+unfolding decodeSegment num beAt
 segment-at s at i r n ei er en = cc (drop-drop 8 at s, drop-drop 12 at s, drop-drop 14 at s)
 
 pub size-least : (g : AssignedSegment) → 14 ≤ sizeSegment g
@@ -74,28 +74,28 @@ unfolding sizeSegment
 size-least g = omega arith
 
 segments-step : (n : ℕ) (l : List ℕ) → 0 < n
-    → segmentsOf n l ≡ segmentOf l ∷ segmentsOf (n - 1) (drop (sizeSegment (segmentOf l)) l)
-unfolding segmentsOf
+    → decodeSegments n l ≡ decodeSegment l ∷ decodeSegments (n - 1) (drop (sizeSegment (decodeSegment l)) l)
+unfolding decodeSegments
 segments-step zero l h = absurd (not-suc-le-zero h)
 segments-step (suc n) l h =
-    let e : n ≡ suc n - 1 = omega arith in ap (λ (k : ℕ). segmentOf l ∷ segmentsOf k (drop (sizeSegment (segmentOf l)) l)) e
+    let e : n ≡ suc n - 1 = omega arith in ap (λ (k : ℕ). decodeSegment l ∷ decodeSegments k (drop (sizeSegment (decodeSegment l)) l)) e
 
-pub segments-at : (s : List ℕ) (p n z : ℕ) → 0 < n → z ≡ sizeSegment (segmentOf (drop p s))
-    → segmentsOf n (drop p s) ≡ segmentOf (drop p s) ∷ segmentsOf (n - 1) (drop (p + z) s)
+pub segments-at : (s : List ℕ) (p n z : ℕ) → 0 < n → z ≡ sizeSegment (decodeSegment (drop p s))
+    → decodeSegments n (drop p s) ≡ decodeSegment (drop p s) ∷ decodeSegments (n - 1) (drop (p + z) s)
 segments-at s p n z h e =
     segments-step n (drop p s) h
-    ∙ ap (λ (k : ℕ). segmentOf (drop p s) ∷ segmentsOf (n - 1) (drop k (drop p s))) (sym e)
-    ∙ ap (λ (l : List ℕ). segmentOf (drop p s) ∷ segmentsOf (n - 1) l) (drop-drop z p s)
+    ∙ ap (λ (k : ℕ). decodeSegment (drop p s) ∷ decodeSegments (n - 1) (drop k (drop p s))) (sym e)
+    ∙ ap (λ (l : List ℕ). decodeSegment (drop p s) ∷ decodeSegments (n - 1) l) (drop-drop z p s)
 
-pub length-segmentsOf : (n : ℕ) (l : List ℕ) → length (segmentsOf n l) ≡ n
-unfolding segmentsOf
+pub length-segmentsOf : (n : ℕ) (l : List ℕ) → length (decodeSegments n l) ≡ n
+unfolding decodeSegments
 length-segmentsOf zero l = refl
-length-segmentsOf (suc n) l = ap suc (length-segmentsOf n (drop (sizeSegment (segmentOf l)) l))
+length-segmentsOf (suc n) l = ap suc (length-segmentsOf n (drop (sizeSegment (decodeSegment l)) l))
 
 -- the segments of a packed assignment, by the count that was read
-pub first-segments : (s : List ℕ) (n : ℕ) → n ≡ beAt 2 s 8 → assignmentOf s .segments ≡ segmentsOf n (drop 10 s)
-unfolding assignmentOf num beAt
-first-segments s n e = ap (λ (k : ℕ). segmentsOf k (drop 10 s)) (sym e)
+pub first-segments : (s : List ℕ) (n : ℕ) → n ≡ beAt 2 s 8 → decodeAssignment s .segments ≡ decodeSegments n (drop 10 s)
+unfolding decodeAssignment num beAt
+first-segments s n e = ap (λ (k : ℕ). decodeSegments k (drop 10 s)) (sym e)
 
 -- ---- buckets
 
@@ -174,68 +174,68 @@ leb-min a m n x = go (leb a m) (leb a n) refl refl
 
 -- a packed assignment ends by the end of the bytes and of the slot
 pub starts : (s : List ℕ)
-    → startsAssignment s ≡ (leb (sizeAssignment (assignmentOf s)) (min (length s) slotSize) && okFrom 0 (assignmentOf s .segments))
+    → startsAssignment s ≡ (leb (sizeAssignment (decodeAssignment s)) (min (length s) slotSize) && okFrom 0 (decodeAssignment s .segments))
 unfolding startsAssignment okAssignment
-starts s = leb-min (sizeAssignment (assignmentOf s)) (length s) slotSize (okFrom 0 (assignmentOf s .segments))
+starts s = leb-min (sizeAssignment (decodeAssignment s)) (length s) slotSize (okFrom 0 (decodeAssignment s .segments))
 
 -- ---- what `record_at` reads at a place, and answers
 
 pub record Seen (s : List ℕ) (at i : ℕ) (r : KeyRange) (n : ℕ) : Type 0 where
   pub id-is : i ≡ beAt 8 s at
-  pub range-is : r ≡ rangeOf (drop (at + 8) s)
+  pub range-is : r ≡ decodeRange (drop (at + 8) s)
   pub count-is : n ≡ beAt 2 s (at + 12)
 
-pub record-short : (s : List ℕ) (at end : ℕ) → end < at + sizeSegment (segmentOf (drop at s)) → Malformed ≡ recordRead s at end
+pub record-short : (s : List ℕ) (at end : ℕ) → end < at + sizeSegment (decodeSegment (drop at s)) → Malformed ≡ recordRead s at end
 unfolding recordRead recordGood
 record-short s at end h = simp (lt-leb _ _ h)
 
 module _ (s : List ℕ) (at i : ℕ) (r : KeyRange) (n : ℕ) (x : Seen s at i r n) where
-  seen-segment : segmentOf (drop at s) ≡ record { segmentId = i; range = r; buckets = rangesOf n (drop (at + 14) s) }
+  seen-segment : decodeSegment (drop at s) ≡ record { segmentId = i; range = r; buckets = decodeRanges n (drop (at + 14) s) }
   seen-segment = segment-at s at i r n (x .id-is) (x .range-is) (x .count-is)
 
-  pub seen-size : sizeSegment (segmentOf (drop at s)) ≡ 14 + 4 * n
+  pub seen-size : sizeSegment (decodeSegment (drop at s)) ≡ 14 + 4 * n
   unfolding sizeSegment
   seen-size = ap sizeSegment seen-segment ∙ ap (λ (k : ℕ). 14 + 4 * k) (length-rangesOf n (drop (at + 14) s))
 
-  seen-ok : okSegment (segmentOf (drop at s)) ≡ (inOrder r && okBuckets (rangesOf n (drop (at + 14) s)))
+  seen-ok : okSegment (decodeSegment (drop at s)) ≡ (inOrder r && okBuckets (decodeRanges n (drop (at + 14) s)))
   unfolding okSegment
   seen-ok = ap okSegment seen-segment
 
   module _ (end : ℕ) where
-    record-bad : okSegment (segmentOf (drop at s)) ≡ false → Malformed ≡ recordRead s at end
+    record-bad : okSegment (decodeSegment (drop at s)) ≡ false → Malformed ≡ recordRead s at end
     unfolding recordRead recordGood
     record-bad e = simp (e, and-false)
 
     pub record-reversed : r .end < r .start → Malformed ≡ recordRead s at end
     record-reversed h = record-bad (seen-ok ∙ simp (lt-leb (r .start) (r .end) h))
 
-    module _ (h : r .start ≤ r .end) (t : Bool) (e : t ≡ okBuckets (rangesOf n (drop (at + 14) s))) where
+    module _ (h : r .start ≤ r .end) (t : Bool) (e : t ≡ okBuckets (decodeRanges n (drop (at + 14) s))) where
       pub record-clash : t ≡ false → Malformed ≡ recordRead s at end
       record-clash f = record-bad (seen-ok ∙ simp (le-leb (r .start) (r .end) h, ← e, f))
 
       pub record-good : t ≡ true → at + 14 + 4 * n ≤ end → Record i (14 + 4 * n) ≡ recordRead s at end
       unfolding recordRead recordGood
       record-good f k =
-          let o : okSegment (segmentOf (drop at s)) ≡ true = seen-ok ∙ simp (le-leb (r .start) (r .end) h, ← e, f) in
+          let o : okSegment (decodeSegment (drop at s)) ≡ true = seen-ok ∙ simp (le-leb (r .start) (r .end) h, ← e, f) in
           let q : leb (at + (14 + 4 * n)) end ≡ true = le-leb (at + (14 + 4 * n)) end (omega arith) in
-          let d : segmentOf (drop at s) .segmentId ≡ i = ap (λ (g : AssignedSegment). g .segmentId) seen-segment in
+          let d : decodeSegment (drop at s) .segmentId ≡ i = ap (λ (g : AssignedSegment). g .segmentId) seen-segment in
           simp (q, o, seen-size, d)
 
     -- without buckets
     pub record-bare : r .start ≤ r .end → n ≡ 0 → at + 14 ≤ end → Record i 14 ≡ recordRead s at end
-    unfolding okBuckets rangesOf allInOrder anyOverlap
+    unfolding okBuckets decodeRanges allInOrder anyOverlap
     record-bare h z k =
-        let e : true ≡ okBuckets (rangesOf n (drop (at + 14) s)) = rw z in
+        let e : true ≡ okBuckets (decodeRanges n (drop (at + 14) s)) = rw z in
         let w : 14 ≡ 14 + 4 * n = omega (arith, z) in
         ap (Record i) w ∙ record-good h true e refl (omega (arith, z, k))
 
 -- ---- what the answer of `record_at` says
 
 pub record Got (s : List ℕ) (p end i z : ℕ) : Type 0 where
-  pub id-is : i ≡ segmentOf (drop p s) .segmentId
-  pub size-is : z ≡ sizeSegment (segmentOf (drop p s))
-  pub fits : p + sizeSegment (segmentOf (drop p s)) ≤ end
-  pub ok : okSegment (segmentOf (drop p s)) ≡ true
+  pub id-is : i ≡ decodeSegment (drop p s) .segmentId
+  pub size-is : z ≡ sizeSegment (decodeSegment (drop p s))
+  pub fits : p + sizeSegment (decodeSegment (drop p s)) ≤ end
+  pub ok : okSegment (decodeSegment (drop p s)) ≡ true
 
 pub got : (s : List ℕ) (p end i z : ℕ) → Record i z ≡ recordRead s p end → Got s p end i z
 unfolding recordRead recordGood
@@ -243,7 +243,7 @@ got s p end i z e = go (recordGood s p end) refl
   where
     go : (t : Bool) → recordGood s p end ≡ t → Got s p end i z
     go true h =
-        let f : Record i z ≡ Record (segmentOf (drop p s) .segmentId) (sizeSegment (segmentOf (drop p s))) = e ∙ rw h in
+        let f : Record i z ≡ Record (decodeSegment (drop p s) .segmentId) (sizeSegment (decodeSegment (drop p s))) = e ∙ rw h in
         let b = both-true _ _ h in
         record { id-is = cc; size-is = cc; fits = leb-true _ _ (b .0); ok = b .1 }
     go false h =
@@ -257,7 +257,7 @@ not-good s p end e = go (recordGood s p end) refl
   where
     go : (t : Bool) → recordGood s p end ≡ t → recordGood s p end ≡ false
     go true h =
-        let f : Malformed ≡ Record (segmentOf (drop p s) .segmentId) (sizeSegment (segmentOf (drop p s))) = e ∙ rw h in
+        let f : Malformed ≡ Record (decodeSegment (drop p s) .segmentId) (sizeSegment (decodeSegment (drop p s))) = e ∙ rw h in
         let z : _≡_ {A = ℕ} 0 1 = cc in
         absurd (omega arith)
     go false h = h
@@ -266,34 +266,34 @@ not-good s p end e = go (recordGood s p end) refl
 
 -- n segments from the place p on end by the place end, are good, and their ids rise from low on
 abbrev pub rest : List ℕ → ℕ → ℕ → ℕ → ℕ → Bool
-rest s end p n low = leb (p + sizeSegments (segmentsOf n (drop p s))) end && okFrom low (segmentsOf n (drop p s))
+rest s end p n low = leb (p + sizeSegments (decodeSegments n (drop p s))) end && okFrom low (decodeSegments n (drop p s))
 
-pub size-turn : (s : List ℕ) (p n z : ℕ) → 0 < n → z ≡ sizeSegment (segmentOf (drop p s))
-    → p + sizeSegments (segmentsOf n (drop p s)) ≡ p + z + sizeSegments (segmentsOf (n - 1) (drop (p + z) s))
+pub size-turn : (s : List ℕ) (p n z : ℕ) → 0 < n → z ≡ sizeSegment (decodeSegment (drop p s))
+    → p + sizeSegments (decodeSegments n (drop p s)) ≡ p + z + sizeSegments (decodeSegments (n - 1) (drop (p + z) s))
 unfolding sizeSegments
 size-turn s p n z h e = ap (λ (l : List AssignedSegment). p + sizeSegments l) (segments-at s p n z h e) ∙ omega arith
 
 module _ (s : List ℕ) (p n low end : ℕ) (h : 0 < n) where
-  ok-turn : (z : ℕ) → z ≡ sizeSegment (segmentOf (drop p s))
-      → okFrom low (segmentsOf n (drop p s))
-      ≡ (okSegment (segmentOf (drop p s)) && (leb low (segmentOf (drop p s) .segmentId)
-      && okFrom (suc (segmentOf (drop p s) .segmentId)) (segmentsOf (n - 1) (drop (p + z) s))))
+  ok-turn : (z : ℕ) → z ≡ sizeSegment (decodeSegment (drop p s))
+      → okFrom low (decodeSegments n (drop p s))
+      ≡ (okSegment (decodeSegment (drop p s)) && (leb low (decodeSegment (drop p s) .segmentId)
+      && okFrom (suc (decodeSegment (drop p s) .segmentId)) (decodeSegments (n - 1) (drop (p + z) s))))
   unfolding okFrom
   ok-turn z e = ap (okFrom low) (segments-at s p n z h e)
 
   -- no good record stands there
   pub cut : Malformed ≡ recordRead s p end → rest s end p n low ≡ false
   unfolding recordGood
-  cut e = go (okSegment (segmentOf (drop p s))) refl
+  cut e = go (okSegment (decodeSegment (drop p s))) refl
     where
-      go : (t : Bool) → okSegment (segmentOf (drop p s)) ≡ t → rest s end p n low ≡ false
-      go false f = simp (ok-turn (sizeSegment (segmentOf (drop p s))) refl, f, and-false)
+      go : (t : Bool) → okSegment (decodeSegment (drop p s)) ≡ t → rest s end p n low ≡ false
+      go false f = simp (ok-turn (sizeSegment (decodeSegment (drop p s))) refl, f, and-false)
       go true f =
-          let k : (leb (p + sizeSegment (segmentOf (drop p s))) end && okSegment (segmentOf (drop p s))) ≡ false = not-good s p end e in
-          let m : leb (p + sizeSegment (segmentOf (drop p s))) end ≡ false = sym (and-true _) ∙ simp f at k in
-          let q : end < p + sizeSegment (segmentOf (drop p s)) = leb-false (p + sizeSegment (segmentOf (drop p s))) end m in
-          simp (lt-leb (p + sizeSegments (segmentsOf n (drop p s))) end
-          (rw (size-turn s p n (sizeSegment (segmentOf (drop p s))) h refl) (omega arith)))
+          let k : (leb (p + sizeSegment (decodeSegment (drop p s))) end && okSegment (decodeSegment (drop p s))) ≡ false = not-good s p end e in
+          let m : leb (p + sizeSegment (decodeSegment (drop p s))) end ≡ false = sym (and-true _) ∙ simp f at k in
+          let q : end < p + sizeSegment (decodeSegment (drop p s)) = leb-false (p + sizeSegment (decodeSegment (drop p s))) end m in
+          simp (lt-leb (p + sizeSegments (decodeSegments n (drop p s))) end
+          (rw (size-turn s p n (sizeSegment (decodeSegment (drop p s))) h refl) (omega arith)))
 
   module _ (i z : ℕ) (g : Got s p end i z) where
     -- its id does not rise
@@ -308,24 +308,24 @@ module _ (s : List ℕ) (p n low end : ℕ) (h : 0 < n) where
 pub rest-start : (s : List ℕ) (m : ℕ) → startsAssignment s ≡ true → m ≡ beAt 2 s 8 → Rest s 10 m
 unfolding startsAssignment okAssignment sizeAssignment
 rest-start s m h e =
-    let a = both-true (leb (sizeAssignment (assignmentOf s)) (length s)) _ h in
-    let b = both-true (leb (sizeAssignment (assignmentOf s)) slotSize) _ (a .1) in
-    let f : assignmentOf s .segments ≡ segmentsOf m (drop 10 s) = first-segments s m e in
+    let a = both-true (leb (sizeAssignment (decodeAssignment s)) (length s)) _ h in
+    let b = both-true (leb (sizeAssignment (decodeAssignment s)) slotSize) _ (a .1) in
+    let f : decodeAssignment s .segments ≡ decodeSegments m (drop 10 s) = first-segments s m e in
     record {
       fits = subst (λ (l : List AssignedSegment). 10 + sizeSegments l ≤ length s) f (leb-true _ _ (a .0));
       ok = subst (λ (l : List AssignedSegment). okFrom 0 l ≡ true) f (b .1);
     }
 
-module _ (s : List ℕ) (p m z : ℕ) (h : 0 < m) (e : z ≡ sizeSegment (segmentOf (drop p s))) (r : Rest s p m) where
+module _ (s : List ℕ) (p m z : ℕ) (h : 0 < m) (e : z ≡ sizeSegment (decodeSegment (drop p s))) (r : Rest s p m) where
   pub rest-head : p + z ≤ length s
   rest-head = omega (arith, size-turn s p m z h e, r .fits)
 
   pub rest-next : Rest s (p + z) (m - 1)
   rest-next =
-      let gs : List AssignedSegment = segmentsOf (m - 1) (drop (p + z) s) in
-      let o : okFrom 0 (segmentOf (drop p s) ∷ gs) ≡ true =
+      let gs : List AssignedSegment = decodeSegments (m - 1) (drop (p + z) s) in
+      let o : okFrom 0 (decodeSegment (drop p s) ∷ gs) ≡ true =
       subst (λ (l : List AssignedSegment). okFrom 0 l ≡ true) (segments-at s p m z h e) (r .ok) in
       record {
         fits = omega (arith, size-turn s p m z h e, r .fits);
-        ok = ok-weaken (suc (segmentOf (drop p s) .segmentId)) gs (ok-tail 0 (segmentOf (drop p s)) gs o);
+        ok = ok-weaken (suc (decodeSegment (drop p s) .segmentId)) gs (ok-tail 0 (decodeSegment (drop p s)) gs o);
       }

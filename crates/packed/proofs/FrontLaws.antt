@@ -14,7 +14,7 @@ use lib.ListN.{length, drop}
 use lib.Dec.{leb}
 use borrow.Author.Tests.{le-leb, lt-leb, eq-eqb, ne-eqb}
 use Rattle.packed_int.specs.Be.{beAt}
-use Rattle.packed.specs.Assignment.{AssignedSegment, slotSize, segmentsOf, assignmentOf, sizeSegments, sizeAssignment, okFrom}
+use Rattle.packed.specs.Assignment.{AssignedSegment, slotSize, decodeSegments, decodeAssignment, sizeSegments, sizeAssignment, okFrom}
 use Rattle.packed.specs.Assignment.{startsAssignment, isAssignment}
 use Rattle.packed.specs.Answers.{frontRead, wholeRead}
 use Rattle.packed.specs.declared.Packed.the-variants.{Assignment, Malformed}
@@ -29,7 +29,7 @@ front-refused s e = simp e
 pub front-short : (s : List ℕ) → min (length s) slotSize < 10 → Malformed ≡ frontRead s
 unfolding sizeAssignment
 front-short s h =
-    front-refused s (starts s ∙ simp (lt-leb (10 + sizeSegments (assignmentOf s .segments)) (min (length s) slotSize) (omega arith)))
+    front-refused s (starts s ∙ simp (lt-leb (10 + sizeSegments (decodeAssignment s .segments)) (min (length s) slotSize) (omega arith)))
 
 -- the least id that may follow: any at first, then those above the one before
 abbrev pub lowest : Bool → ℕ → ℕ
@@ -40,14 +40,14 @@ lowest false prev = suc prev
 pub record Turn (s : List ℕ) (end count p left : ℕ) (first : Bool) (prev : ℕ) : Type 0 where
   pub bound : p ≤ end
   pub in-s : end ≤ length s
-  pub counted : length (assignmentOf s .segments) ≡ count
-  pub sized : sizeAssignment (assignmentOf s) ≡ p + sizeSegments (segmentsOf left (drop p s))
+  pub counted : length (decodeAssignment s .segments) ≡ count
+  pub sized : sizeAssignment (decodeAssignment s) ≡ p + sizeSegments (decodeSegments left (drop p s))
   pub decides : startsAssignment s ≡ rest s end p left (lowest first prev)
 
 pub turn-start : (s : List ℕ) (end n : ℕ) → end ≡ min (length s) slotSize → 10 ≤ end → n ≡ beAt 2 s 8 → Turn s end n 10 n true 0
 unfolding sizeAssignment
 turn-start s end n e h k =
-    let f : assignmentOf s .segments ≡ segmentsOf n (drop 10 s) = first-segments s n k in
+    let f : decodeAssignment s .segments ≡ decodeSegments n (drop 10 s) = first-segments s n k in
     record {
       bound = h;
       in-s = omega arith;
@@ -55,7 +55,7 @@ turn-start s end n e h k =
       sized = ap (λ (l : List AssignedSegment). 10 + sizeSegments l) f;
       decides =
           starts s
-          ∙ ap (λ (m : ℕ). leb (sizeAssignment (assignmentOf s)) m && okFrom 0 (assignmentOf s .segments)) (sym e)
+          ∙ ap (λ (m : ℕ). leb (sizeAssignment (decodeAssignment s)) m && okFrom 0 (decodeAssignment s .segments)) (sym e)
           ∙ ap (λ (l : List AssignedSegment). leb (10 + sizeSegments l) end && okFrom 0 l) f;
     }
 
@@ -71,10 +71,10 @@ module _ (s : List ℕ) (end n p left : ℕ) (first : Bool) (prev : ℕ) (I : Tu
       }
 
   pub turn-end : left ≡ 0 → Assignment p n ≡ frontRead s
-  unfolding frontRead segmentsOf sizeSegments okFrom
+  unfolding frontRead decodeSegments sizeSegments okFrom
   turn-end e =
-      let a : sizeAssignment (assignmentOf s) ≡ p =
-      I .sized ∙ ap (λ (m : ℕ). p + sizeSegments (segmentsOf m (drop p s))) e ∙ add-zero p in
+      let a : sizeAssignment (decodeAssignment s) ≡ p =
+      I .sized ∙ ap (λ (m : ℕ). p + sizeSegments (decodeSegments m (drop p s))) e ∙ add-zero p in
       let b : startsAssignment s ≡ true =
       I .decides ∙ ap (λ (m : ℕ). rest s end p m (lowest first prev)) e ∙ simp (add-zero, le-leb p end (I .bound)) in
       simp (b, a, I .counted)
@@ -84,8 +84,8 @@ module _ (s : List ℕ) (end n p left : ℕ) (first : Bool) (prev : ℕ) (I : Tu
 -- what an answer of `read_front` says
 record Front (s : List ℕ) (z n : ℕ) : Type 0 where
   starts-is : startsAssignment s ≡ true
-  size-is : sizeAssignment (assignmentOf s) ≡ z
-  count-is : length (assignmentOf s .segments) ≡ n
+  size-is : sizeAssignment (decodeAssignment s) ≡ z
+  count-is : length (decodeAssignment s .segments) ≡ n
 
 front : (s : List ℕ) (z n : ℕ) → Assignment z n ≡ frontRead s → Front s z n
 unfolding frontRead
@@ -93,7 +93,7 @@ front s z n e = go (startsAssignment s) refl
   where
     go : (t : Bool) → startsAssignment s ≡ t → Front s z n
     go true h =
-        let f : Assignment z n ≡ Assignment (sizeAssignment (assignmentOf s)) (length (assignmentOf s .segments)) = e ∙ rw h in
+        let f : Assignment z n ≡ Assignment (sizeAssignment (decodeAssignment s)) (length (decodeAssignment s .segments)) = e ∙ rw h in
         record { starts-is = h; size-is = cc; count-is = cc }
     go false h =
         let f : Assignment z n ≡ Malformed = e ∙ rw h in
@@ -116,7 +116,7 @@ whole-refused s e = go (startsAssignment s) refl
   where
     go : (t : Bool) → startsAssignment s ≡ t → Malformed ≡ wholeRead s
     go true h =
-        let f : Malformed ≡ Assignment (sizeAssignment (assignmentOf s)) (length (assignmentOf s .segments)) = e ∙ rw h in
+        let f : Malformed ≡ Assignment (sizeAssignment (decodeAssignment s)) (length (decodeAssignment s .segments)) = e ∙ rw h in
         let z : _≡_ {A = ℕ} 0 1 = cc in
         absurd (omega arith)
     go false h = simp h

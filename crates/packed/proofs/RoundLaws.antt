@@ -19,7 +19,7 @@ use Rattle.types.specs.KeyRanges.{keyRange}
 use Rattle.parts.proofs.PartLaws.{Bytes, Bytes-take, Bytes-drop}
 use Rattle.packed_int.specs.Be.{be, bytesOf}
 use Rattle.packed_int.proofs.BeLaws.{length-bytesOf, be-below, be-front, drop-front, bytesOf-front}
-use Rattle.packed.specs.Assignment.{AssignedSegment, ConsumerAssignment, num, rangeOf, rangesOf, segmentOf, segmentsOf, assignmentOf}
+use Rattle.packed.specs.Assignment.{AssignedSegment, ConsumerAssignment, num, decodeRange, decodeRanges, decodeSegment, decodeSegments, decodeAssignment}
 use Rattle.packed.specs.Assignment.{encodeRange, encodeRanges, encodeSegment, encodeSegments, encodeAssignment}
 use Rattle.packed.specs.Assignment.{sizeSegment, sizeSegments, sizeAssignment, okAssignment, startsAssignment, isAssignment}
 use Rattle.packed.proofs.AssignmentLaws.{length-rangesOf, length-segmentsOf}
@@ -57,25 +57,25 @@ length-encodeAssignment a = simp (length-append, length-bytesOf, length-encodeSe
 
 -- ---- encoded, then read
 
-read-range : (r : KeyRange) (l : List ℕ) → FitRange r → rangeOf (encodeRange r ++ l) ≡ r
-unfolding rangeOf num encodeRange
+read-range : (r : KeyRange) (l : List ℕ) → FitRange r → decodeRange (encodeRange r ++ l) ≡ r
+unfolding decodeRange num encodeRange
 read-range r l f =
     let a : ℕ = r .start in
     let b : ℕ = r .end in
     let w : List ℕ = bytesOf 2 a ++ (bytesOf 2 b ++ l) in
     let e : keyRange (be (take 2 w)) (be (take 2 (drop 2 w))) ≡ keyRange a b =
     cc (be-front 2 a (bytesOf 2 b ++ l) (f .start), drop-front 2 a (bytesOf 2 b ++ l), be-front 2 b l (f .end)) in
-    ap rangeOf (append-assoc (bytesOf 2 a) (bytesOf 2 b) l) ∙ e
+    ap decodeRange (append-assoc (bytesOf 2 a) (bytesOf 2 b) l) ∙ e
 
-pub read-ranges : (rs : List KeyRange) (l : List ℕ) → FitRanges rs → rangesOf (length rs) (encodeRanges rs ++ l) ≡ rs
-unfolding rangesOf encodeRanges
+pub read-ranges : (rs : List KeyRange) (l : List ℕ) → FitRanges rs → decodeRanges (length rs) (encodeRanges rs ++ l) ≡ rs
+unfolding decodeRanges encodeRanges
 read-ranges [] l f = refl
 read-ranges (r ∷ rs) l f =
     let e : List ℕ = encodeRange r in
     let t : List ℕ = encodeRanges rs ++ l in
-    ap (λ (m : List ℕ). rangeOf m ∷ rangesOf (length rs) (drop 4 m)) (append-assoc e (encodeRanges rs) l)
-    ∙ ap (λ (q : KeyRange). q ∷ rangesOf (length rs) (drop 4 (e ++ t))) (read-range r t (f .0))
-    ∙ ap (λ (m : List ℕ). r ∷ rangesOf (length rs) m) (drop-at e t 4 (length-encodeRange r))
+    ap (λ (m : List ℕ). decodeRange m ∷ decodeRanges (length rs) (drop 4 m)) (append-assoc e (encodeRanges rs) l)
+    ∙ ap (λ (q : KeyRange). q ∷ decodeRanges (length rs) (drop 4 (e ++ t))) (read-range r t (f .0))
+    ∙ ap (λ (m : List ℕ). r ∷ decodeRanges (length rs) m) (drop-at e t 4 (length-encodeRange r))
     ∙ ap (λ (q : List KeyRange). r ∷ q) (read-ranges rs l (f .1))
 
 -- the places of a record's parts
@@ -92,8 +92,8 @@ module _ (i : ℕ) (r : KeyRange) (n : ℕ) (l : List ℕ) where
   at-14 : drop 14 parts ≡ l
   at-14 = sym (drop-drop 2 12 parts) ∙ ap (drop 2) at-12 ∙ drop-front 2 n l
 
-  read-parts : i < 256 ^ 8 → FitRange r → n < 256 ^ 2 → segmentOf parts ≡ record { segmentId = i; range = r; buckets = rangesOf n l }
-  unfolding segmentOf num
+  read-parts : i < 256 ^ 8 → FitRange r → n < 256 ^ 2 → decodeSegment parts ≡ record { segmentId = i; range = r; buckets = decodeRanges n l }
+  unfolding decodeSegment num
   read-parts hi hr hn =
       cc (at-8, at-12, at-14, be-front 8 i (encodeRange r ++ (bytesOf 2 n ++ l)) hi, read-range r (bytesOf 2 n ++ l) hr, be-front 2 n l hn)
 
@@ -102,25 +102,25 @@ encode-parts : (g : AssignedSegment) (l : List ℕ)
 unfolding encodeSegment
 encode-parts g l = simp append-assoc
 
-pub read-segment : (g : AssignedSegment) (l : List ℕ) → FitSegment g → segmentOf (encodeSegment g ++ l) ≡ g
+pub read-segment : (g : AssignedSegment) (l : List ℕ) → FitSegment g → decodeSegment (encodeSegment g ++ l) ≡ g
 read-segment g l f =
-    ap segmentOf (encode-parts g l)
+    ap decodeSegment (encode-parts g l)
     ∙ read-parts (g .segmentId) (g .range) (length (g .buckets)) (encodeRanges (g .buckets) ++ l) (f .id) (f .range) (f .count)
     ∙ ap (λ (q : List KeyRange). record { segmentId = g .segmentId; range = g .range; buckets = q }) (read-ranges (g .buckets) l (f .buckets))
 
-pub read-segments : (gs : List AssignedSegment) (l : List ℕ) → FitSegments gs → segmentsOf (length gs) (encodeSegments gs ++ l) ≡ gs
-unfolding segmentsOf encodeSegments
+pub read-segments : (gs : List AssignedSegment) (l : List ℕ) → FitSegments gs → decodeSegments (length gs) (encodeSegments gs ++ l) ≡ gs
+unfolding decodeSegments encodeSegments
 read-segments [] l f = refl
 read-segments (g ∷ gs) l f =
     let e : List ℕ = encodeSegment g in
     let t : List ℕ = encodeSegments gs ++ l in
-    ap (λ (m : List ℕ). segmentOf m ∷ segmentsOf (length gs) (drop (sizeSegment (segmentOf m)) m)) (append-assoc e (encodeSegments gs) l)
-    ∙ ap (λ (q : AssignedSegment). q ∷ segmentsOf (length gs) (drop (sizeSegment q) (e ++ t))) (read-segment g t (f .0))
-    ∙ ap (λ (m : List ℕ). g ∷ segmentsOf (length gs) m) (drop-at e t (sizeSegment g) (length-encodeSegment g))
+    ap (λ (m : List ℕ). decodeSegment m ∷ decodeSegments (length gs) (drop (sizeSegment (decodeSegment m)) m)) (append-assoc e (encodeSegments gs) l)
+    ∙ ap (λ (q : AssignedSegment). q ∷ decodeSegments (length gs) (drop (sizeSegment q) (e ++ t))) (read-segment g t (f .0))
+    ∙ ap (λ (m : List ℕ). g ∷ decodeSegments (length gs) m) (drop-at e t (sizeSegment g) (length-encodeSegment g))
     ∙ ap (λ (q : List AssignedSegment). g ∷ q) (read-segments gs l (f .1))
 
-pub read-assignment : (a : ConsumerAssignment) (l : List ℕ) → FitAssignment a → assignmentOf (encodeAssignment a ++ l) ≡ a
-unfolding assignmentOf num encodeAssignment
+pub read-assignment : (a : ConsumerAssignment) (l : List ℕ) → FitAssignment a → decodeAssignment (encodeAssignment a ++ l) ≡ a
+unfolding decodeAssignment num encodeAssignment
 read-assignment a l f =
     let gs : List AssignedSegment = a .segments in
     let t : List ℕ = encodeSegments gs ++ l in
@@ -129,9 +129,9 @@ read-assignment a l f =
     let e : encodeAssignment a ++ l ≡ w = simp append-assoc in
     let d8 : drop 8 w ≡ u = drop-front 8 (a .layoutEpoch) u in
     let d10 : drop 10 w ≡ t = sym (drop-drop 2 8 w) ∙ ap (drop 2) d8 ∙ drop-front 2 (length gs) t in
-    let r : assignmentOf w ≡ record { layoutEpoch = a .layoutEpoch; segments = gs } =
+    let r : decodeAssignment w ≡ record { layoutEpoch = a .layoutEpoch; segments = gs } =
     cc (d8, d10, be-front 8 (a .layoutEpoch) u (f .epoch), be-front 2 (length gs) t (f .count), read-segments gs l (f .segments)) in
-    ap assignmentOf e ∙ r
+    ap decodeAssignment e ∙ r
 
 -- ---- read, then encoded
 
@@ -139,26 +139,26 @@ read-assignment a l f =
 write-num : (w at : ℕ) (l : List ℕ) → at + w ≤ length l → Bytes l → bytesOf w (be (take w (drop at l))) ≡ take w (drop at l)
 write-num w at l h b = bytesOf-front w (drop at l) (rw length-drop (omega arith)) (Bytes-drop at l b)
 
-write-range : (l : List ℕ) → 4 ≤ length l → Bytes l → encodeRange (rangeOf l) ≡ take 4 l
-unfolding encodeRange rangeOf num
+write-range : (l : List ℕ) → 4 ≤ length l → Bytes l → encodeRange (decodeRange l) ≡ take 4 l
+unfolding encodeRange decodeRange num
 write-range l h b =
     ap (λ (m : List ℕ). m ++ bytesOf 2 (be (take 2 (drop 2 l)))) (bytesOf-front 2 l (omega arith) b)
     ∙ ap (λ (m : List ℕ). take 2 l ++ m) (write-num 2 2 l (omega arith) b)
     ∙ sym (take-add 2 2 l)
 
-write-ranges : (n : ℕ) (l : List ℕ) → 4 * n ≤ length l → Bytes l → encodeRanges (rangesOf n l) ≡ take (4 * n) l
-unfolding encodeRanges rangesOf
+write-ranges : (n : ℕ) (l : List ℕ) → 4 * n ≤ length l → Bytes l → encodeRanges (decodeRanges n l) ≡ take (4 * n) l
+unfolding encodeRanges decodeRanges
 write-ranges zero l h b = refl
 write-ranges (suc n) l h b =
     let e : 4 * suc n ≡ 4 + 4 * n = omega arith in
-    ap (λ (m : List ℕ). m ++ encodeRanges (rangesOf n (drop 4 l))) (write-range l (omega arith) b)
+    ap (λ (m : List ℕ). m ++ encodeRanges (decodeRanges n (drop 4 l))) (write-range l (omega arith) b)
     ∙ ap (λ (m : List ℕ). take 4 l ++ m) (write-ranges n (drop 4 l) (rw length-drop (omega arith)) (Bytes-drop 4 l b))
     ∙ sym (take-add 4 (4 * n) l)
     ∙ ap (λ (k : ℕ). take k l) (sym e)
 
 -- the size of the record at the front, by the count that it has
-pub size-of : (l : List ℕ) → sizeSegment (segmentOf l) ≡ 14 + 4 * num 2 (drop 12 l)
-unfolding sizeSegment segmentOf
+pub size-of : (l : List ℕ) → sizeSegment (decodeSegment l) ≡ 14 + 4 * num 2 (drop 12 l)
+unfolding sizeSegment decodeSegment
 size-of l = ap (λ (k : ℕ). 14 + 4 * k) (length-rangesOf (num 2 (drop 12 l)) (drop 14 l))
 
 four : (l : List ℕ) (n : ℕ) → take (14 + 4 * n) l ≡ take 8 l ++ (take 4 (drop 8 l) ++ (take 2 (drop 12 l) ++ take (4 * n) (drop 14 l)))
@@ -169,59 +169,59 @@ four l n =
     cc (take-add 14 (4 * n) l) in
     d ∙ simp append-assoc
 
-pub write-segment : (l : List ℕ) → sizeSegment (segmentOf l) ≤ length l → Bytes l
-    → encodeSegment (segmentOf l) ≡ take (sizeSegment (segmentOf l)) l
-unfolding encodeSegment segmentOf num
+pub write-segment : (l : List ℕ) → sizeSegment (decodeSegment l) ≤ length l → Bytes l
+    → encodeSegment (decodeSegment l) ≡ take (sizeSegment (decodeSegment l)) l
+unfolding encodeSegment decodeSegment num
 write-segment l h b =
     let n : ℕ = num 2 (drop 12 l) in
-    let z : sizeSegment (segmentOf l) ≡ 14 + 4 * n = size-of l in
+    let z : sizeSegment (decodeSegment l) ≡ 14 + 4 * n = size-of l in
     let a : bytesOf 8 (be (take 8 l)) ≡ take 8 l = bytesOf-front 8 l (omega arith) b in
-    let c : encodeRange (rangeOf (drop 8 l)) ≡ take 4 (drop 8 l) =
+    let c : encodeRange (decodeRange (drop 8 l)) ≡ take 4 (drop 8 l) =
     write-range (drop 8 l) (rw length-drop (omega arith)) (Bytes-drop 8 l b) in
     let e : bytesOf 2 (be (take 2 (drop 12 l))) ≡ take 2 (drop 12 l) = write-num 2 12 l (omega arith) b in
-    let f : encodeRanges (rangesOf n (drop 14 l)) ≡ take (4 * n) (drop 14 l) =
+    let f : encodeRanges (decodeRanges n (drop 14 l)) ≡ take (4 * n) (drop 14 l) =
     write-ranges n (drop 14 l) (rw length-drop (omega arith)) (Bytes-drop 14 l b) in
     cc (z, a, c, e, f, length-rangesOf n (drop 14 l), four l n)
 
-pub write-segments : (n : ℕ) (l : List ℕ) → sizeSegments (segmentsOf n l) ≤ length l → Bytes l
-    → encodeSegments (segmentsOf n l) ≡ take (sizeSegments (segmentsOf n l)) l
-unfolding encodeSegments segmentsOf sizeSegments
+pub write-segments : (n : ℕ) (l : List ℕ) → sizeSegments (decodeSegments n l) ≤ length l → Bytes l
+    → encodeSegments (decodeSegments n l) ≡ take (sizeSegments (decodeSegments n l)) l
+unfolding encodeSegments decodeSegments sizeSegments
 write-segments zero l h b = refl
 write-segments (suc n) l h b =
-    let z : ℕ = sizeSegment (segmentOf l) in
-    ap (λ (m : List ℕ). m ++ encodeSegments (segmentsOf n (drop z l))) (write-segment l (omega arith) b)
+    let z : ℕ = sizeSegment (decodeSegment l) in
+    ap (λ (m : List ℕ). m ++ encodeSegments (decodeSegments n (drop z l))) (write-segment l (omega arith) b)
     ∙ ap (λ (m : List ℕ). take z l ++ m) (write-segments n (drop z l) (rw length-drop (omega arith)) (Bytes-drop z l b))
-    ∙ sym (take-add z (sizeSegments (segmentsOf n (drop z l))) l)
+    ∙ sym (take-add z (sizeSegments (decodeSegments n (drop z l))) l)
 
-pub write-assignment : (l : List ℕ) → sizeAssignment (assignmentOf l) ≤ length l → Bytes l
-    → encodeAssignment (assignmentOf l) ≡ take (sizeAssignment (assignmentOf l)) l
-unfolding encodeAssignment assignmentOf num sizeAssignment
+pub write-assignment : (l : List ℕ) → sizeAssignment (decodeAssignment l) ≤ length l → Bytes l
+    → encodeAssignment (decodeAssignment l) ≡ take (sizeAssignment (decodeAssignment l)) l
+unfolding encodeAssignment decodeAssignment num sizeAssignment
 write-assignment l h b =
     let n : ℕ = num 2 (drop 8 l) in
-    let m : ℕ = sizeSegments (segmentsOf n (drop 10 l)) in
+    let m : ℕ = sizeSegments (decodeSegments n (drop 10 l)) in
     let a : bytesOf 8 (be (take 8 l)) ≡ take 8 l = bytesOf-front 8 l (omega arith) b in
     let c : bytesOf 2 (be (take 2 (drop 8 l))) ≡ take 2 (drop 8 l) = write-num 2 8 l (omega arith) b in
-    let e : encodeSegments (segmentsOf n (drop 10 l)) ≡ take m (drop 10 l) =
+    let e : encodeSegments (decodeSegments n (drop 10 l)) ≡ take m (drop 10 l) =
     write-segments n (drop 10 l) (rw length-drop (omega arith)) (Bytes-drop 10 l b) in
     let f : take 10 l ≡ take 8 l ++ take 2 (drop 8 l) = take-add 8 2 l in
     let g : take (10 + m) l ≡ (take 8 l ++ take 2 (drop 8 l)) ++ take m (drop 10 l) = cc (take-add 10 m l) in
-    let k : encodeAssignment (assignmentOf l) ≡ take 8 l ++ (take 2 (drop 8 l) ++ take m (drop 10 l)) =
+    let k : encodeAssignment (decodeAssignment l) ≡ take 8 l ++ (take 2 (drop 8 l) ++ take m (drop 10 l)) =
     cc (length-segmentsOf n (drop 10 l)) in
     k ∙ simp (← append-assoc) (sym g)
 
 -- ---- what is read fits
 
-fit-range : (l : List ℕ) → Bytes l → FitRange (rangeOf l)
-unfolding rangeOf num
+fit-range : (l : List ℕ) → Bytes l → FitRange (decodeRange l)
+unfolding decodeRange num
 fit-range l b = record { start = below 2 l b; end = below 2 (drop 2 l) (Bytes-drop 2 l b) }
 
-fit-ranges : (n : ℕ) (l : List ℕ) → Bytes l → FitRanges (rangesOf n l)
-unfolding rangesOf
+fit-ranges : (n : ℕ) (l : List ℕ) → Bytes l → FitRanges (decodeRanges n l)
+unfolding decodeRanges
 fit-ranges zero l b = tt
 fit-ranges (suc n) l b = (fit-range l b, fit-ranges n (drop 4 l) (Bytes-drop 4 l b))
 
-pub fit-segment : (l : List ℕ) → Bytes l → FitSegment (segmentOf l)
-unfolding segmentOf num
+pub fit-segment : (l : List ℕ) → Bytes l → FitSegment (decodeSegment l)
+unfolding decodeSegment num
 fit-segment l b =
     record {
       id = below 8 l b;
@@ -230,14 +230,14 @@ fit-segment l b =
       buckets = fit-ranges (num 2 (drop 12 l)) (drop 14 l) (Bytes-drop 14 l b);
     }
 
-pub fit-segments : (n : ℕ) (l : List ℕ) → Bytes l → FitSegments (segmentsOf n l)
-unfolding segmentsOf
+pub fit-segments : (n : ℕ) (l : List ℕ) → Bytes l → FitSegments (decodeSegments n l)
+unfolding decodeSegments
 fit-segments zero l b = tt
 fit-segments (suc n) l b =
-    (fit-segment l b, fit-segments n (drop (sizeSegment (segmentOf l)) l) (Bytes-drop (sizeSegment (segmentOf l)) l b))
+    (fit-segment l b, fit-segments n (drop (sizeSegment (decodeSegment l)) l) (Bytes-drop (sizeSegment (decodeSegment l)) l b))
 
-pub fit-assignment : (l : List ℕ) → Bytes l → FitAssignment (assignmentOf l)
-unfolding assignmentOf num
+pub fit-assignment : (l : List ℕ) → Bytes l → FitAssignment (decodeAssignment l)
+unfolding decodeAssignment num
 fit-assignment l b =
     record {
       epoch = below 8 l b;
@@ -252,25 +252,25 @@ pub starts-encode : (a : ConsumerAssignment) (r : List ℕ) → FitAssignment a 
     → startsAssignment (encodeAssignment a ++ r) ≡ true
 unfolding startsAssignment
 starts-encode a r f o =
-    let e : assignmentOf (encodeAssignment a ++ r) ≡ a = read-assignment a r f in
+    let e : decodeAssignment (encodeAssignment a ++ r) ≡ a = read-assignment a r f in
     let k : sizeAssignment a ≤ length (encodeAssignment a ++ r) = simp (length-append, length-encodeAssignment) (omega arith) in
     simp (e, o, le-leb _ _ k)
 
 -- bytes that are a packed assignment are the encoding of what they are read as
-pub encode-whole : (l : List ℕ) → Bytes l → isAssignment l ≡ true → encodeAssignment (assignmentOf l) ≡ l
+pub encode-whole : (l : List ℕ) → Bytes l → isAssignment l ≡ true → encodeAssignment (decodeAssignment l) ≡ l
 unfolding isAssignment
 encode-whole l b e =
-    let z : sizeAssignment (assignmentOf l) ≡ length l = eqb-true _ _ (both-true (startsAssignment l) _ e .1) in
-    write-assignment l (omega arith) b ∙ take-all (sizeAssignment (assignmentOf l)) l (omega arith)
+    let z : sizeAssignment (decodeAssignment l) ≡ length l = eqb-true _ _ (both-true (startsAssignment l) _ e .1) in
+    write-assignment l (omega arith) b ∙ take-all (sizeAssignment (decodeAssignment l)) l (omega arith)
 
 pub segment-inj : (g h : AssignedSegment) → FitSegment g → FitSegment h → encodeSegment g ≡ encodeSegment h → g ≡ h
-segment-inj g h f k e = sym (read-segment g [] f) ∙ ap (λ (l : List ℕ). segmentOf (l ++ [])) e ∙ read-segment h [] k
+segment-inj g h f k e = sym (read-segment g [] f) ∙ ap (λ (l : List ℕ). decodeSegment (l ++ [])) e ∙ read-segment h [] k
 
 -- two records where they lie, compared as bytes
-pub segment-same : (l m : List ℕ) → Bytes l → Bytes m → sizeSegment (segmentOf l) ≤ length l → sizeSegment (segmentOf m) ≤ length m
-    → take (sizeSegment (segmentOf l)) l ≡ take (sizeSegment (segmentOf m)) m → segmentOf l ≡ segmentOf m
+pub segment-same : (l m : List ℕ) → Bytes l → Bytes m → sizeSegment (decodeSegment l) ≤ length l → sizeSegment (decodeSegment m) ≤ length m
+    → take (sizeSegment (decodeSegment l)) l ≡ take (sizeSegment (decodeSegment m)) m → decodeSegment l ≡ decodeSegment m
 segment-same l m bl bm hl hm e =
-    segment-inj (segmentOf l) (segmentOf m) (fit-segment l bl) (fit-segment m bm) (write-segment l hl bl ∙ e ∙ sym (write-segment m hm bm))
+    segment-inj (decodeSegment l) (decodeSegment m) (fit-segment l bl) (fit-segment m bm) (write-segment l hl bl ∙ e ∙ sym (write-segment m hm bm))
 
 pub assignment-inj : (a b : ConsumerAssignment) → FitAssignment a → FitAssignment b → encodeAssignment a ≡ encodeAssignment b → a ≡ b
-assignment-inj a b f k e = sym (read-assignment a [] f) ∙ ap (λ (l : List ℕ). assignmentOf (l ++ [])) e ∙ read-assignment b [] k
+assignment-inj a b f k e = sym (read-assignment a [] f) ∙ ap (λ (l : List ℕ). decodeAssignment (l ++ [])) e ∙ read-assignment b [] k

@@ -8,7 +8,7 @@ use mathlib.Core.List.{List}
 use lib.ListN.{length, drop}
 use Rattle.parts.specs.BoolLaws.{both-true}
 use Rattle.packed_int.specs.Be.{beAt}
-use Rattle.packed.specs.Assignment.{sizeAssignment, num, segmentsOf, assignmentOf, startsAssignment, isAssignment}
+use Rattle.packed.specs.Assignment.{sizeAssignment, num, decodeSegments, decodeAssignment, startsAssignment, isAssignment}
 use Rattle.packed.specs.Answers.{wholeRead}
 use Rattle.packed.specs.declared.Packed.the-variants.{Assignment, Malformed}
 use Rattle.packed.proofs.AssignmentLaws.{length-segmentsOf, first-segments, Rest, rest-start}
@@ -16,18 +16,18 @@ use Rattle.packed.proofs.AssignmentLaws.{length-segmentsOf, first-segme
 -- a packed assignment with n segments
 pub record Whole (s : List ℕ) (n : ℕ) : Type 0 where
   pub is-assignment : isAssignment s ≡ true
-  pub count : n ≡ length (assignmentOf s .segments)
-  pub segments-are : assignmentOf s .segments ≡ segmentsOf n (drop 10 s)
+  pub count : n ≡ length (decodeAssignment s .segments)
+  pub segments-are : decodeAssignment s .segments ≡ decodeSegments n (drop 10 s)
   pub records : Rest s 10 n
 
 pub whole-read : (s : List ℕ) (z n : ℕ) → Assignment z n ≡ wholeRead s → Whole s n
-unfolding wholeRead isAssignment assignmentOf num beAt
+unfolding wholeRead isAssignment decodeAssignment num beAt
 whole-read s z n e = go (isAssignment s) refl
   where
     go : (t : Bool) → isAssignment s ≡ t → Whole s n
     go true h =
-        let f : Assignment z n ≡ Assignment (sizeAssignment (assignmentOf s)) (length (assignmentOf s .segments)) = e ∙ rw h in
-        let a : n ≡ length (assignmentOf s .segments) = cc in
+        let f : Assignment z n ≡ Assignment (sizeAssignment (decodeAssignment s)) (length (decodeAssignment s .segments)) = e ∙ rw h in
+        let a : n ≡ length (decodeAssignment s .segments) = cc in
         let b : n ≡ beAt 2 s 8 = a ∙ length-segmentsOf _ _ in
         record {
           is-assignment = h;
@@ -46,7 +46,7 @@ not-assignment s e = go (isAssignment s) refl
   where
     go : (t : Bool) → isAssignment s ≡ t → isAssignment s ≡ false
     go true h =
-        let f : Malformed ≡ Assignment (sizeAssignment (assignmentOf s)) (length (assignmentOf s .segments)) = e ∙ rw h in
+        let f : Malformed ≡ Assignment (sizeAssignment (decodeAssignment s)) (length (decodeAssignment s .segments)) = e ∙ rw h in
         let q : _≡_ {A = ℕ} 0 1 = cc in
         absurd (omega arith)
     go false h = h

@@ -22,7 +22,7 @@ use Rattle.packed_int.specs.Be.{be, beAt}
 use Rattle.packed_int.proofs.BeLaws.{be-below, be-at-add}
 use Rattle.marks.specs.Bits.{bit}
 use Rattle.marks.proofs.BitLaws.{bit-and}
-use Rattle.packed.specs.Assignment.{rangeOf, rangesOf}
+use Rattle.packed.specs.Assignment.{decodeRange, decodeRanges}
 use Rattle.packed.specs.Words.{start1, end1, start2, end2, topsOf, WordRises}
 use Rattle.packed.proofs.AssignmentLaws.{range-at, ranges-at}
 
@@ -97,13 +97,13 @@ module _ (s : List ℕ) (p x : ℕ) (b : Bytes s) (h : p + 8 ≤ length s) (e : 
   pub word-small : x < 18446744073709551616
   word-small = omega (arith, parted, below s p b, below s (p + 2) b, below s (p + 4) b, below s (p + 6) b)
 
-  word-first : keyRange (start1 x) (end1 x) ≡ rangeOf (drop p s)
+  word-first : keyRange (start1 x) (end1 x) ≡ decodeRange (drop p s)
   word-first =
       range-at s p (start1 x) (end1 x)
       (omega (arith, parted, below s p b, below s (p + 2) b, below s (p + 4) b, below s (p + 6) b))
       (omega (arith, parted, below s p b, below s (p + 2) b, below s (p + 4) b, below s (p + 6) b))
 
-  word-second : keyRange (start2 x) (end2 x) ≡ rangeOf (drop (p + 4) s)
+  word-second : keyRange (start2 x) (end2 x) ≡ decodeRange (drop (p + 4) s)
   word-second =
       let f : p + 4 + 2 ≡ p + 6 = omega arith in
       range-at s (p + 4) (start2 x) (end2 x)
@@ -111,15 +111,15 @@ module _ (s : List ℕ) (p x : ℕ) (b : Bytes s) (h : p + 8 ≤ length s) (e : 
       (rw f (omega (arith, parted, below s p b, below s (p + 2) b, below s (p + 4) b, below s (p + 6) b)))
 
   two : (n : ℕ) → 1 < n
-      → rangesOf n (drop p s) ≡ keyRange (start1 x) (end1 x) ∷ keyRange (start2 x) (end2 x) ∷ rangesOf (n - 2) (drop (p + 8) s)
+      → decodeRanges n (drop p s) ≡ keyRange (start1 x) (end1 x) ∷ keyRange (start2 x) (end2 x) ∷ decodeRanges (n - 2) (drop (p + 8) s)
   two n l =
       let f : n - 1 - 1 ≡ n - 2 = omega arith in
       let g : p + 4 + 4 ≡ p + 8 = omega arith in
       ranges-at s p n _ (omega arith) word-first
       ∙ ap (λ (r : List KeyRange). keyRange (start1 x) (end1 x) ∷ r)
       (ranges-at s (p + 4) (n - 1) _ (omega arith) word-second
-      ∙ ap (λ (k : ℕ). keyRange (start2 x) (end2 x) ∷ rangesOf k (drop (p + 4 + 4) s)) f
-      ∙ ap (λ (k : ℕ). keyRange (start2 x) (end2 x) ∷ rangesOf (n - 2) (drop k s)) g)
+      ∙ ap (λ (k : ℕ). keyRange (start2 x) (end2 x) ∷ decodeRanges k (drop (p + 4 + 4) s)) f
+      ∙ ap (λ (k : ℕ). keyRange (start2 x) (end2 x) ∷ decodeRanges (n - 2) (drop k s)) g)
 
 shuffle : (a b c d e : Bool) → (a && b) && ((c && d) && e) ≡ ((b && a) && (d && c)) && e
 shuffle true true true true e = refl
@@ -132,10 +132,10 @@ shuffle false false c d e = refl
 
 -- a row by the word at its front
 rising-word : (s : List ℕ) (p n x low r : ℕ) → Bytes s → p + 8 ≤ length s → x ≡ beAt 8 s p → 1 < n → WordRises x low r
-    → risingFrom low (rangesOf n (drop p s)) ≡ (bit r 56 && bit r 24) && risingFrom (topsOf x % 4294967296) (rangesOf (n - 2) (drop (p + 8) s))
+    → risingFrom low (decodeRanges n (drop p s)) ≡ (bit r 56 && bit r 24) && risingFrom (topsOf x % 4294967296) (decodeRanges (n - 2) (drop (p + 8) s))
 unfolding risingFrom
 rising-word s p n x low r b h e l w =
-    let R = rangesOf (n - 2) (drop (p + 8) s) in
+    let R = decodeRanges (n - 2) (drop (p + 8) s) in
     let t : topsOf x % 4294967296 ≡ suc (end2 x) = omega arith in
     ap (risingFrom low) (two s p x b h e n l)
     ∙ shuffle (leb low (start1 x)) (leb (start1 x) (end1 x)) (leb (suc (end1 x)) (start2 x)) (leb (start2 x) (end2 x)) (risingFrom (suc (end2 x)) R)
@@ -151,8 +151,8 @@ group false b c d e = refl
 
 -- the row of n ranges at a place rises if the words before the place p told so, and if what is left rises from low on
 pub record Split (s : List ℕ) (at n kept low p left : ℕ) : Type 0 where
-  pub equal : risingFrom 0 (rangesOf n (drop at s))
-      ≡ (bit kept 56 && bit kept 24) && risingFrom (low % 4294967296) (rangesOf left (drop p s))
+  pub equal : risingFrom 0 (decodeRanges n (drop at s))
+      ≡ (bit kept 56 && bit kept 24) && risingFrom (low % 4294967296) (decodeRanges left (drop p s))
 
 split-word : (s : List ℕ) (at n kept low p left x r : ℕ) → Split s at n kept low p left → Bytes s → p + 8 ≤ length s → x ≡ beAt 8 s p → 1 < left
     → WordRises x (low % 4294967296) r → Split s at n (bitAnd kept r) (topsOf x) (p + 8) (left - 2)
@@ -161,7 +161,7 @@ split-word s at n kept low p left x r k b h e l w =
       equal =
           k .equal
           ∙ ap (λ (t : Bool). (bit kept 56 && bit kept 24) && t) (rising-word s p left x (low % 4294967296) r b h e l w)
-          ∙ group (bit kept 56) (bit kept 24) (bit r 56) (bit r 24) (risingFrom (topsOf x % 4294967296) (rangesOf (left - 2) (drop (p + 8) s)))
+          ∙ group (bit kept 56) (bit kept 24) (bit r 56) (bit r 24) (risingFrom (topsOf x % 4294967296) (decodeRanges (left - 2) (drop (p + 8) s)))
           ∙ rw (bit-and kept r 56, bit-and kept r 24);
     }
 
@@ -206,18 +206,18 @@ module _ {s : List ℕ} {at n x y low p left : ℕ} (T : Told s at n x y low p l
 
 -- the flags of a turn decide, or leave it to the ranges that are left
 module _ {s : List ℕ} {at n word low p left : ℕ} (S : Split s at n word low p left) where
-  pub split-first : eqb (word / 72057594037927936 % 2) 1 ≡ false → false ≡ risingFrom 0 (rangesOf n (drop at s))
+  pub split-first : eqb (word / 72057594037927936 % 2) 1 ≡ false → false ≡ risingFrom 0 (decodeRanges n (drop at s))
   unfolding bit
   split-first e =
-      sym (S .equal ∙ ap (λ (t : Bool). (t && bit word 24) && risingFrom (low % 4294967296) (rangesOf left (drop p s))) e)
+      sym (S .equal ∙ ap (λ (t : Bool). (t && bit word 24) && risingFrom (low % 4294967296) (decodeRanges left (drop p s))) e)
 
-  pub split-second : eqb (word / 16777216 % 2) 1 ≡ false → false ≡ risingFrom 0 (rangesOf n (drop at s))
+  pub split-second : eqb (word / 16777216 % 2) 1 ≡ false → false ≡ risingFrom 0 (decodeRanges n (drop at s))
   unfolding bit
   split-second e =
       sym
       (S .equal
-      ∙ ap (λ (t : Bool). (bit word 56 && t) && risingFrom (low % 4294967296) (rangesOf left (drop p s))) e
-      ∙ ap (λ (t : Bool). t && risingFrom (low % 4294967296) (rangesOf left (drop p s))) (and-false (bit word 56)))
+      ∙ ap (λ (t : Bool). (bit word 56 && t) && risingFrom (low % 4294967296) (decodeRanges left (drop p s))) e
+      ∙ ap (λ (t : Bool). t && risingFrom (low % 4294967296) (decodeRanges left (drop p s))) (and-false (bit word 56)))
 
   pub split-both : eqb (word / 72057594037927936 % 2) 1 ≡ true → eqb (word / 16777216 % 2) 1 ≡ true
       → Split s at n 72057594054705152 low p left
@@ -226,11 +226,11 @@ module _ {s : List ℕ} {at n word low p left : ℕ} (S : Split s at n word low 
       record {
         equal =
             S .equal
-            ∙ ap (λ (t : Bool). (t && bit word 24) && risingFrom (low % 4294967296) (rangesOf left (drop p s))) e
-            ∙ ap (λ (t : Bool). t && risingFrom (low % 4294967296) (rangesOf left (drop p s))) f;
+            ∙ ap (λ (t : Bool). (t && bit word 24) && risingFrom (low % 4294967296) (decodeRanges left (drop p s))) e
+            ∙ ap (λ (t : Bool). t && risingFrom (low % 4294967296) (decodeRanges left (drop p s))) f;
       }
 
 pub split-end : {s : List ℕ} {at n low p left : ℕ} → Split s at n 72057594054705152 low p left → {t : Bool}
-    → t ≡ risingFrom (low % 4294967296) (rangesOf left (drop p s)) → t ≡ risingFrom 0 (rangesOf n (drop at s))
+    → t ≡ risingFrom (low % 4294967296) (decodeRanges left (drop p s)) → t ≡ risingFrom 0 (decodeRanges n (drop at s))
 unfolding bit
 split-end S g = g ∙ sym (S .equal)

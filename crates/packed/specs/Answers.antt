@@ -11,23 +11,23 @@ use Rattle.packed.specs.declared.RecordRead.{RecordRead}
 use Rattle.packed.specs.declared.RecordRead.the-variants as read
 use Rattle.packed.specs.declared.Packed.{Packed}
 use Rattle.packed.specs.declared.Packed.the-variants as packed
-use Rattle.packed.specs.Assignment.{segmentOf, sizeSegment, okSegment, assignmentOf, sizeAssignment, startsAssignment, isAssignment}
+use Rattle.packed.specs.Assignment.{decodeSegment, sizeSegment, okSegment, decodeAssignment, sizeAssignment, startsAssignment, isAssignment}
 
 -- a good record stands at the place at and ends by the place end
 unfoldable pub recordGood : List ℕ → ℕ → ℕ → Bool
-recordGood s at end = leb (at + sizeSegment (segmentOf (drop at s))) end && okSegment (segmentOf (drop at s))
+recordGood s at end = leb (at + sizeSegment (decodeSegment (drop at s))) end && okSegment (decodeSegment (drop at s))
 
 -- its id and its size
 unfoldable pub recordRead : (s : List ℕ) (at end : ℕ) → RecordRead
 recordRead s at end =
-    cond (recordGood s at end) (read.Record (segmentOf (drop at s) .segmentId) (sizeSegment (segmentOf (drop at s)))) read.Malformed
+    cond (recordGood s at end) (read.Record (decodeSegment (drop at s) .segmentId) (sizeSegment (decodeSegment (drop at s)))) read.Malformed
 
 -- the packed assignment at the front of a slot: its size and how many segments it has
 unfoldable pub frontRead : List ℕ → Packed
 frontRead l =
-    cond (startsAssignment l) (packed.Assignment (sizeAssignment (assignmentOf l)) (length (assignmentOf l .segments))) packed.Malformed
+    cond (startsAssignment l) (packed.Assignment (sizeAssignment (decodeAssignment l)) (length (decodeAssignment l .segments))) packed.Malformed
 
 -- a packed assignment that is lent alone
 unfoldable pub wholeRead : List ℕ → Packed
 wholeRead l =
-    cond (isAssignment l) (packed.Assignment (sizeAssignment (assignmentOf l)) (length (assignmentOf l .segments))) packed.Malformed
+    cond (isAssignment l) (packed.Assignment (sizeAssignment (decodeAssignment l)) (length (decodeAssignment l .segments))) packed.Malformed

@@ -2,7 +2,7 @@
 -- for.
 --
 -- "epoch 64 bits, segment count 16; each segment: id 64, start 16, end 16, bucket count 16, then start 16 and end 16 per bucket", most significant bit first.
--- Reading is total: `assignmentOf` gives what the bytes say, whatever they are, and `startsAssignment` tests afterwards whether they may say it. What stands behind a
+-- Reading is total: `decodeAssignment` gives what the bytes say, whatever they are, and `startsAssignment` tests afterwards whether they may say it. What stands behind a
 -- packed assignment in a slot is not looked at; lent alone, nothing may stand there.
 -- Assumes nothing.
 use Prim.Native.Nat.{ℕ, zero, suc, _+_, _*_}
@@ -82,23 +82,23 @@ sizeAssignment a = assignmentHead + sizeSegments (a .segments)
 unfoldable pub num : ℕ → List ℕ → ℕ
 num w l = be (take w l)
 
-unfoldable pub rangeOf : List ℕ → KeyRange
-rangeOf l = keyRange (num 2 l) (num 2 (drop 2 l))
+unfoldable pub decodeRange : List ℕ → KeyRange
+decodeRange l = keyRange (num 2 l) (num 2 (drop 2 l))
 
-unfoldable pub rangesOf : ℕ → List ℕ → List KeyRange
-rangesOf zero l = []
-rangesOf (suc n) l = rangeOf l ∷ rangesOf n (drop bucketSize l)
+unfoldable pub decodeRanges : ℕ → List ℕ → List KeyRange
+decodeRanges zero l = []
+decodeRanges (suc n) l = decodeRange l ∷ decodeRanges n (drop bucketSize l)
 
-unfoldable pub segmentOf : List ℕ → AssignedSegment
-segmentOf l =
-    record { segmentId = num 8 l; range = rangeOf (drop 8 l); buckets = rangesOf (num 2 (drop 12 l)) (drop recordHead l) }
+unfoldable pub decodeSegment : List ℕ → AssignedSegment
+decodeSegment l =
+    record { segmentId = num 8 l; range = decodeRange (drop 8 l); buckets = decodeRanges (num 2 (drop 12 l)) (drop recordHead l) }
 
-unfoldable pub segmentsOf : ℕ → List ℕ → List AssignedSegment
-segmentsOf zero l = []
-segmentsOf (suc n) l = segmentOf l ∷ segmentsOf n (drop (sizeSegment (segmentOf l)) l)
+unfoldable pub decodeSegments : ℕ → List ℕ → List AssignedSegment
+decodeSegments zero l = []
+decodeSegments (suc n) l = decodeSegment l ∷ decodeSegments n (drop (sizeSegment (decodeSegment l)) l)
 
-unfoldable pub assignmentOf : List ℕ → ConsumerAssignment
-assignmentOf l = record { layoutEpoch = num 8 l; segments = segmentsOf (num 2 (drop 8 l)) (drop assignmentHead l) }
+unfoldable pub decodeAssignment : List ℕ → ConsumerAssignment
+decodeAssignment l = record { layoutEpoch = num 8 l; segments = decodeSegments (num 2 (drop 8 l)) (drop assignmentHead l) }
 
 -- ---- which values are packed assignments
 
@@ -130,8 +130,8 @@ okAssignment a = leb (sizeAssignment a) slotSize && okFrom 0 (a .segments)
 
 -- in a slot: it does not end early, and what follows is not looked at
 unfoldable pub startsAssignment : List ℕ → Bool
-startsAssignment l = leb (sizeAssignment (assignmentOf l)) (length l) && okAssignment (assignmentOf l)
+startsAssignment l = leb (sizeAssignment (decodeAssignment l)) (length l) && okAssignment (decodeAssignment l)
 
 -- lent alone: nothing is left over
 unfoldable pub isAssignment : List ℕ → Bool
-isAssignment l = startsAssignment l && eqb (sizeAssignment (assignmentOf l)) (length l)
+isAssignment l = startsAssignment l && eqb (sizeAssignment (decodeAssignment l)) (length l)

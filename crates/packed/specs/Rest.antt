@@ -7,9 +7,9 @@ use mathlib.Core.Path.{_≡_}
 use mathlib.Core.Bool.{true}
 use mathlib.Core.List.{List}
 use lib.ListN.{length, drop}
-use Rattle.packed.specs.Assignment.{segmentsOf, sizeSegments, okFrom}
+use Rattle.packed.specs.Assignment.{decodeSegments, sizeSegments, okFrom}
 
 -- from the place p on, m records stand in order and within the bytes
 pub record Rest (s : List ℕ) (p m : ℕ) : Type 0 where
-  pub fits : p + sizeSegments (segmentsOf m (drop p s)) ≤ length s
-  pub ok : okFrom 0 (segmentsOf m (drop p s)) ≡ true
+  pub fits : p + sizeSegments (decodeSegments m (drop p s)) ≤ length s
+  pub ok : okFrom 0 (decodeSegments m (drop p s)) ≡ true

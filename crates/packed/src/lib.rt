@@ -8,7 +8,7 @@ ghost use mathlib.Core.Bool.{not, _&&_};
 ghost use lib.ListN.{length, drop};
 ghost use Rattle.types.specs.KeyRanges.{keyRange};
 ghost use Rattle.ranges.specs.Overlap.{overlapsAny, risingFrom};
-ghost use Rattle.packed.specs.Assignment.{rangeOf, rangesOf, okBuckets};
+ghost use Rattle.packed.specs.Assignment.{decodeRange, decodeRanges, okBuckets};
 ghost use Rattle.packed.specs.Answers.{recordRead, frontRead, wholeRead};
 ghost use Rattle.packed.specs.Words.{topsOf, WordRises};
 use types::KeyRange;
@@ -48,7 +48,7 @@ pub enum Packed {
 // The range in the 4 bytes from a place on.
 pub fn range_at(s: &[u8], at: usize) -> KeyRange
     requires { ⌜ at + 4 ≤ length (now s) ⌝ }
-    ensures { λ r. ⌜ r ≡ rangeOf (drop at (now (s .entry))) ⌝ }
+    ensures { λ r. ⌜ r ≡ decodeRange (drop at (now (s .entry))) ⌝ }
 {
     let start = packed_int::read_u16(s, at) as u32;
     let end = packed_int::read_u16(s, at + 2) as u32;
@@ -58,7 +58,7 @@ pub fn range_at(s: &[u8], at: usize) -> KeyRange
 // The n ranges from a place on rise, and start at a value or above.
 fn buckets_rise(s: &[u8], at: usize, n: usize, from: u64) -> bool
     requires { ⌜ at + 4 * n ≤ length (now s) ⌝ }
-    ensures { λ r. ⌜ r ≡ risingFrom from (rangesOf n (drop at (now (s .entry)))) ⌝ }
+    ensures { λ r. ⌜ r ≡ risingFrom from (decodeRanges n (drop at (now (s .entry)))) ⌝ }
 {
     let mut low = from;
     let mut p = at;
@@ -97,7 +97,7 @@ fn word_rises(x: u64, low: u64) -> u64
 // compiler makes one read of it.
 fn rise_by_words(s: &[u8], at: usize, n: usize) -> bool
     requires { ⌜ at + 4 * n ≤ length (now s) ⌝ }
-    ensures { λ r. ⌜ r ≡ risingFrom 0 (rangesOf n (drop at (now (s .entry)))) ⌝ }
+    ensures { λ r. ⌜ r ≡ risingFrom 0 (decodeRanges n (drop at (now (s .entry)))) ⌝ }
 {
     if n < 8 {
         return buckets_rise(s, at, n, 0);
@@ -127,7 +127,7 @@ fn rise_by_words(s: &[u8], at: usize, n: usize) -> bool
 // One of the n ranges from a place on shares a value with the range.
 fn bucket_overlaps(s: &[u8], at: usize, n: usize, range: KeyRange) -> bool
     requires { ⌜ at + 4 * n ≤ length (now s) ⌝ }
-    ensures { λ r. ⌜ r ≡ overlapsAny range (rangesOf n (drop at (now (s .entry)))) ⌝ }
+    ensures { λ r. ⌜ r ≡ overlapsAny range (decodeRanges n (drop at (now (s .entry)))) ⌝ }
 {
     let mut p = at;
     let mut left = n;
@@ -144,7 +144,7 @@ fn bucket_overlaps(s: &[u8], at: usize, n: usize, range: KeyRange) -> bool
 // No range of the n from a place on is reversed, and no two share a value: every pair of a few is compared.
 fn buckets_apart(s: &[u8], at: usize, n: usize) -> bool
     requires { ⌜ at + 4 * n ≤ length (now s) ⌝ }
-    ensures { λ r. ⌜ r ≡ okBuckets (rangesOf n (drop at (now (s .entry)))) ⌝ }
+    ensures { λ r. ⌜ r ≡ okBuckets (decodeRanges n (drop at (now (s .entry)))) ⌝ }
 {
     let mut p = at;
     let mut left = n;
@@ -165,7 +165,7 @@ fn buckets_apart(s: &[u8], at: usize, n: usize) -> bool
 // The same of many: each is marked, and so tested against all before it.
 fn buckets_marked(s: &[u8], at: usize, n: usize) -> bool
     requires { ⌜ at + 4 * n ≤ length (now s) ⌝ }
-    ensures { λ r. ⌜ r ≡ okBuckets (rangesOf n (drop at (now (s .entry)))) ⌝ }
+    ensures { λ r. ⌜ r ≡ okBuckets (decodeRanges n (drop at (now (s .entry)))) ⌝ }
 {
     let mut words = [0u64; marks::WORDS];
     let mut p = at;
@@ -191,7 +191,7 @@ fn buckets_marked(s: &[u8], at: usize, n: usize) -> bool
 // The n ranges from a place on may be a segment's buckets.
 pub fn buckets_ok(s: &[u8], at: usize, n: usize) -> bool
     requires { ⌜ at + 4 * n ≤ length (now s) ⌝ }
-    ensures { λ r. ⌜ r ≡ okBuckets (rangesOf n (drop at (now (s .entry)))) ⌝ }
+    ensures { λ r. ⌜ r ≡ okBuckets (decodeRanges n (drop at (now (s .entry)))) ⌝ }
 {
     if rise_by_words(s, at, n) {
         return true;

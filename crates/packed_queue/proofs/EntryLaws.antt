@@ -15,10 +15,10 @@ use borrow.Author.Tests.{le-leb, leb-true, eq-eqb}
 use Rattle.parts.specs.BoolLaws.{both-true}
 use Rattle.packed_int.specs.Be.{bytesOf}
 use Rattle.packed_int.proofs.BeLaws.{length-bytesOf, be-front, drop-front}
-use Rattle.packed.specs.Assignment.{ConsumerAssignment, slotSize, num, encodeAssignment, sizeAssignment, assignmentOf, okAssignment, startsAssignment, isAssignment}
+use Rattle.packed.specs.Assignment.{ConsumerAssignment, slotSize, num, encodeAssignment, sizeAssignment, decodeAssignment, okAssignment, startsAssignment, isAssignment}
 use Rattle.packed.proofs.RoundLaws.{FitAssignment, length-encodeAssignment, read-assignment, starts-encode}
 use Rattle.keyed.proofs.EachLaws.{Each, each-take}
-use Rattle.packed_queue.specs.Entries.{encodeEntry, encodeEntries, sizeEntry, sizeEntries, sheetIn, entryEnd, entriesOf, startsEntry, startEntries}
+use Rattle.packed_queue.specs.Entries.{encodeEntry, encodeEntries, sizeEntry, sizeEntries, sheetIn, entryEnd, decodeEntries, startsEntry, startEntries}
 
 -- ---- lists that can be packed
 
@@ -44,8 +44,8 @@ unfolding encodeEntries sizeEntries
 length-encodeEntries [] = refl
 length-encodeEntries (a ∷ q) = length-append (encodeEntry a) (encodeEntries q) ∙ ap₂ _+_ (length-encodeEntry a) (length-encodeEntries q)
 
-pub length-entriesOf : (n : ℕ) (l : List ℕ) → length (entriesOf n l) ≡ n
-unfolding entriesOf
+pub length-entriesOf : (n : ℕ) (l : List ℕ) → length (decodeEntries n l) ≡ n
+unfolding decodeEntries
 length-entriesOf zero l = refl
 length-entriesOf (suc n) l = ap suc (length-entriesOf n (drop (entryEnd l) l))
 
@@ -86,8 +86,8 @@ module _ (a : ConsumerAssignment) (p : Packable a) (l : List ℕ) where
       ap (λ n. take n (drop 2 (encodeEntry a ++ l))) entry-length ∙ ap (take (sizeAssignment a)) behind
       ∙ take-at (encodeAssignment a) l (sizeAssignment a) (length-encodeAssignment a)
 
-  pub entry-list : assignmentOf (sheetIn (encodeEntry a ++ l)) ≡ a
-  entry-list = ap assignmentOf (entry-sheet ∙ sym (append-nil (encodeAssignment a))) ∙ read-assignment a [] (p .fits)
+  pub entry-list : decodeAssignment (sheetIn (encodeEntry a ++ l)) ≡ a
+  entry-list = ap decodeAssignment (entry-sheet ∙ sym (append-nil (encodeAssignment a))) ∙ read-assignment a [] (p .fits)
 
   pub entry-rest : drop (entryEnd (encodeEntry a ++ l)) (encodeEntry a ++ l) ≡ l
   entry-rest = ap (λ n. drop n (encodeEntry a ++ l)) entry-end ∙ drop-at (encodeEntry a) l (sizeEntry a) (length-encodeEntry a)
@@ -97,7 +97,7 @@ module _ (a : ConsumerAssignment) (p : Packable a) (l : List ℕ) where
   whole =
       let e : encodeAssignment a ++ [] ≡ encodeAssignment a = append-nil (encodeAssignment a) in
       let s : startsAssignment (encodeAssignment a) ≡ true = ap startsAssignment (sym e) ∙ starts-encode a [] (p .fits) (p .ok) in
-      let r : assignmentOf (encodeAssignment a) ≡ a = ap assignmentOf (sym e) ∙ read-assignment a [] (p .fits) in
+      let r : decodeAssignment (encodeAssignment a) ≡ a = ap decodeAssignment (sym e) ∙ read-assignment a [] (p .fits) in
       simp (s, r, eq-eqb (sizeAssignment a) (length (encodeAssignment a)) (sym (length-encodeAssignment a)))
 
   pub starts-entry : startsEntry (encodeEntry a ++ l) ≡ true
@@ -139,14 +139,14 @@ row-front q l w m =
     }
 
 -- they are read, or the first m of them
-read-row : (m : ℕ) (q : List ConsumerAssignment) (r : List ℕ) → Each Packable q → m ≤ length q → entriesOf m (encodeEntries q ++ r) ≡ take m q
-unfolding entriesOf
+read-row : (m : ℕ) (q : List ConsumerAssignment) (r : List ℕ) → Each Packable q → m ≤ length q → decodeEntries m (encodeEntries q ++ r) ≡ take m q
+unfolding decodeEntries
 read-row zero q r p h = refl
 read-row (suc m) [] r p h = absurd (omega arith)
 read-row (suc m) (a ∷ q) r p h =
-    ap (entriesOf (suc m)) (front a q r)
+    ap (decodeEntries (suc m)) (front a q r)
     ∙ ap₂ _∷_ (entry-list a (p .0) (encodeEntries q ++ r))
-    (ap (entriesOf m) (entry-rest a (p .0) (encodeEntries q ++ r)) ∙ read-row m q r (p .1) (omega arith))
+    (ap (decodeEntries m) (entry-rest a (p .0) (encodeEntries q ++ r)) ∙ read-row m q r (p .1) (omega arith))
 
 start-row : (m : ℕ) (q : List ConsumerAssignment) (r : List ℕ) → Each Packable q → m ≤ length q → startEntries m (encodeEntries q ++ r) ≡ true
 unfolding startEntries
@@ -158,38 +158,38 @@ start-row (suc m) (a ∷ q) r p h =
     (ap (startEntries m) (entry-rest a (p .0) (encodeEntries q ++ r)) ∙ start-row m q r (p .1) (omega arith))
 
 -- a list, where its bytes begin: whatever follows it in the 2,048 bytes of the longest list
-sheet-read : (a : ConsumerAssignment) (l : List ℕ) → Packable a → assignmentOf (take slotSize (encodeAssignment a ++ l)) ≡ a
+sheet-read : (a : ConsumerAssignment) (l : List ℕ) → Packable a → decodeAssignment (take slotSize (encodeAssignment a ++ l)) ≡ a
 sheet-read a l p =
     let e : length (encodeAssignment a) ≡ sizeAssignment a = length-encodeAssignment a in
     let n : ℕ = slotSize - sizeAssignment a in
     let f : slotSize ≡ length (encodeAssignment a) + n = omega (arith, packable-size a p) in
-    ap (λ m. assignmentOf (take m (encodeAssignment a ++ l))) f ∙ ap assignmentOf (take-append-add (encodeAssignment a) l n)
+    ap (λ m. decodeAssignment (take m (encodeAssignment a ++ l))) f ∙ ap decodeAssignment (take-append-add (encodeAssignment a) l n)
     ∙ read-assignment a (take n l) (p .fits)
 
 sheet-row : (i : ℕ) (q : List ConsumerAssignment) (r : List ℕ) (z : ConsumerAssignment) → Each Packable q → i < length q
-    → assignmentOf (take slotSize (drop (sizeEntries (take i q) + 2) (encodeEntries q ++ r))) ≡ getD q i z
+    → decodeAssignment (take slotSize (drop (sizeEntries (take i q) + 2) (encodeEntries q ++ r))) ≡ getD q i z
 unfolding sizeEntries
 sheet-row i [] r z p h = absurd (omega arith)
 sheet-row zero (a ∷ q) r z p h =
-    ap (λ x. assignmentOf (take slotSize (drop 2 x))) (front a q r) ∙ ap (λ x. assignmentOf (take slotSize x)) (behind a (p .0) (encodeEntries q ++ r))
+    ap (λ x. decodeAssignment (take slotSize (drop 2 x))) (front a q r) ∙ ap (λ x. decodeAssignment (take slotSize x)) (behind a (p .0) (encodeEntries q ++ r))
     ∙ sheet-read a (encodeEntries q ++ r) (p .0)
 sheet-row (suc i) (a ∷ q) r z p h =
     let e : length (encodeEntry a) ≡ sizeEntry a = length-encodeEntry a in
     let m : ℕ = sizeEntries (take i q) + 2 in
     let f : sizeEntry a + sizeEntries (take i q) + 2 ≡ length (encodeEntry a) + m = omega arith in
-    ap (λ x. assignmentOf (take slotSize (drop (sizeEntry a + sizeEntries (take i q) + 2) x))) (front a q r)
-    ∙ ap (λ k. assignmentOf (take slotSize (drop k (encodeEntry a ++ (encodeEntries q ++ r))))) f
-    ∙ ap (λ x. assignmentOf (take slotSize x)) (drop-append-add (encodeEntry a) (encodeEntries q ++ r) m)
+    ap (λ x. decodeAssignment (take slotSize (drop (sizeEntry a + sizeEntries (take i q) + 2) x))) (front a q r)
+    ∙ ap (λ k. decodeAssignment (take slotSize (drop k (encodeEntry a ++ (encodeEntries q ++ r))))) f
+    ∙ ap (λ x. decodeAssignment (take slotSize x)) (drop-append-add (encodeEntry a) (encodeEntries q ++ r) m)
     ∙ sheet-row i q r z (p .1) (omega arith)
 
 pub row-sheet : (q : List ConsumerAssignment) (l : List ℕ) → Row q l → (i : ℕ) (z : ConsumerAssignment) → i < length q
-    → assignmentOf (take slotSize (drop (sizeEntries (take i q) + 2) l)) ≡ getD q i z
+    → decodeAssignment (take slotSize (drop (sizeEntries (take i q) + 2) l)) ≡ getD q i z
 row-sheet q l w i z h =
-    ap (λ x. assignmentOf (take slotSize (drop (sizeEntries (take i q) + 2) x))) (w .is) ∙ sheet-row i q (w .rest) z (w .packable) h
+    ap (λ x. decodeAssignment (take slotSize (drop (sizeEntries (take i q) + 2) x))) (w .is) ∙ sheet-row i q (w .rest) z (w .packable) h
 
 module _ (q : List ConsumerAssignment) (l : List ℕ) (w : Row q l) (m : ℕ) (h : m ≤ length q) where
-  pub row-read : entriesOf m l ≡ take m q
-  row-read = ap (entriesOf m) (w .is) ∙ read-row m q (w .rest) (w .packable) h
+  pub row-read : decodeEntries m l ≡ take m q
+  row-read = ap (decodeEntries m) (w .is) ∙ read-row m q (w .rest) (w .packable) h
 
   pub row-start : startEntries m l ≡ true
   row-start = ap (startEntries m) (w .is) ∙ start-row m q (w .rest) (w .packable) h

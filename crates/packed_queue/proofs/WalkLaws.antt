@@ -16,11 +16,11 @@ use lib.Dec.{leb}
 use borrow.Author.Tests.{le-leb, lt-leb, leb-true, eqb-true}
 use Rattle.parts.specs.BoolLaws.{both-true}
 use Rattle.packed_int.specs.Be.{beAt}
-use Rattle.packed.specs.Assignment.{num, assignmentOf, sizeAssignment, startsAssignment, isAssignment}
+use Rattle.packed.specs.Assignment.{num, decodeAssignment, sizeAssignment, startsAssignment, isAssignment}
 use Rattle.packed.specs.Answers.{wholeRead}
 use Rattle.packed.specs.declared.Packed.the-variants.{Assignment, Malformed}
 use Rattle.packed_queue.specs.declared.Entries.the-variants as entries
-use Rattle.packed_queue.specs.Entries.{sizeEntries, sheetIn, entryEnd, entriesOf, entriesEnd, startsEntry, startEntries}
+use Rattle.packed_queue.specs.Entries.{sizeEntries, sheetIn, entryEnd, decodeEntries, entriesEnd, startsEntry, startEntries}
 use Rattle.packed_queue.specs.Answers.{entrySize, entriesRead}
 
 -- ---- what the answer of `read_whole` says
@@ -43,7 +43,7 @@ whole-not l e = go (isAssignment l) refl
     go : (t : Bool) → isAssignment l ≡ t → isAssignment l ≡ false
     go false h = h
     go true h =
-        let f : Malformed ≡ Assignment (sizeAssignment (assignmentOf l)) (length (assignmentOf l .segments)) = e ∙ rw h in
+        let f : Malformed ≡ Assignment (sizeAssignment (decodeAssignment l)) (length (decodeAssignment l .segments)) = e ∙ rw h in
         let z : _≡_ {A = ℕ} 0 1 = cc in
         absurd (omega arith)
 
@@ -205,15 +205,15 @@ ends-inside (suc n) l e =
     omega (arith, entry-inside l (p .0), ends-inside n (drop (entryEnd l) l) (p .1), length-drop (entryEnd l) l)
 
 -- a sheet that fills its length has that size
-pub sheet-size : (l : List ℕ) → startsEntry l ≡ true → sizeAssignment (assignmentOf (sheetIn l)) ≡ num 2 l
+pub sheet-size : (l : List ℕ) → startsEntry l ≡ true → sizeAssignment (decodeAssignment (sheetIn l)) ≡ num 2 l
 unfolding sheetIn isAssignment
 sheet-size l e =
     let f : length (sheetIn l) ≡ num 2 l =
     length-take-le (num 2 l) (drop 2 l) (omega (arith, entry-inside l e, length-drop 2 l)) in
     eqb-true _ _ (both-true (startsAssignment (sheetIn l)) _ (entry-whole l e) .1) ∙ f
 
-pub ends-by-size : (n : ℕ) (l : List ℕ) → startEntries n l ≡ true → sizeEntries (entriesOf n l) ≡ entriesEnd n l
-unfolding startEntries entriesEnd entriesOf sizeEntries
+pub ends-by-size : (n : ℕ) (l : List ℕ) → startEntries n l ≡ true → sizeEntries (decodeEntries n l) ≡ entriesEnd n l
+unfolding startEntries entriesEnd decodeEntries sizeEntries
 ends-by-size zero l e = refl
 ends-by-size (suc n) l e =
     let p = both-true (startsEntry l) _ e in
@@ -241,11 +241,11 @@ start-split (suc k) n l h =
     (simp (p .0, q .0), ap (startEntries n) (sym (drop-drop (entriesEnd k m) (entryEnd l) l)) ∙ q .1)
 
 -- the first of them
-pub entries-take : (m n : ℕ) (l : List ℕ) → m ≤ n → take m (entriesOf n l) ≡ entriesOf m l
-unfolding entriesOf
+pub entries-take : (m n : ℕ) (l : List ℕ) → m ≤ n → take m (decodeEntries n l) ≡ decodeEntries m l
+unfolding decodeEntries
 entries-take zero n l h = refl
 entries-take (suc m) zero l h = absurd (omega arith)
-entries-take (suc m) (suc n) l h = ap (assignmentOf (sheetIn l) ∷_) (entries-take m n (drop (entryEnd l) l) (omega arith))
+entries-take (suc m) (suc n) l h = ap (decodeAssignment (sheetIn l) ∷_) (entries-take m n (drop (entryEnd l) l) (omega arith))
 
 -- ---- one of them
 

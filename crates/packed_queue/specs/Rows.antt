@@ -7,10 +7,10 @@ use mathlib.Core.List.{List, [], _∷_, _++_}
 use Rattle.ranges.specs.Overlap.{anyOverlap}
 use Rattle.packed_int.specs.Be.{bytesOf, be, beFrom}
 use Rattle.packed.specs.Assignment.{ConsumerAssignment, num, encodeRange, encodeRanges, encodeSegment, encodeSegments, encodeAssignment}
-use Rattle.packed.specs.Assignment.{sizeSegment, sizeSegments, sizeAssignment, rangeOf, rangesOf, segmentOf, segmentsOf, assignmentOf}
+use Rattle.packed.specs.Assignment.{sizeSegment, sizeSegments, sizeAssignment, decodeRange, decodeRanges, decodeSegment, decodeSegments, decodeAssignment}
 use Rattle.packed.specs.Assignment.{okAssignment, okFrom, okSegment, okBuckets, allInOrder, startsAssignment, isAssignment}
 use Rattle.packed.specs.Rows.{half, ofThree}
-use Rattle.packed_queue.specs.Entries.{encodeEntry, encodeEntries, sizeEntries, sheetIn, entriesOf, entriesEnd, startsEntry, startEntries}
+use Rattle.packed_queue.specs.Entries.{encodeEntry, encodeEntries, sizeEntries, sheetIn, decodeEntries, entriesEnd, startsEntry, startEntries}
 
 -- row B's list, and its 24 bytes
 abbrev pub list : ConsumerAssignment
@@ -29,7 +29,7 @@ pub record Rows : Type 0 where
   pub entries-bytes : encodeEntries (list ∷ list ∷ []) ++ (0xff ∷ []) ≡ two
   pub entries-size : sizeEntries (list ∷ list ∷ []) ≡ 52
   pub two-start : startEntries 2 two ≡ true
-  pub two-read : entriesOf 2 two ≡ list ∷ list ∷ []
+  pub two-read : decodeEntries 2 two ≡ list ∷ list ∷ []
   pub two-end : entriesEnd 2 two ≡ 52
   -- a third is not there
   pub three : startEntries 3 two ≡ false
@@ -43,7 +43,7 @@ pub record Rows : Type 0 where
   pub half-a-length : startEntries 1 (0 ∷ []) ≡ false
 
 pub rows : Rows
-unfolding bytesOf be beFrom num encodeAssignment encodeSegments encodeSegment encodeRanges encodeRange sizeAssignment sizeSegments sizeSegment rangeOf rangesOf segmentOf segmentsOf assignmentOf okAssignment okFrom okSegment okBuckets allInOrder anyOverlap startsAssignment isAssignment encodeEntry encodeEntries sizeEntries sheetIn entriesOf entriesEnd startsEntry startEntries
+unfolding bytesOf be beFrom num encodeAssignment encodeSegments encodeSegment encodeRanges encodeRange sizeAssignment sizeSegments sizeSegment decodeRange decodeRanges decodeSegment decodeSegments decodeAssignment okAssignment okFrom okSegment okBuckets allInOrder anyOverlap startsAssignment isAssignment encodeEntry encodeEntries sizeEntries sheetIn decodeEntries entriesEnd startsEntry startEntries
 rows =
     record {
       entry-bytes = refl;

@@ -11,7 +11,7 @@ use Rattle.packed_int.specs.Put.{put}
 use Rattle.wire.specs.Fields.{fieldsOf}
 use Rattle.schema.specs.declared.MessageKind.the-variants.{ScalableConsumerAssignment}
 use Rattle.schema.specs.FirstFault.{Sound}
-use Rattle.readers.specs.Messages.{assignmentOf}
+use Rattle.readers.specs.Messages.{readAssignment}
 use Rattle.packed.specs.Assignment.{ConsumerAssignment, encodeAssignment, sizeAssignment}
 use Rattle.content.specs.Content.{contentOf, taken}
 use Rattle.plain_intake.specs.declared.PlainIntake.{PlainIntake}
@@ -20,9 +20,9 @@ use Rattle.plain_intake.specs.declared.PlainIntake.the-variants.{Taken, 
 -- the assignment s has no fault, wherever it is nested; below the parent nothing refuses it; and the buffer holds it packed, in n bytes
 pub record PlainTaken (parent s b : List ℕ) (epoch n : ℕ) (b′ : List ℕ) : Type 0 where
   pub valid : (d : ℕ) → Sound d ScalableConsumerAssignment s
-  pub epoch-is : epoch ≡ assignmentOf (fieldsOf s) .layoutEpoch
+  pub epoch-is : epoch ≡ readAssignment (fieldsOf s) .layoutEpoch
   pub assignment : ConsumerAssignment
-  pub content : contentOf parent (assignmentOf (fieldsOf s)) ≡ taken assignment
+  pub content : contentOf parent (readAssignment (fieldsOf s)) ≡ taken assignment
   pub size : n ≡ sizeAssignment assignment
   pub packed : b′ ≡ put b 0 (encodeAssignment assignment)
 

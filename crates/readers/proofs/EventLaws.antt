@@ -17,7 +17,7 @@ use Rattle.values.proofs.FrontLaws.{NumberAt, PartAt, FixedAt, BrokenRow, bad-k
 use Rattle.values.proofs.WalkLaws.{Kept, kept-done, kept-next}
 use Rattle.readers.specs.declared.Event.{Event}
 use Rattle.readers.specs.declared.Event.the-variants as event
-use Rattle.readers.specs.Messages.{eventFields, eventBy, eventOf}
+use Rattle.readers.specs.Messages.{eventFields, eventBy, readEvent}
 use Rattle.readers.specs.Places.{EventIs, snapshotFrom, diffFrom}
 
 -- ---- one field more
@@ -177,14 +177,14 @@ broken-done bad-key k = sym (k .is)
 broken-done (cut-short f w) k = sym (k .is)
 
 module _ {m : List ℕ} {at : ℕ} {v : Event} (k : EventKept m at v) where
-  pub event-broken : BrokenAt m at → EventIs m (eventOf (fieldsOf m)) v
-  unfolding eventOf
+  pub event-broken : BrokenAt m at → EventIs m (readEvent (fieldsOf m)) v
+  unfolding readEvent
   event-broken q =
       event-is m v (memberOf eventFields (fieldsOf m)) (k .inside)
       (ap (soFar v) (k .split) ∙ far-skip v (k .seen) _ (broken-parts 2 (q .fields)) (broken-parts 3 (q .fields)) ∙ broken-done (q .fields) (k .kept))
 
-  pub event-done : length m ≤ at → EventIs m (eventOf (fieldsOf m)) v
-  unfolding eventOf
+  pub event-done : length m ≤ at → EventIs m (readEvent (fieldsOf m)) v
+  unfolding readEvent
   event-done h =
       let e = fields-end m at h in
       event-is m v (memberOf eventFields (fieldsOf m)) (k .inside)

@@ -30,8 +30,8 @@ pub record WireSegment : Type 0 where
   pub segmentTopic : List ℕ
   pub bucketRanges : List IntRange
 
-unfoldable pub segmentOf : List ℕ → WireSegment
-segmentOf p =
+unfoldable pub readSegment : List ℕ → WireSegment
+readSegment p =
     record {
       segmentId = numberIn 1 (fieldsOf p);
       hashStart = uint32Of (numberIn 2 (fieldsOf p));
@@ -45,8 +45,8 @@ pub record WireAssignment : Type 0 where
   pub layoutEpoch : ℕ
   pub segments : List WireSegment
 
-unfoldable pub assignmentOf : List Field → WireAssignment
-assignmentOf fs = record { layoutEpoch = numberIn 1 fs; segments = map segmentOf (partsOf 2 fs) }
+unfoldable pub readAssignment : List Field → WireAssignment
+readAssignment fs = record { layoutEpoch = numberIn 1 fs; segments = map readSegment (partsOf 2 fs) }
 
 -- ---- CommandScalableTopicAssignmentUpdate
 
@@ -55,7 +55,7 @@ pub record WireUpdate : Type 0 where
   pub assignment : WireAssignment
 
 unfoldable pub updateOf : List ℕ → WireUpdate
-updateOf m = record { consumerId = numberIn 1 (fieldsOf m); assignment = assignmentOf (mergedFields 2 (fieldsOf m)) }
+updateOf m = record { consumerId = numberIn 1 (fieldsOf m); assignment = readAssignment (mergedFields 2 (fieldsOf m)) }
 
 -- ---- CommandScalableTopicSubscribeResponse
 
@@ -78,7 +78,7 @@ responseOf m =
       error = codeOf (lastOf (numbersOf 2 (fieldsOf m)));
       message = lastPart (partsOf 3 (fieldsOf m));
       hasAssignment = present (partsOf 4 (fieldsOf m));
-      assignment = assignmentOf (mergedFields 4 (fieldsOf m));
+      assignment = readAssignment (mergedFields 4 (fieldsOf m));
     }
 
 -- ---- CommandWatchScalableTopicsUpdate
@@ -97,8 +97,8 @@ abbrev pub eventBy : Member → WireEvent
 eventBy absent = none
 eventBy (holds f fs) = cond (eqb f 2) (snapshot fs) (diff fs)
 
-unfoldable pub eventOf : List Field → WireEvent
-eventOf fs = eventBy (memberOf eventFields fs)
+unfoldable pub readEvent : List Field → WireEvent
+readEvent fs = eventBy (memberOf eventFields fs)
 
 pub record WireWatchUpdate : Type 0 where
   pub watchId : ℕ
@@ -110,7 +110,7 @@ unfoldable pub watchUpdateOf : List ℕ → WireWatchUpdate
 watchUpdateOf m =
     record {
       watchId = numberIn 1 (fieldsOf m);
-      event = eventOf (fieldsOf m);
+      event = readEvent (fieldsOf m);
       error = codeOf (lastOf (numbersOf 4 (fieldsOf m)));
       message = lastPart (partsOf 5 (fieldsOf m));
     }

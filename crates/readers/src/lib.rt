@@ -6,7 +6,7 @@
 ghost use mathlib.Core.Path.{_≡_};
 ghost use Rattle.wire.specs.Fields.{fieldsOf};
 ghost use Rattle.values.specs.Values.{numbersOf, lastOf};
-ghost use Rattle.readers.specs.Messages.{intRangeOf, codeOf, responseOf, eventOf, watchUpdateOf};
+ghost use Rattle.readers.specs.Messages.{intRangeOf, codeOf, responseOf, readEvent, watchUpdateOf};
 ghost use Rattle.readers.specs.Places.{headOf, UpdateIs, ResponseIs, EventIs, snapshotFrom, diffFrom, WatchIs};
 use values::Front;
 use values::Last;
@@ -153,7 +153,7 @@ fn diff_from(event: Event, at: usize) -> Event
 
 // The event of the watch update m: its last parts of field 2 or 3 that have no part of the other between them.
 fn read_event(m: &[u8]) -> Event
-    ensures { λ r. ⌜ EventIs (now (m .entry)) (eventOf (fieldsOf (now (m .entry)))) r ⌝ }
+    ensures { λ r. ⌜ EventIs (now (m .entry)) (readEvent (fieldsOf (now (m .entry)))) r ⌝ }
 {
     let mut event = Event::Nothing;
     let mut at: usize = 0;

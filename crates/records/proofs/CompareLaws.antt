@@ -17,7 +17,7 @@ use Rattle.parts.specs.Same.{sameBytes}
 use Rattle.parts.proofs.PartLaws.{Bytes}
 use Rattle.parts.proofs.SameLaws.{same-refl, same-eq}
 use Rattle.packed_int.specs.Be.{beAt}
-use Rattle.packed.specs.Assignment.{AssignedSegment, segmentOf, segmentsOf, assignmentOf, encodeSegment, encodeAssignment}
+use Rattle.packed.specs.Assignment.{AssignedSegment, decodeSegment, decodeSegments, decodeAssignment, encodeSegment, encodeAssignment}
 use Rattle.packed.specs.Assignment.{sizeSegment, sizeSegments, sizeAssignment, startsAssignment}
 use Rattle.packed.specs.Equal.{sameSegment, sameAssignment}
 use Rattle.packed.proofs.AssignmentLaws.{Rest, rest-start, rest-next, size-turn, first-segments}
@@ -37,31 +37,31 @@ refused false f = refl
 
 -- ---- records
 
-pub records-same : (l m : List ℕ) (z : ℕ) → Bytes l → Bytes m → z ≡ sizeSegment (segmentOf l) → z ≡ sizeSegment (segmentOf m)
-    → z ≤ length l → z ≤ length m → sameBytes (take z l) (take z m) ≡ sameSegment (segmentOf l) (segmentOf m)
-records-same l m z bl bm el em hl hm = alike (sameBytes (take z l) (take z m)) (sameSegment (segmentOf l) (segmentOf m)) to from
+pub records-same : (l m : List ℕ) (z : ℕ) → Bytes l → Bytes m → z ≡ sizeSegment (decodeSegment l) → z ≡ sizeSegment (decodeSegment m)
+    → z ≤ length l → z ≤ length m → sameBytes (take z l) (take z m) ≡ sameSegment (decodeSegment l) (decodeSegment m)
+records-same l m z bl bm el em hl hm = alike (sameBytes (take z l) (take z m)) (sameSegment (decodeSegment l) (decodeSegment m)) to from
   where
-    kl : sizeSegment (segmentOf l) ≤ length l
+    kl : sizeSegment (decodeSegment l) ≤ length l
     kl = omega arith
 
-    km : sizeSegment (segmentOf m) ≤ length m
+    km : sizeSegment (decodeSegment m) ≤ length m
     km = omega arith
 
-    wl : take z l ≡ take (sizeSegment (segmentOf l)) l
+    wl : take z l ≡ take (sizeSegment (decodeSegment l)) l
     wl = ap (λ (k : ℕ). take k l) el
 
-    wm : take z m ≡ take (sizeSegment (segmentOf m)) m
+    wm : take z m ≡ take (sizeSegment (decodeSegment m)) m
     wm = ap (λ (k : ℕ). take k m) em
 
-    to : sameBytes (take z l) (take z m) ≡ true → sameSegment (segmentOf l) (segmentOf m) ≡ true
+    to : sameBytes (take z l) (take z m) ≡ true → sameSegment (decodeSegment l) (decodeSegment m) ≡ true
     to e =
-        let g : segmentOf l ≡ segmentOf m = segment-same l m bl bm kl km (sym wl ∙ same-eq (take z l) (take z m) e ∙ wm) in
-        ap (sameSegment (segmentOf l)) (sym g) ∙ segment-refl (segmentOf l)
+        let g : decodeSegment l ≡ decodeSegment m = segment-same l m bl bm kl km (sym wl ∙ same-eq (take z l) (take z m) e ∙ wm) in
+        ap (sameSegment (decodeSegment l)) (sym g) ∙ segment-refl (decodeSegment l)
 
-    from : sameSegment (segmentOf l) (segmentOf m) ≡ true → sameBytes (take z l) (take z m) ≡ true
+    from : sameSegment (decodeSegment l) (decodeSegment m) ≡ true → sameBytes (take z l) (take z m) ≡ true
     from e =
         let g : take z l ≡ take z m =
-        wl ∙ sym (write-segment l kl bl) ∙ ap encodeSegment (segment-eq (segmentOf l) (segmentOf m) e) ∙ write-segment m km bm ∙ sym wm in
+        wl ∙ sym (write-segment l kl bl) ∙ ap encodeSegment (segment-eq (decodeSegment l) (decodeSegment m) e) ∙ write-segment m km bm ∙ sym wm in
         ap (sameBytes (take z l)) (sym g) ∙ same-refl (take z l)
 
 pub sizes-differ : (g h : AssignedSegment) → (sizeSegment g ≡ sizeSegment h → ⊥) → sameSegment g h ≡ false
@@ -69,34 +69,34 @@ sizes-differ g h f = refused (sameSegment g h) (λ e. f (ap sizeSegment (segment
 
 -- ---- packed assignments
 
-pub starts-fits : (s : List ℕ) → startsAssignment s ≡ true → sizeAssignment (assignmentOf s) ≤ length s
+pub starts-fits : (s : List ℕ) → startsAssignment s ≡ true → sizeAssignment (decodeAssignment s) ≤ length s
 unfolding startsAssignment
-starts-fits s e = leb-true _ _ (both-true (leb (sizeAssignment (assignmentOf s)) (length s)) _ e .0)
+starts-fits s e = leb-true _ _ (both-true (leb (sizeAssignment (decodeAssignment s)) (length s)) _ e .0)
 
-module _ (x y : List ℕ) (z : ℕ) (hx : sizeAssignment (assignmentOf x) ≤ length x) (ez : z ≡ sizeAssignment (assignmentOf y)) where
+module _ (x y : List ℕ) (z : ℕ) (hx : sizeAssignment (decodeAssignment x) ≤ length x) (ez : z ≡ sizeAssignment (decodeAssignment y)) where
   -- the second is longer than all the bytes of the first
-  pub assignments-short : length x < z → sameAssignment (assignmentOf x) (assignmentOf y) ≡ false
+  pub assignments-short : length x < z → sameAssignment (decodeAssignment x) (decodeAssignment y) ≡ false
   assignments-short h =
-      refused (sameAssignment (assignmentOf x) (assignmentOf y))
-      (λ e. let q : assignmentOf x ≡ assignmentOf y = assignment-eq (assignmentOf x) (assignmentOf y) e in omega (arith, ap sizeAssignment q))
+      refused (sameAssignment (decodeAssignment x) (decodeAssignment y))
+      (λ e. let q : decodeAssignment x ≡ decodeAssignment y = assignment-eq (decodeAssignment x) (decodeAssignment y) e in omega (arith, ap sizeAssignment q))
 
-  pub assignments-same : Bytes x → Bytes y → z ≤ length y → sameBytes (take z x) (take z y) ≡ sameAssignment (assignmentOf x) (assignmentOf y)
-  assignments-same bx by hy = alike (sameBytes (take z x) (take z y)) (sameAssignment (assignmentOf x) (assignmentOf y)) to from
+  pub assignments-same : Bytes x → Bytes y → z ≤ length y → sameBytes (take z x) (take z y) ≡ sameAssignment (decodeAssignment x) (decodeAssignment y)
+  assignments-same bx by hy = alike (sameBytes (take z x) (take z y)) (sameAssignment (decodeAssignment x) (decodeAssignment y)) to from
     where
-      wy : take z y ≡ encodeAssignment (assignmentOf y)
+      wy : take z y ≡ encodeAssignment (decodeAssignment y)
       wy = ap (λ (k : ℕ). take k y) ez ∙ sym (write-assignment y (omega arith) by)
 
-      to : sameBytes (take z x) (take z y) ≡ true → sameAssignment (assignmentOf x) (assignmentOf y) ≡ true
+      to : sameBytes (take z x) (take z y) ≡ true → sameAssignment (decodeAssignment x) (decodeAssignment y) ≡ true
       to e =
-          let f : x ≡ encodeAssignment (assignmentOf y) ++ drop z x =
+          let f : x ≡ encodeAssignment (decodeAssignment y) ++ drop z x =
           sym (take-append-drop z x) ∙ ap (λ (l : List ℕ). l ++ drop z x) (same-eq (take z x) (take z y) e ∙ wy) in
-          let g : assignmentOf x ≡ assignmentOf y = ap assignmentOf f ∙ read-assignment (assignmentOf y) (drop z x) (fit-assignment y by) in
-          ap (sameAssignment (assignmentOf x)) (sym g) ∙ assignment-refl (assignmentOf x)
+          let g : decodeAssignment x ≡ decodeAssignment y = ap decodeAssignment f ∙ read-assignment (decodeAssignment y) (drop z x) (fit-assignment y by) in
+          ap (sameAssignment (decodeAssignment x)) (sym g) ∙ assignment-refl (decodeAssignment x)
 
-      from : sameAssignment (assignmentOf x) (assignmentOf y) ≡ true → sameBytes (take z x) (take z y) ≡ true
+      from : sameAssignment (decodeAssignment x) (decodeAssignment y) ≡ true → sameBytes (take z x) (take z y) ≡ true
       from e =
-          let q : assignmentOf x ≡ assignmentOf y = assignment-eq (assignmentOf x) (assignmentOf y) e in
-          let n : z ≡ sizeAssignment (assignmentOf x) = ez ∙ ap sizeAssignment (sym q) in
+          let q : decodeAssignment x ≡ decodeAssignment y = assignment-eq (decodeAssignment x) (decodeAssignment y) e in
+          let n : z ≡ sizeAssignment (decodeAssignment x) = ez ∙ ap sizeAssignment (sym q) in
           let g : take z x ≡ take z y =
           ap (λ (k : ℕ). take k x) n ∙ sym (write-assignment x hx bx) ∙ ap encodeAssignment q ∙ sym wy in
           ap (sameBytes (take z x)) (sym g) ∙ same-refl (take z x)
@@ -106,7 +106,7 @@ module _ (x y : List ℕ) (z : ℕ) (hx : sizeAssignment (assignmentOf x) ≤ le
 -- at the place p, with so many records left: they stand there, and end where the packed assignment ends
 pub record Sized (s : List ℕ) (left p : ℕ) : Type 0 where
   pub rest : Rest s p left
-  pub sum : sizeAssignment (assignmentOf s) ≡ p + sizeSegments (segmentsOf left (drop p s))
+  pub sum : sizeAssignment (decodeAssignment s) ≡ p + sizeSegments (decodeSegments left (drop p s))
 
 pub sized-start : (s : List ℕ) (n : ℕ) → startsAssignment s ≡ true → n ≡ beAt 2 s 8 → Sized s n 10
 unfolding sizeAssignment
@@ -114,11 +114,11 @@ sized-start s n h e =
     record { rest = rest-start s n h e; sum = ap (λ (l : List AssignedSegment). 10 + sizeSegments l) (first-segments s n e) }
 
 module _ (s : List ℕ) (left p : ℕ) (v : Sized s left p) where
-  pub sized-next : (z : ℕ) → 0 < left → z ≡ sizeSegment (segmentOf (drop p s)) → Sized s (left - 1) (p + z)
+  pub sized-next : (z : ℕ) → 0 < left → z ≡ sizeSegment (decodeSegment (drop p s)) → Sized s (left - 1) (p + z)
   sized-next z h e = record { rest = rest-next s p left z h e (v .rest); sum = v .sum ∙ size-turn s p left z h e }
 
-  pub sized-end : left ≤ 0 → p ≡ sizeAssignment (assignmentOf s)
-  unfolding segmentsOf sizeSegments
+  pub sized-end : left ≤ 0 → p ≡ sizeAssignment (decodeAssignment s)
+  unfolding decodeSegments sizeSegments
   sized-end h =
       let e : left ≡ 0 = omega arith in
-      sym (v .sum ∙ ap (λ (n : ℕ). p + sizeSegments (segmentsOf n (drop p s))) e ∙ add-zero p)
+      sym (v .sum ∙ ap (λ (n : ℕ). p + sizeSegments (decodeSegments n (drop p s))) e ∙ add-zero p)

@@ -11,7 +11,7 @@ use lib.IntN.{ℤ, pos}
 use Rattle.types.specs.declared.SegmentId.{SegmentId}
 use Rattle.types.specs.declared.ControllerIncarnation.{ControllerIncarnation}
 use Rattle.types.specs.declared.KeyRangeError.{KeyRangeError}
-use Rattle.types.specs.KeyRanges.{kindOf, numbersOf}
+use Rattle.types.specs.KeyRanges.{errorKind, errorNumbers}
 use Rattle.refusal.specs.declared.Refusal.{Refusal}
 use Rattle.refusal.specs.declared.Refusal.the-variants.{StoreTooShort, OutputTooShort, InvalidWireFormat, WrongWireType}
 use Rattle.refusal.specs.declared.Refusal.the-variants.{MissingField, InvalidUtf8, IdentityTooLong, InvalidRange, InvalidKeyRange}
@@ -67,7 +67,7 @@ numberOf MalformedSave = 64
 
 -- the kind of an invalid range, then that kind's numbers
 abbrev pub sourceValues : KeyRangeError → List ℤ
-sourceValues e = pos (kindOf e) ∷ map pos (numbersOf e)
+sourceValues e = pos (errorKind e) ∷ map pos (errorNumbers e)
 
 abbrev pub idValue : SegmentId → ℤ
 idValue id = pos (id .0)

@@ -16,7 +16,7 @@ use denote.Enum.Declared.{tagOf}
 use Rattle.types.specs.declared.SegmentId.{SegmentId}
 use Rattle.types.specs.declared.KeyRangeError.{KeyRangeError}
 use Rattle.types.specs.declared.KeyRangeError.the-variants.{StartOutOfBounds, EndOutOfBounds, Reversed}
-use Rattle.types.specs.KeyRanges.{kindOf, numbersOf}
+use Rattle.types.specs.KeyRanges.{errorKind, errorNumbers}
 use Rattle.refusal.specs.declared.Refusal.{Refusal}
 use Rattle.refusal.proofs.Refusal.{the-type}
 use Rattle.refusal.specs.declared.Refusal.the-variants as refusal
@@ -34,7 +34,7 @@ refused-reply x e f = ap₂ (replyWith 0) e (sym f)
 
 -- a refused range has at most three values
 pub source-count : (s : KeyRangeError) (n : ℕ) {r : Reply} → r ≡ replyWith 0 n (sourceValues s) → r .count ≤ 3
-unfolding replyWith kindOf numbersOf
+unfolding replyWith errorKind errorNumbers
 source-count (StartOutOfBounds start) n e = subst (λ (r : Reply). r .count ≤ 3) (sym e) (omega arith)
 source-count (EndOutOfBounds end) n e = subst (λ (r : Reply). r .count ≤ 3) (sym e) (omega arith)
 source-count (Reversed start end) n e = subst (λ (r : Reply). r .count ≤ 3) (sym e) (omega arith)

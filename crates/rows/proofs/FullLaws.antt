@@ -17,16 +17,16 @@ use Rattle.parents.specs.Classes.{classOf}
 use Rattle.parents.specs.Parents.{beforeSlash, behindSlash, clean, hasThreeParts, frontClean, isPath, isParent}
 use Rattle.topic.specs.Names.{hex4, decimalWithin, decimal, descriptor, segmentTopic}
 use Rattle.wire.specs.Varints.{varintOf}
-use Rattle.wire.specs.Field.{keyOf, numberOf, partOf}
+use Rattle.wire.specs.Field.{keyOf, numberBody, partOf}
 use Rattle.wire.specs.Fields.{fieldsOf}
 use Rattle.schema.specs.Schema.{valueFor}
 use Rattle.schema.specs.Required.{isComplete}
 use Rattle.schema.specs.FirstFault.{firstFault}
-use Rattle.readers.specs.Messages.{segmentOf, assignmentOf, updateOf}
+use Rattle.readers.specs.Messages.{readSegment, readAssignment, updateOf}
 use Rattle.packed_int.specs.Be.{beFrom, be, beAt, bytesOf}
 use Rattle.packed_int.specs.Put.{put}
 use Rattle.packed.specs.Assignment.{ConsumerAssignment, sizeSegment, sizeSegments, sizeAssignment}
-use Rattle.packed_queue.specs.Entries.{sizeEntries, entriesOf, startEntries}
+use Rattle.packed_queue.specs.Entries.{sizeEntries, decodeEntries, startEntries}
 use Rattle.delta.specs.Rows.{oneHalf}
 use Rattle.content.specs.Content.{bucketFault, firstOutside, nameFault, segmentFault, firstRefusal}
 use Rattle.content.specs.Content.{assignedSegment, inIdOrder, consumerAssignment, contentOf}
@@ -36,11 +36,11 @@ use Rattle.session.specs.declared.SessionRecord.{SessionRecord}
 use Rattle.session.specs.declared.Floor.the-variants.{Unset}
 use Rattle.session.specs.declared.Answer.the-variants.{Refused, Accepted}
 use Rattle.session.specs.Store.{minOutput, slot, listIn, queueIn, queueReads}
-use Rattle.session.specs.Identity.{encodeIdentity, topicOf, subscriptionOf, consumerNameOf, isIdentity}
+use Rattle.session.specs.Identity.{encodeIdentity, identityTopic, subscriptionOf, consumerNameOf, isIdentity}
 use Rattle.session.specs.Session.{Session, Result, inUse, view, anyBeyond, damaged, refuse}
 use Rattle.session.specs.Update.{enqueue, updateUnregistered, updateCall}
 use Rattle.session.specs.Tails.{updateContent, updateValid}
-use Rattle.session.specs.Calls.{outcome, effectOf, OpenOutcome, openOutcome, updateOutcome}
+use Rattle.session.specs.Calls.{callOutcome, effectOf, OpenOutcome, openOutcome, updateOutcome}
 use Rattle.session.specs.Trace.{stepOf, Event, trace, final}
 use Rattle.session.specs.DemandThree.{Fresh, AllOfBytes}
 use Rattle.session.proofs.Model.{after, isNothing, valueTrace, valueFinal}
@@ -87,8 +87,8 @@ module _ (baseline list : ConsumerAssignment) where
 
     push-is : updateCall (queuing n q) messageA link minOutput ≡ updateUnregistered (queuing n q) (oneHalf 3)
     unfolding newKeyRange anyOverlap sameBytes startsWith table fits sequenceIn sequenceOf textAfter isUtf8 classOf beforeSlash behindSlash
-        clean hasThreeParts frontClean isPath isParent hex4 decimalWithin decimal descriptor segmentTopic varintOf keyOf numberOf partOf
-        fieldsOf valueFor isComplete firstFault segmentOf assignmentOf updateOf sizeSegment sizeSegments sizeAssignment bucketFault
+        clean hasThreeParts frontClean isPath isParent hex4 decimalWithin decimal descriptor segmentTopic varintOf keyOf numberBody partOf
+        fieldsOf valueFor isComplete firstFault readSegment readAssignment updateOf sizeSegment sizeSegments sizeAssignment bucketFault
         firstOutside nameFault segmentFault firstRefusal assignedSegment inIdOrder consumerAssignment contentOf updateContent updateValid
         updateCall
     push-is = rw not-damaged refl
@@ -130,7 +130,7 @@ module _ (baseline list : ConsumerAssignment) where
   full-value q = push-is 1024 q (omega arith)
 
   full-at : (r : SessionRecord) (st : List ℕ) (q : List ConsumerAssignment) → view r st ≡ queuing 1024 q
-      → stepOf r st (pushed messageA) ≡ outcome (Refused (PreBaselineBufferFull 1024)) r st (zeros minOutput)
+      → stepOf r st (pushed messageA) ≡ callOutcome (Refused (PreBaselineBufferFull 1024)) r st (zeros minOutput)
   unfolding updateOutcome view
   full-at r st q e =
       ap (λ x. effectOf x st (zeros minOutput))
@@ -163,7 +163,7 @@ module _ (r : SessionRecord) (st : List ℕ) (f : Fresh r) (baseline list : Cons
 
     full-on : k ≡ 1024
         → stepOf (final r st (replicate k (pushed messageA)) .state) (final r st (replicate k (pushed messageA)) .store) (pushed messageA)
-        ≡ outcome (Refused (PreBaselineBufferFull 1024)) (final r st (replicate k (pushed messageA)) .state)
+        ≡ callOutcome (Refused (PreBaselineBufferFull 1024)) (final r st (replicate k (pushed messageA)) .state)
         (final r st (replicate k (pushed messageA)) .store) (zeros minOutput)
     full-on e =
         full-at baseline list _ _ (grown [] k) (ends-on ∙ ap (λ n. queuing baseline list n (grown [] k)) e)
@@ -181,8 +181,8 @@ fresh : Fresh (recordOf false Unset 0)
 fresh = record { unregistered = refl; no-floor = refl; not-invalidated = refl; no-queue = refl; positions = refl }
 
 begins : view (recordOf false Unset 0) written ≡ queuing (listIn written 1) (listIn written 2) 0 []
-unfolding beFrom be beAt bytesOf put table fits sequenceIn sequenceOf textAfter isUtf8 entriesOf startEntries slot queueIn queueReads
-    encodeIdentity topicOf subscriptionOf consumerNameOf isIdentity inUse view
+unfolding beFrom be beAt bytesOf put table fits sequenceIn sequenceOf textAfter isUtf8 decodeEntries startEntries slot queueIn queueReads
+    encodeIdentity identityTopic subscriptionOf consumerNameOf isIdentity inUse view
 begins = refl
 
 -- what holds behind every open that comes to that holds behind this one
@@ -203,11 +203,11 @@ count =
     (count-on (recordOf false Unset 0) written fresh (listIn written 1) (listIn written 2) begins 1024 (omega arith))
 
 pub full : stepOf (behindPushes .state) (behindPushes .store) (pushed messageA)
-    ≡ outcome (Refused (PreBaselineBufferFull 1024)) (behindPushes .state) (behindPushes .store) (zeros minOutput)
+    ≡ callOutcome (Refused (PreBaselineBufferFull 1024)) (behindPushes .state) (behindPushes .store) (zeros minOutput)
 full =
     behind
     (λ o.
     stepOf (final (o .next) (o .store) pushes .state) (final (o .next) (o .store) pushes .store) (pushed messageA)
-    ≡ outcome (Refused (PreBaselineBufferFull 1024)) (final (o .next) (o .store) pushes .state) (final (o .next) (o .store) pushes .store)
+    ≡ callOutcome (Refused (PreBaselineBufferFull 1024)) (final (o .next) (o .store) pushes .state) (final (o .next) (o .store) pushes .store)
     (zeros minOutput))
     (full-on (recordOf false Unset 0) written fresh (listIn written 1) (listIn written 2) begins 1024 (omega arith) refl)

@@ -14,7 +14,7 @@ use Rattle.parents.specs.Classes.{classOf}
 use Rattle.parents.specs.Parents.{beforeSlash, behindSlash, clean, hasThreeParts, frontClean, isPath, isParent}
 use Rattle.topic.specs.Names.{hex4, decimalWithin, decimal, descriptor, segmentTopic}
 use Rattle.wire.specs.Varints.{varintOf}
-use Rattle.wire.specs.Field.{keyOf, numberOf, partOf}
+use Rattle.wire.specs.Field.{keyOf, numberBody, partOf}
 use Rattle.wire.specs.Fields.{fieldsOf}
 use Rattle.wire_writer.specs.Encode.{varintBytes, numberField, partHead, partField}
 use Rattle.schema.specs.Schema.{valueFor}
@@ -28,25 +28,25 @@ use Rattle.packed_int.specs.Be.{beFrom, be, beAt, bytesOf}
 use Rattle.packed_int.specs.Put.{put}
 use Rattle.packed.specs.Assignment as packed
 use Rattle.packed.specs.Assignment.{encodeRange, encodeRanges, encodeSegment, encodeSegments, encodeAssignment, sizeSegment, sizeSegments}
-use Rattle.packed.specs.Assignment.{num, rangeOf, rangesOf, segmentsOf, allInOrder, okBuckets, okSegment, okFrom, okAssignment, startsAssignment}
+use Rattle.packed.specs.Assignment.{num, decodeRange, decodeRanges, decodeSegments, allInOrder, okBuckets, okSegment, okFrom, okAssignment, startsAssignment}
 use Rattle.packed.specs.Assignment.{sizeAssignment, isAssignment}
 use Rattle.packed.specs.Rows.{half, ofThree, rising, bucketed}
 use Rattle.packed.specs.Equal.{sameRanges, sameSegment, sameSegments, sameAssignment}
-use Rattle.packed_queue.specs.Entries.{encodeEntry, encodeEntries, sizeEntries, sheetIn, entriesOf, startsEntry, startEntries}
+use Rattle.packed_queue.specs.Entries.{encodeEntry, encodeEntries, sizeEntries, sheetIn, decodeEntries, startsEntry, startEntries}
 use Rattle.delta.specs.Delta.{encodeIds, encodeDelta, sizeDelta}
 use Rattle.delta.specs.Change.{hasSame, without, deltaBetween}
 use Rattle.content.specs.Content.{bucketFault, firstOutside, nameFault, segmentFault, firstRefusal}
 use Rattle.content.specs.Content.{assignedSegment, inIdOrder, consumerAssignment, contentOf}
 use Rattle.session.specs.declared.Floor.the-variants.{Unset}
 use Rattle.session.specs.Store.{minStore, slot, listIn, queueIn, queueReads, writeOne}
-use Rattle.session.specs.Identity.{encodeIdentity, topicOf, subscriptionOf, consumerNameOf, isIdentity}
+use Rattle.session.specs.Identity.{encodeIdentity, identityTopic, subscriptionOf, consumerNameOf, isIdentity}
 use Rattle.session.specs.Session.{inUse, view, anyBeyond, damaged}
 use Rattle.session.specs.Update.{updateUnregistered, updateRegistered, updateCall}
 use Rattle.session.specs.Tails.{updateContent, updateValid, responseAssignment, responseContent, responseValid}
 use Rattle.session.specs.Response.{staleFault, lastList, responseCall}
 use Rattle.session.specs.Drain as session
 use Rattle.session.specs.Drain.{nextChange, drainCall}
-use Rattle.session.specs.Calls.{Outcome, openOutcome, updateOutcome, responseOutcome, drainOutcome}
+use Rattle.session.specs.Calls.{CallOutcome, openOutcome, updateOutcome, responseOutcome, drainOutcome}
 use Rattle.session.specs.Trace.{stepOf}
 use Rattle.rows.specs.Rows.{messageAt, messageA, bucket, messageOfTwo, written, zeros, opened, answered, pushed, drained, recordOf, storeOf}
 use Rattle.rows.specs.Rows.{entryAt, epochAlone, gainsHalf, registered, holds, refuses, holdsA, stillA, holdsNext, staleA, overTwo, joins}
@@ -57,13 +57,13 @@ use Rattle.rows.proofs.FullLaws.{queued, count, full}
 
 pub rows : Rows
 unfolding newKeyRange overlapsAny anyOverlap sameBytes startsWith table fits sequenceIn sequenceOf textAfter isUtf8 classOf beforeSlash
-    behindSlash clean hasThreeParts frontClean isPath isParent hex4 decimalWithin decimal descriptor segmentTopic varintOf keyOf numberOf
-    partOf fieldsOf valueFor isComplete firstFault readers.segmentOf readers.assignmentOf updateOf responseOf beFrom be beAt bytesOf put
-    encodeRange encodeRanges encodeSegment encodeSegments encodeAssignment sizeSegment sizeSegments sizeAssignment num rangeOf rangesOf
-    packed.segmentOf segmentsOf packed.assignmentOf allInOrder okBuckets okSegment okFrom okAssignment startsAssignment isAssignment
-    sameRanges sameSegment sameSegments sameAssignment encodeEntry encodeEntries sizeEntries sheetIn entriesOf startsEntry startEntries
+    behindSlash clean hasThreeParts frontClean isPath isParent hex4 decimalWithin decimal descriptor segmentTopic varintOf keyOf numberBody
+    partOf fieldsOf valueFor isComplete firstFault readers.readSegment readers.readAssignment updateOf responseOf beFrom be beAt bytesOf put
+    encodeRange encodeRanges encodeSegment encodeSegments encodeAssignment sizeSegment sizeSegments sizeAssignment num decodeRange decodeRanges
+    packed.decodeSegment decodeSegments packed.decodeAssignment allInOrder okBuckets okSegment okFrom okAssignment startsAssignment isAssignment
+    sameRanges sameSegment sameSegments sameAssignment encodeEntry encodeEntries sizeEntries sheetIn decodeEntries startsEntry startEntries
     encodeIds encodeDelta sizeDelta hasSame without deltaBetween bucketFault firstOutside nameFault segmentFault firstRefusal
-    assignedSegment inIdOrder consumerAssignment contentOf slot listIn queueIn queueReads writeOne encodeIdentity topicOf subscriptionOf
+    assignedSegment inIdOrder consumerAssignment contentOf slot listIn queueIn queueReads writeOne encodeIdentity identityTopic subscriptionOf
     consumerNameOf isIdentity inUse view anyBeyond damaged updateUnregistered updateRegistered updateContent updateValid updateCall
     staleFault lastList responseAssignment responseContent responseValid responseCall nextChange session.drained drainCall openOutcome updateOutcome
     responseOutcome drainOutcome int32Of intRangeOf varintBytes numberField partHead partField rangeMessage bucketFields segmentMessage
@@ -75,7 +75,7 @@ rows =
     let registers : stepOf (recordOf false Unset 0) (storeOf [] []) (answered 2) ≡ registered = refl in
     let held : stepOf (registered .next) (registered .store) (pushed messageA) ≡ holdsA = refl in
     let joined : stepOf (recordOf false Unset 0) (storeOf [] [] ++ zeros 52) (pushed messageA) ≡ joins 1 (entryAt 3 ++ zeros 26) = refl in
-    let over : (m : List ℕ) (x : Outcome) → stepOf (registered .next) (registered .store) (pushed m) ≡ x → overTwo m ≡ registered ∷ x ∷ [] =
+    let over : (m : List ℕ) (x : CallOutcome) → stepOf (registered .next) (registered .store) (pushed m) ≡ x → overTwo m ≡ registered ∷ x ∷ [] =
     λ m x e. run-is minStore (storeOf [] []) opens (answered 2 ∷ pushed m ∷ []) (registered ∷ x ∷ []) (registers, (e, tt)) in
     record {
       a-valid = refl;

@@ -37,7 +37,7 @@ use Rattle.session.specs.Identity.{Identity}
 use Rattle.session.specs.Session.{Session, atStart, refuse, floorFault}
 use Rattle.session.specs.Update.{updateUnregistered}
 use Rattle.session.specs.Drain.{withPosition}
-use Rattle.session.specs.Calls.{Outcome, outcome, OpenOutcome, openOutcome}
+use Rattle.session.specs.Calls.{CallOutcome, callOutcome, OpenOutcome, openOutcome}
 use Rattle.session.specs.Trace.{Call, update, response, drain, stepOf, Event, trace, End, final}
 
 -- ---- messages
@@ -91,12 +91,12 @@ abbrev pub drained : Call
 drained = drain 0 (zeros minOutput)
 
 -- what each call leaves, from a record and a store on
-abbrev pub outcomes : SessionRecord → List ℕ → List Call → List Outcome
+abbrev pub outcomes : SessionRecord → List ℕ → List Call → List CallOutcome
 outcomes r store [] = []
 outcomes r store (c ∷ cs) = stepOf r store c ∷ outcomes (stepOf r store c .next) (stepOf r store c .store) cs
 
 -- behind open
-abbrev pub runOn : ℕ → List Call → List Outcome
+abbrev pub runOn : ℕ → List Call → List CallOutcome
 runOn n calls = outcomes (opened n .next) (opened n .store) calls
 
 -- ---- what they leave
@@ -150,50 +150,50 @@ abbrev pub epochAlone : ℕ → List ℕ
 epochAlone epoch = output (epochBytes epoch ++ (0 ∷ 0 ∷ 0 ∷ 0 ∷ []))
 
 -- a response of epoch 2 without segments is accepted
-abbrev pub registered : Outcome
-registered = outcome Accepted (recordOf true (At 2) 0) (storeOf (emptyAt 2) (emptyAt 2)) []
+abbrev pub registered : CallOutcome
+registered = callOutcome Accepted (recordOf true (At 2) 0) (storeOf (emptyAt 2) (emptyAt 2)) []
 
 -- over it: a push that is held, with its delta in the output; a push that is refused, and nothing changes
-abbrev pub holds : ConsumerAssignment → Outcome
+abbrev pub holds : ConsumerAssignment → CallOutcome
 holds a =
     let d : AssignmentDelta = deltaBetween empty a in
-    outcome (Delta (sizeDelta d)) (recordOf true (At (a .layoutEpoch)) 0) (storeOf (emptyAt 2) (encodeAssignment a)) (output (encodeDelta d))
+    callOutcome (Delta (sizeDelta d)) (recordOf true (At (a .layoutEpoch)) 0) (storeOf (emptyAt 2) (encodeAssignment a)) (output (encodeDelta d))
 
-abbrev pub refuses : Refusal → Outcome
-refuses x = outcome (Refused x) (recordOf true (At 2) 0) (storeOf (emptyAt 2) (emptyAt 2)) (zeros minOutput)
+abbrev pub refuses : Refusal → CallOutcome
+refuses x = callOutcome (Refused x) (recordOf true (At 2) 0) (storeOf (emptyAt 2) (emptyAt 2)) (zeros minOutput)
 
 -- rows C to F, byte by byte: row A's push is held; again; the same segments at epoch 4; row A's at epoch 2
-abbrev pub holdsA : Outcome
-holdsA = outcome (Delta 26) (recordOf true (At 3) 0) (storeOf (emptyAt 2) (sheetAt 3)) (gainsHalf 3)
+abbrev pub holdsA : CallOutcome
+holdsA = callOutcome (Delta 26) (recordOf true (At 3) 0) (storeOf (emptyAt 2) (sheetAt 3)) (gainsHalf 3)
 
-abbrev pub stillA : Outcome
-stillA = outcome Unchanged (recordOf true (At 3) 0) (storeOf (emptyAt 2) (sheetAt 3)) (zeros minOutput)
+abbrev pub stillA : CallOutcome
+stillA = callOutcome Unchanged (recordOf true (At 3) 0) (storeOf (emptyAt 2) (sheetAt 3)) (zeros minOutput)
 
-abbrev pub holdsNext : Outcome
-holdsNext = outcome (Delta 12) (recordOf true (At 4) 0) (storeOf (emptyAt 2) (sheetAt 4)) (epochAlone 4)
+abbrev pub holdsNext : CallOutcome
+holdsNext = callOutcome (Delta 12) (recordOf true (At 4) 0) (storeOf (emptyAt 2) (sheetAt 4)) (epochAlone 4)
 
-abbrev pub staleA : Outcome
-staleA = outcome (Refused (StaleEpoch 2 3)) (recordOf true (At 3) 0) (storeOf (emptyAt 2) (sheetAt 3)) (zeros minOutput)
+abbrev pub staleA : CallOutcome
+staleA = callOutcome (Refused (StaleEpoch 2 3)) (recordOf true (At 3) 0) (storeOf (emptyAt 2) (sheetAt 3)) (zeros minOutput)
 
-abbrev pub overTwo : List ℕ → List Outcome
+abbrev pub overTwo : List ℕ → List CallOutcome
 overTwo message = runOn minStore (answered 2 ∷ pushed message ∷ [])
 
 -- a push joins the queue: how many are then queued, and the bytes of the queue's area
-abbrev pub joins : ℕ → List ℕ → Outcome
-joins count area = outcome Unchanged (recordOf false Unset count) (storeOf [] [] ++ area) (zeros minOutput)
+abbrev pub joins : ℕ → List ℕ → CallOutcome
+joins count area = callOutcome Unchanged (recordOf false Unset count) (storeOf [] [] ++ area) (zeros minOutput)
 
 -- a push is refused for want of room behind one
-abbrev pub noRoom : List ℕ → Outcome
-noRoom area = outcome (Refused (PreBaselineBufferFull 1)) (recordOf false Unset 1) (storeOf [] [] ++ area) (zeros minOutput)
+abbrev pub noRoom : List ℕ → CallOutcome
+noRoom area = callOutcome (Refused (PreBaselineBufferFull 1)) (recordOf false Unset 1) (storeOf [] [] ++ area) (zeros minOutput)
 
 -- a drain of reader 0 hands out the entry behind which its position then is
-abbrev pub replays : (place size position : ℕ) → (out : List ℕ) → Outcome
+abbrev pub replays : (place size position : ℕ) → (out : List ℕ) → CallOutcome
 replays place size position out =
-    outcome (Replay place size) (withPosition (recordOf true (At 4) 2) 0 position) (storeOf (emptyAt 2) (sheetAt 4) ++ (entryAt 3 ++ entryAt 4)) out
+    callOutcome (Replay place size) (withPosition (recordOf true (At 4) 2) 0 position) (storeOf (emptyAt 2) (sheetAt 4) ++ (entryAt 3 ++ entryAt 4)) out
 
 -- the response before
-abbrev pub replayed : Outcome
-replayed = outcome Accepted (recordOf true (At 4) 2) (storeOf (emptyAt 2) (sheetAt 4) ++ (entryAt 3 ++ entryAt 4)) []
+abbrev pub replayed : CallOutcome
+replayed = callOutcome Accepted (recordOf true (At 4) 2) (storeOf (emptyAt 2) (sheetAt 4) ++ (entryAt 3 ++ entryAt 4)) []
 
 -- 1,024 pushes of row A's message, each 26 bytes in the queue, and a store with room for just those
 abbrev pub pushes : List Call
@@ -251,7 +251,7 @@ pub record Rows : Type 0 where
   pub i-queued : map (λ (e : Event). e .none) (trace (opened roomy .next) (opened roomy .store) pushes) ≡ replicate 1024 true
   pub i-count : behindPushes .state ≡ recordOf false Unset 1024
   pub i-full : stepOf (behindPushes .state) (behindPushes .store) (pushed messageA)
-      ≡ outcome (Refused (PreBaselineBufferFull 1024)) (behindPushes .state) (behindPushes .store) (zeros minOutput)
+      ≡ callOutcome (Refused (PreBaselineBufferFull 1024)) (behindPushes .state) (behindPushes .store) (zeros minOutput)
   -- and any assignment that the floor lets pass, in any session as full, in values
   pub i-any : (s : Session) (a : ConsumerAssignment) → s .state .«queue_count» ≡ 1024
       → floorFault (a .layoutEpoch) (s .state .«epoch_floor») ≡ none → updateUnregistered s a ≡ refuse (PreBaselineBufferFull 1024) s

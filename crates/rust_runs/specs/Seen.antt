@@ -20,11 +20,11 @@ use Rattle.magnetar.specs.Session.{AssignmentDelta, AssignmentReplay, new}
 use Rattle.same_session.specs.Demand.{Told, refuses, baseline, done, no-change, delta, replay, Shown, Caller, rustRun}
 
 -- a list, its names left out
-abbrev pub segmentOf : AssignedSegment → port.AssignedSegment
-segmentOf s = record { segmentId = s .segment-id .0; range = s .key-range; buckets = s .bucket-ranges }
+abbrev pub messageSegment : AssignedSegment → port.AssignedSegment
+messageSegment s = record { segmentId = s .segment-id .0; range = s .key-range; buckets = s .bucket-ranges }
 
 abbrev pub listOf : ConsumerAssignment → port.ConsumerAssignment
-listOf a = record { layoutEpoch = a .layout-epoch; segments = map segmentOf (a .segments) }
+listOf a = record { layoutEpoch = a .layout-epoch; segments = map messageSegment (a .segments) }
 
 pub data Line : Type 0 where
   refused : (number : ℕ) → List ℤ → Text → Line
@@ -33,7 +33,7 @@ pub data Line : Type 0 where
   changed : (epoch : ℕ) → List ℕ → List port.AssignedSegment → Line
 
 abbrev pub changeOf : AssignmentDelta → Line
-changeOf d = changed (d .layout-epoch) (map (λ (id : SegmentId). id .0) (d .lost)) (map segmentOf (d .gained))
+changeOf d = changed (d .layout-epoch) (map (λ (id : SegmentId). id .0) (d .lost)) (map messageSegment (d .gained))
 
 abbrev pub lineOf : Told → Line
 lineOf (refuses x text) = refused (numberOf x) (valuesOf x) text

@@ -6,18 +6,18 @@ use mathlib.Core.Bool.{true, false}
 use mathlib.Core.List.{[], _∷_}
 use mathlib.Core.Option.{some, none}
 use lib.IntN.{pos, negsuc}
-use Rattle.types.specs.KeyRanges.{keyRange, kindOf, numbersOf}
+use Rattle.types.specs.KeyRanges.{keyRange, errorKind, errorNumbers}
 use Rattle.packed_int.specs.Be.{bytesOf}
 use Rattle.utf8.specs.Table.{table, fits, sequenceIn, sequenceOf, textAfter, isUtf8}
 use Rattle.topic.specs.Names.{hex4, decimalWithin, decimal}
 use Rattle.wire.specs.Varints.{varintOf}
-use Rattle.wire.specs.Field.{keyOf, numberOf, partOf}
+use Rattle.wire.specs.Field.{keyOf, numberBody, partOf}
 use Rattle.wire.specs.Fields.{fieldsOf}
 use Rattle.schema.specs.Schema.{valueFor}
 use Rattle.schema.specs.Required.{isComplete}
 use Rattle.schema.specs.FirstFault.{firstFault}
 use Rattle.values.specs.Integers.{int32Of}
-use Rattle.readers.specs.Messages.{intRangeOf, segmentOf, assignmentOf, updateOf, responseOf}
+use Rattle.readers.specs.Messages.{intRangeOf, readSegment, readAssignment, updateOf, responseOf}
 use Rattle.session.specs.Trace.{update, response, drain, begin, invalidate}
 use Rattle.rust_runs.specs.Seen.{refused, accepted, unchanged, changed, runOf, seen, list, segment, on}
 
@@ -56,8 +56,8 @@ pub session-0 : runOf (bytesOf 13 0x746f7069633a2f2f612f622f63)
     ∷ (seen (unchanged) (some (list 6 (segment 1 0x0009 0x8000 (keyRange 0x04ea 0x07ea ∷ keyRange 0x0d9c 0x2396 ∷ keyRange 0x4543 0x462c ∷ []) ∷ segment 3 0x0000 0x0005 ([]) ∷ []))) (some 6) 2 true false)
     ∷ (seen (accepted) (some (list 6 (segment 1 0x0009 0x8000 (keyRange 0x04ea 0x07ea ∷ keyRange 0x0d9c 0x2396 ∷ keyRange 0x4543 0x462c ∷ []) ∷ []))) (some 6) 2 true false)
     ∷ []
-unfolding bytesOf table fits sequenceIn sequenceOf textAfter isUtf8 hex4 decimalWithin decimal varintOf keyOf numberOf partOf fieldsOf valueFor
-    isComplete firstFault int32Of intRangeOf segmentOf assignmentOf updateOf responseOf kindOf numbersOf
+unfolding bytesOf table fits sequenceIn sequenceOf textAfter isUtf8 hex4 decimalWithin decimal varintOf keyOf numberBody partOf fieldsOf valueFor
+    isComplete firstFault int32Of intRangeOf readSegment readAssignment updateOf responseOf errorKind errorNumbers
 session-0 = refl
 
 pub session-1 : runOf (bytesOf 14 0x746f7069633a2f2f742f6e2f2f6d)
@@ -95,8 +95,8 @@ pub session-1 : runOf (bytesOf 14 0x746f7069633a2f2f742f6e2f2f6d)
     ∷ (seen (refused 13 (pos 2 ∷ []) ([])) none (some 5) 2 false false)
     ∷ (seen (unchanged) none (some 5) 2 false false)
     ∷ []
-unfolding bytesOf table fits sequenceIn sequenceOf textAfter isUtf8 hex4 decimalWithin decimal varintOf keyOf numberOf partOf fieldsOf valueFor
-    isComplete firstFault int32Of intRangeOf segmentOf assignmentOf updateOf responseOf kindOf numbersOf
+unfolding bytesOf table fits sequenceIn sequenceOf textAfter isUtf8 hex4 decimalWithin decimal varintOf keyOf numberBody partOf fieldsOf valueFor
+    isComplete firstFault int32Of intRangeOf readSegment readAssignment updateOf responseOf errorKind errorNumbers
 session-1 = refl
 
 pub session-2 : runOf (bytesOf 15 0x746f7069633a2f2f74302f6e312f6d)
@@ -134,8 +134,8 @@ pub session-2 : runOf (bytesOf 15 0x746f7069633a2f2f74302f6e312f6d)
     ∷ (seen (unchanged) (some (list 9 (segment 1 0x00ff 0xfffe ([]) ∷ segment 3 0x0005 0x7fff (keyRange 0x0d2d 0x191a ∷ []) ∷ segment 9 0xfffe 0xfffe ([]) ∷ segment 255 0x0009 0x00ff (keyRange 0x00ae 0x00fd ∷ keyRange 0x002a 0x0049 ∷ keyRange 0x0084 0x00ac ∷ []) ∷ []))) (some 9) 1 true false)
     ∷ (seen (changed 11 ([]) ([])) (some (list 11 (segment 1 0x00ff 0xfffe ([]) ∷ segment 3 0x0005 0x7fff (keyRange 0x0d2d 0x191a ∷ []) ∷ segment 9 0xfffe 0xfffe ([]) ∷ segment 255 0x0009 0x00ff (keyRange 0x00ae 0x00fd ∷ keyRange 0x002a 0x0049 ∷ keyRange 0x0084 0x00ac ∷ []) ∷ []))) (some 11) 1 true false)
     ∷ []
-unfolding bytesOf table fits sequenceIn sequenceOf textAfter isUtf8 hex4 decimalWithin decimal varintOf keyOf numberOf partOf fieldsOf valueFor
-    isComplete firstFault int32Of intRangeOf segmentOf assignmentOf updateOf responseOf kindOf numbersOf
+unfolding bytesOf table fits sequenceIn sequenceOf textAfter isUtf8 hex4 decimalWithin decimal varintOf keyOf numberBody partOf fieldsOf valueFor
+    isComplete firstFault int32Of intRangeOf readSegment readAssignment updateOf responseOf errorKind errorNumbers
 session-2 = refl
 
 pub session-3 : runOf (bytesOf 13 0x746f7069633a2f2f612f622f63)
@@ -173,8 +173,8 @@ pub session-3 : runOf (bytesOf 13 0x746f7069633a2f2f612f622f63)
     ∷ (seen (accepted) (some (list 7 (segment 1 0x7fff 0xfffe ([]) ∷ segment 3 0x0001 0xfffe ([]) ∷ segment 18446744073709551614 0x0100 0x7fff (keyRange 0x0c16 0x0cdf ∷ keyRange 0x6728 0x6ff9 ∷ keyRange 0x1841 0x647b ∷ []) ∷ []))) (some 7) 2 true false)
     ∷ (seen (refused 9 (pos 18446744073709551614 ∷ pos 3 ∷ pos 32767 ∷ pos 32766 ∷ []) ([])) (some (list 7 (segment 1 0x7fff 0xfffe ([]) ∷ segment 3 0x0001 0xfffe ([]) ∷ segment 18446744073709551614 0x0100 0x7fff (keyRange 0x0c16 0x0cdf ∷ keyRange 0x6728 0x6ff9 ∷ keyRange 0x1841 0x647b ∷ []) ∷ []))) (some 7) 2 true false)
     ∷ []
-unfolding bytesOf table fits sequenceIn sequenceOf textAfter isUtf8 hex4 decimalWithin decimal varintOf keyOf numberOf partOf fieldsOf valueFor
-    isComplete firstFault int32Of intRangeOf segmentOf assignmentOf updateOf responseOf kindOf numbersOf
+unfolding bytesOf table fits sequenceIn sequenceOf textAfter isUtf8 hex4 decimalWithin decimal varintOf keyOf numberBody partOf fieldsOf valueFor
+    isComplete firstFault int32Of intRangeOf readSegment readAssignment updateOf responseOf errorKind errorNumbers
 session-3 = refl
 
 pub session-4 : runOf (bytesOf 14 0x746f7069633a2f2f742f6e2f2f6d)
@@ -212,8 +212,8 @@ pub session-4 : runOf (bytesOf 14 0x746f7069633a2f2f742f6e2f2f6d)
     ∷ (seen (refused 14 (pos 255 ∷ []) ([])) (some (list 6 ([]))) (some 6) 2 true false)
     ∷ (seen (accepted) none (some 6) 3 false false)
     ∷ []
-unfolding bytesOf table fits sequenceIn sequenceOf textAfter isUtf8 hex4 decimalWithin decimal varintOf keyOf numberOf partOf fieldsOf valueFor
-    isComplete firstFault int32Of intRangeOf segmentOf assignmentOf updateOf responseOf kindOf numbersOf
+unfolding bytesOf table fits sequenceIn sequenceOf textAfter isUtf8 hex4 decimalWithin decimal varintOf keyOf numberBody partOf fieldsOf valueFor
+    isComplete firstFault int32Of intRangeOf readSegment readAssignment updateOf responseOf errorKind errorNumbers
 session-4 = refl
 
 pub session-5 : runOf (bytesOf 15 0x746f7069633a2f2f74302f6e312f6d)
@@ -251,8 +251,8 @@ pub session-5 : runOf (bytesOf 15 0x746f7069633a2f2f74302f6e312f6d)
     ∷ (seen (refused 11 (pos 4294967296 ∷ []) ([])) none none 1 false false)
     ∷ (seen (unchanged) none none 1 false false)
     ∷ []
-unfolding bytesOf table fits sequenceIn sequenceOf textAfter isUtf8 hex4 decimalWithin decimal varintOf keyOf numberOf partOf fieldsOf valueFor
-    isComplete firstFault int32Of intRangeOf segmentOf assignmentOf updateOf responseOf kindOf numbersOf
+unfolding bytesOf table fits sequenceIn sequenceOf textAfter isUtf8 hex4 decimalWithin decimal varintOf keyOf numberBody partOf fieldsOf valueFor
+    isComplete firstFault int32Of intRangeOf readSegment readAssignment updateOf responseOf errorKind errorNumbers
 session-5 = refl
 
 pub session-6 : runOf (bytesOf 13 0x746f7069633a2f2f612f622f63)
@@ -290,8 +290,8 @@ pub session-6 : runOf (bytesOf 13 0x746f7069633a2f2f612f622f63)
     ∷ (seen (changed 9 (1 ∷ 3 ∷ 255 ∷ 4294967296 ∷ []) (segment 18446744073709551614 0x0000 0xfffe ([]) ∷ [])) (some (list 9 (segment 18446744073709551614 0x0000 0xfffe ([]) ∷ []))) (some 9) 1 true false)
     ∷ (seen (unchanged) (some (list 9 (segment 18446744073709551614 0x0000 0xfffe ([]) ∷ []))) (some 9) 1 true false)
     ∷ []
-unfolding bytesOf table fits sequenceIn sequenceOf textAfter isUtf8 hex4 decimalWithin decimal varintOf keyOf numberOf partOf fieldsOf valueFor
-    isComplete firstFault int32Of intRangeOf segmentOf assignmentOf updateOf responseOf kindOf numbersOf
+unfolding bytesOf table fits sequenceIn sequenceOf textAfter isUtf8 hex4 decimalWithin decimal varintOf keyOf numberBody partOf fieldsOf valueFor
+    isComplete firstFault int32Of intRangeOf readSegment readAssignment updateOf responseOf errorKind errorNumbers
 session-6 = refl
 
 pub session-7 : runOf (bytesOf 12 0x746f7069633a2f2f742f2f6d)
@@ -329,8 +329,8 @@ pub session-7 : runOf (bytesOf 12 0x746f7069633a2f2f742f2f6d)
     ∷ (seen (unchanged) (some (list 3 ([]))) (some 3) 1 true false)
     ∷ (seen (unchanged) (some (list 3 ([]))) (some 3) 1 true false)
     ∷ []
-unfolding bytesOf table fits sequenceIn sequenceOf textAfter isUtf8 hex4 decimalWithin decimal varintOf keyOf numberOf partOf fieldsOf valueFor
-    isComplete firstFault int32Of intRangeOf segmentOf assignmentOf updateOf responseOf kindOf numbersOf
+unfolding bytesOf table fits sequenceIn sequenceOf textAfter isUtf8 hex4 decimalWithin decimal varintOf keyOf numberBody partOf fieldsOf valueFor
+    isComplete firstFault int32Of intRangeOf readSegment readAssignment updateOf responseOf errorKind errorNumbers
 session-7 = refl
 
 pub session-8 : runOf (bytesOf 15 0x746f7069633a2f2f74302f6e312f6d)
@@ -368,8 +368,8 @@ pub session-8 : runOf (bytesOf 15 0x746f7069633a2f2f74302f6e312f6d)
     ∷ (seen (refused 11 (pos 256 ∷ []) ([])) none none 1 false true)
     ∷ (seen (refused 23 (pos 2 ∷ pos 1 ∷ []) ([])) none none 1 false true)
     ∷ []
-unfolding bytesOf table fits sequenceIn sequenceOf textAfter isUtf8 hex4 decimalWithin decimal varintOf keyOf numberOf partOf fieldsOf valueFor
-    isComplete firstFault int32Of intRangeOf segmentOf assignmentOf updateOf responseOf kindOf numbersOf
+unfolding bytesOf table fits sequenceIn sequenceOf textAfter isUtf8 hex4 decimalWithin decimal varintOf keyOf numberBody partOf fieldsOf valueFor
+    isComplete firstFault int32Of intRangeOf readSegment readAssignment updateOf responseOf errorKind errorNumbers
 session-8 = refl
 
 pub session-9 : runOf (bytesOf 13 0x746f7069633a2f2f612f622f63)
@@ -407,8 +407,8 @@ pub session-9 : runOf (bytesOf 13 0x746f7069633a2f2f612f622f63)
     ∷ (seen (refused 11 (pos 8469050627660662598 ∷ []) ([])) none none 1 false false)
     ∷ (seen (unchanged) none none 1 false false)
     ∷ []
-unfolding bytesOf table fits sequenceIn sequenceOf textAfter isUtf8 hex4 decimalWithin decimal varintOf keyOf numberOf partOf fieldsOf valueFor
-    isComplete firstFault int32Of intRangeOf segmentOf assignmentOf updateOf responseOf kindOf numbersOf
+unfolding bytesOf table fits sequenceIn sequenceOf textAfter isUtf8 hex4 decimalWithin decimal varintOf keyOf numberBody partOf fieldsOf valueFor
+    isComplete firstFault int32Of intRangeOf readSegment readAssignment updateOf responseOf errorKind errorNumbers
 session-9 = refl
 
 pub session-10 : runOf (bytesOf 14 0x746f7069633a2f2f742f6e2f2f6d)
@@ -446,8 +446,8 @@ pub session-10 : runOf (bytesOf 14 0x746f7069633a2f2f742f6e2f2f6d)
     ∷ (seen (unchanged) none (some 8) 2 false false)
     ∷ (seen (unchanged) none (some 8) 2 false false)
     ∷ []
-unfolding bytesOf table fits sequenceIn sequenceOf textAfter isUtf8 hex4 decimalWithin decimal varintOf keyOf numberOf partOf fieldsOf valueFor
-    isComplete firstFault int32Of intRangeOf segmentOf assignmentOf updateOf responseOf kindOf numbersOf
+unfolding bytesOf table fits sequenceIn sequenceOf textAfter isUtf8 hex4 decimalWithin decimal varintOf keyOf numberBody partOf fieldsOf valueFor
+    isComplete firstFault int32Of intRangeOf readSegment readAssignment updateOf responseOf errorKind errorNumbers
 session-10 = refl
 
 pub session-11 : runOf (bytesOf 15 0x746f7069633a2f2f74302f6e312f6d)
@@ -485,8 +485,8 @@ pub session-11 : runOf (bytesOf 15 0x746f7069633a2f2f74302f6e312f6d)
     ∷ (seen (unchanged) none (some 3) 1 false true)
     ∷ (seen (unchanged) none (some 3) 1 false true)
     ∷ []
-unfolding bytesOf table fits sequenceIn sequenceOf textAfter isUtf8 hex4 decimalWithin decimal varintOf keyOf numberOf partOf fieldsOf valueFor
-    isComplete firstFault int32Of intRangeOf segmentOf assignmentOf updateOf responseOf kindOf numbersOf
+unfolding bytesOf table fits sequenceIn sequenceOf textAfter isUtf8 hex4 decimalWithin decimal varintOf keyOf numberBody partOf fieldsOf valueFor
+    isComplete firstFault int32Of intRangeOf readSegment readAssignment updateOf responseOf errorKind errorNumbers
 session-11 = refl
 
 pub session-12 : runOf (bytesOf 13 0x746f7069633a2f2f612f622f63)
@@ -524,8 +524,8 @@ pub session-12 : runOf (bytesOf 13 0x746f7069633a2f2f612f622f63)
     ∷ (seen (unchanged) (some (list 3 (segment 1 0x7fff 0x8000 (keyRange 0x7fff 0x8000 ∷ []) ∷ segment 3 0x00ff 0xffff ([]) ∷ segment 9 0x0001 0x00ff ([]) ∷ []))) (some 3) 1 true false)
     ∷ (seen (unchanged) (some (list 3 (segment 1 0x7fff 0x8000 (keyRange 0x7fff 0x8000 ∷ []) ∷ segment 3 0x00ff 0xffff ([]) ∷ segment 9 0x0001 0x00ff ([]) ∷ []))) (some 3) 1 true false)
     ∷ []
-unfolding bytesOf table fits sequenceIn sequenceOf textAfter isUtf8 hex4 decimalWithin decimal varintOf keyOf numberOf partOf fieldsOf valueFor
-    isComplete firstFault int32Of intRangeOf segmentOf assignmentOf updateOf responseOf kindOf numbersOf
+unfolding bytesOf table fits sequenceIn sequenceOf textAfter isUtf8 hex4 decimalWithin decimal varintOf keyOf numberBody partOf fieldsOf valueFor
+    isComplete firstFault int32Of intRangeOf readSegment readAssignment updateOf responseOf errorKind errorNumbers
 session-12 = refl
 
 pub session-13 : runOf (bytesOf 14 0x746f7069633a2f2f742f6e2f2f6d)
@@ -563,8 +563,8 @@ pub session-13 : runOf (bytesOf 14 0x746f7069633a2f2f742f6e2f2f6d)
     ∷ (seen (accepted) none (some 9) 1 false true)
     ∷ (seen (unchanged) none (some 9) 1 false true)
     ∷ []
-unfolding bytesOf table fits sequenceIn sequenceOf textAfter isUtf8 hex4 decimalWithin decimal varintOf keyOf numberOf partOf fieldsOf valueFor
-    isComplete firstFault int32Of intRangeOf segmentOf assignmentOf updateOf responseOf kindOf numbersOf
+unfolding bytesOf table fits sequenceIn sequenceOf textAfter isUtf8 hex4 decimalWithin decimal varintOf keyOf numberBody partOf fieldsOf valueFor
+    isComplete firstFault int32Of intRangeOf readSegment readAssignment updateOf responseOf errorKind errorNumbers
 session-13 = refl
 
 pub session-14 : runOf (bytesOf 15 0x746f7069633a2f2f74302f6e312f6d)
@@ -602,8 +602,8 @@ pub session-14 : runOf (bytesOf 15 0x746f7069633a2f2f74302f6e312f6d)
     ∷ (seen (refused 17 (pos 1 ∷ []) ([])) none none 1 false false)
     ∷ (seen (unchanged) none none 1 false false)
     ∷ []
-unfolding bytesOf table fits sequenceIn sequenceOf textAfter isUtf8 hex4 decimalWithin decimal varintOf keyOf numberOf partOf fieldsOf valueFor
-    isComplete firstFault int32Of intRangeOf segmentOf assignmentOf updateOf responseOf kindOf numbersOf
+unfolding bytesOf table fits sequenceIn sequenceOf textAfter isUtf8 hex4 decimalWithin decimal varintOf keyOf numberBody partOf fieldsOf valueFor
+    isComplete firstFault int32Of intRangeOf readSegment readAssignment updateOf responseOf errorKind errorNumbers
 session-14 = refl
 
 pub session-15 : runOf (bytesOf 12 0x746f7069633a2f2f742f2f6d)
@@ -641,8 +641,8 @@ pub session-15 : runOf (bytesOf 12 0x746f7069633a2f2f742f2f6d)
     ∷ (seen (unchanged) (some (list 5 ([]))) (some 5) 1 true false)
     ∷ (seen (refused 12 ([]) ([])) (some (list 5 ([]))) (some 5) 1 true false)
     ∷ []
-unfolding bytesOf table fits sequenceIn sequenceOf textAfter isUtf8 hex4 decimalWithin decimal varintOf keyOf numberOf partOf fieldsOf valueFor
-    isComplete firstFault int32Of intRangeOf segmentOf assignmentOf updateOf responseOf kindOf numbersOf
+unfolding bytesOf table fits sequenceIn sequenceOf textAfter isUtf8 hex4 decimalWithin decimal varintOf keyOf numberBody partOf fieldsOf valueFor
+    isComplete firstFault int32Of intRangeOf readSegment readAssignment updateOf responseOf errorKind errorNumbers
 session-15 = refl
 
 pub session-16 : runOf (bytesOf 14 0x746f7069633a2f2f742f6e2f2f6d)
@@ -680,8 +680,8 @@ pub session-16 : runOf (bytesOf 14 0x746f7069633a2f2f742f6e2f2f6d)
     ∷ (seen (refused 26 (pos 5 ∷ pos 6 ∷ []) ([])) none (some 6) 3 false false)
     ∷ (seen (accepted) (some (list 8 (segment 10 0x0100 0x8000 ([]) ∷ []))) (some 8) 3 true false)
     ∷ []
-unfolding bytesOf table fits sequenceIn sequenceOf textAfter isUtf8 hex4 decimalWithin decimal varintOf keyOf numberOf partOf fieldsOf valueFor
-    isComplete firstFault int32Of intRangeOf segmentOf assignmentOf updateOf responseOf kindOf numbersOf
+unfolding bytesOf table fits sequenceIn sequenceOf textAfter isUtf8 hex4 decimalWithin decimal varintOf keyOf numberBody partOf fieldsOf valueFor
+    isComplete firstFault int32Of intRangeOf readSegment readAssignment updateOf responseOf errorKind errorNumbers
 session-16 = refl
 
 pub session-17 : runOf (bytesOf 15 0x746f7069633a2f2f74302f6e312f6d)
@@ -719,8 +719,8 @@ pub session-17 : runOf (bytesOf 15 0x746f7069633a2f2f74302f6e312f6d)
     ∷ (seen (accepted) none (some 6) 3 false false)
     ∷ (seen (refused 25 (pos 3 ∷ pos 3 ∷ []) ([])) none (some 6) 3 false false)
     ∷ []
-unfolding bytesOf table fits sequenceIn sequenceOf textAfter isUtf8 hex4 decimalWithin decimal varintOf keyOf numberOf partOf fieldsOf valueFor
-    isComplete firstFault int32Of intRangeOf segmentOf assignmentOf updateOf responseOf kindOf numbersOf
+unfolding bytesOf table fits sequenceIn sequenceOf textAfter isUtf8 hex4 decimalWithin decimal varintOf keyOf numberBody partOf fieldsOf valueFor
+    isComplete firstFault int32Of intRangeOf readSegment readAssignment updateOf responseOf errorKind errorNumbers
 session-17 = refl
 
 pub session-18 : runOf (bytesOf 13 0x746f7069633a2f2f612f622f63)
@@ -758,8 +758,8 @@ pub session-18 : runOf (bytesOf 13 0x746f7069633a2f2f612f622f63)
     ∷ (seen (unchanged) none none 1 false false)
     ∷ (seen (refused 16 (pos 3 ∷ []) ([])) none none 1 false false)
     ∷ []
-unfolding bytesOf table fits sequenceIn sequenceOf textAfter isUtf8 hex4 decimalWithin decimal varintOf keyOf numberOf partOf fieldsOf valueFor
-    isComplete firstFault int32Of intRangeOf segmentOf assignmentOf updateOf responseOf kindOf numbersOf
+unfolding bytesOf table fits sequenceIn sequenceOf textAfter isUtf8 hex4 decimalWithin decimal varintOf keyOf numberBody partOf fieldsOf valueFor
+    isComplete firstFault int32Of intRangeOf readSegment readAssignment updateOf responseOf errorKind errorNumbers
 session-18 = refl
 
 pub session-19 : runOf (bytesOf 14 0x746f7069633a2f2f742f6e2f2f6d)
@@ -797,6 +797,6 @@ pub session-19 : runOf (bytesOf 14 0x746f7069633a2f2f742f6e2f2f6d)
     ∷ (seen (accepted) (some (list 5 (segment 2 0x0000 0x0001 (keyRange 0x0000 0x0001 ∷ []) ∷ segment 18446744073709551614 0x0005 0x0100 ([]) ∷ []))) (some 5) 1 true false)
     ∷ (seen (refused 10 (pos 2 ∷ pos 1 ∷ pos 9 ∷ pos 3 ∷ []) ([])) (some (list 5 (segment 2 0x0000 0x0001 (keyRange 0x0000 0x0001 ∷ []) ∷ segment 18446744073709551614 0x0005 0x0100 ([]) ∷ []))) (some 5) 1 true false)
     ∷ []
-unfolding bytesOf table fits sequenceIn sequenceOf textAfter isUtf8 hex4 decimalWithin decimal varintOf keyOf numberOf partOf fieldsOf valueFor
-    isComplete firstFault int32Of intRangeOf segmentOf assignmentOf updateOf responseOf kindOf numbersOf
+unfolding bytesOf table fits sequenceIn sequenceOf textAfter isUtf8 hex4 decimalWithin decimal varintOf keyOf numberBody partOf fieldsOf valueFor
+    isComplete firstFault int32Of intRangeOf readSegment readAssignment updateOf responseOf errorKind errorNumbers
 session-19 = refl

@@ -14,9 +14,9 @@ use Rattle.session.specs.declared.Answer.{Answer}
 use Rattle.session.specs.declared.Answer.the-variants as answer
 use Rattle.session.specs.Session.{Session, Result, view}
 use Rattle.session.specs.Drain.{Found, end, entry, drained, nextFor}
-use Rattle.session.specs.Calls.{Outcome}
+use Rattle.session.specs.Calls.{CallOutcome}
 use Rattle.session.specs.Trace as trace
-use Rattle.session.specs.Trace.{Call, stepOf, isAccepted, isNone, handedOut, eventOf, End, final}
+use Rattle.session.specs.Trace.{Call, stepOf, isAccepted, isNone, handedOut, traceEvent, End, final}
 use Rattle.session.proofs.Model.{accepts, resultOf}
 use Rattle.session.proofs.CallLaws.{update-cases, response-cases, drain-cases}
 use Rattle.session.proofs.TraceLaws.{accepted-is, step-is}
@@ -54,7 +54,7 @@ state-view r st = refl
 
 step-stays : (r : SessionRecord) (st : List ℕ) (w : Call) → isAccepted (stepOf r st w .answer) ≡ false → stepOf r st w .next ≡ r
 step-stays r st w =
-    subst (λ (o : Outcome). isAccepted (o .answer) ≡ false → o .next ≡ r) (sym (step-is r st w))
+    subst (λ (o : CallOutcome). isAccepted (o .answer) ≡ false → o .next ≡ r) (sym (step-is r st w))
     (λ e. call-stays (view r st) w (sym (accepted-is (resultOf (view r st) w .reply)) ∙ e) ∙ state-view r st)
 
 -- ---- one call
@@ -69,7 +69,7 @@ left-is r (answer.Replay place n) next stays = record-returns next
 
 module _ (r : Record) (st : List ℕ) where
   -- 01's call on the record that was given
-  abbrev pub stepped : ExportCall → Outcome
+  abbrev pub stepped : ExportCall → CallOutcome
   stepped c = stepOf (recordOf r) st (callOf c)
 
   pub lent-is : (c : ExportCall) → lentStep r st c ≡ lentOf r (stepped c)
@@ -114,14 +114,14 @@ delta-told answer.Unchanged out = refl
 delta-told (answer.Delta n) out = refl
 delta-told (answer.Replay place n) out = refl
 
-event-told : (c : ExportCall) (r : Record) (o : Outcome) → exportEvent (record { call = c; left = lentOf r o }) ≡ eventOf (callOf c) o
+event-told : (c : ExportCall) (r : Record) (o : CallOutcome) → exportEvent (record { call = c; left = lentOf r o }) ≡ traceEvent (callOf c) o
 event-told c r o = λ i.
     record {
       call = callOf c;
       accepted = accepted-told (o .answer) i;
       none = none-told (o .answer) i;
       delta = delta-told (o .answer) (o .out) i;
-      baseline = eventOf (callOf c) o .baseline;
+      baseline = traceEvent (callOf c) o .baseline;
     }
 
 -- ---- a list of calls

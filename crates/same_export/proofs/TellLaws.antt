@@ -15,7 +15,7 @@ use Rattle.session.specs.declared.Answer.{Answer}
 use Rattle.session.specs.declared.Answer.the-variants as answer
 use Rattle.session.specs.Store.{baselineSlot, maxQueue, listIn, queueIn}
 use Rattle.session.specs.Session.{positionOf}
-use Rattle.session.specs.Calls.{Outcome}
+use Rattle.session.specs.Calls.{CallOutcome}
 use Rattle.session.specs.Trace.{Call}
 use Rattle.session.specs.DemandThree.{held}
 use Rattle.reply.specs.Replies.{wordOf, wordAt, replyWith, refusedReply}
@@ -50,7 +50,7 @@ tells c (answer.Replay place n) state st out = (refl, refl)
 
 -- ---- what is seen after a call
 
-module _ (reader : ℕ) (c : ExportCall) (r : Record) (o : Outcome) (e : recordOf (leftRecord r (o .answer) (o .next)) ≡ o .next) where
+module _ (reader : ℕ) (c : ExportCall) (r : Record) (o : CallOutcome) (e : recordOf (leftRecord r (o .answer) (o .next)) ≡ o .next) where
   abbrev state : Record
   state = leftRecord r (o .answer) (o .next)
 
@@ -175,7 +175,7 @@ fed-seen-step reader c cs r st f =
     (fed-seen-by reader (rust.isOurs (o .answer)) (step r st c) (portShown reader (callOf c) o) (seen-step reader r st c) rest
     (fedCalls (o .next) (o .store) (callsOf cs)) (fedShown reader (o .next) (o .store) (callsOf cs)) behind)
   where
-    o : Outcome
+    o : CallOutcome
     o = stepped r st c
 
     rest : List Step

@@ -10,7 +10,7 @@ use mathlib.Core.Option.{Option, some, none}
 use lib.ListN.{take}
 use lib.Dec.{eqb}
 use Rattle.packed.specs.Assignment.{ConsumerAssignment}
-use Rattle.delta.specs.Delta.{AssignmentDelta, deltaOf}
+use Rattle.delta.specs.Delta.{AssignmentDelta, decodeDelta}
 use Rattle.session.specs.declared.Floor.{Floor}
 use Rattle.session.specs.declared.Floor.the-variants.{Unset, At}
 use Rattle.session.specs.Store.{baselineSlot, listSlot, listIn}
@@ -92,8 +92,8 @@ exportFloor r = cond (isSet (r .«has_floor»)) (At (r .«epoch_floor»)) Unset
 -- a delta that is handed out: its length is the first value, behind a place in the store the second
 abbrev pub deltaIn : Reply → (out : List ℕ) → Option AssignmentDelta
 deltaIn x out =
-    cond (eqb (x .answer) delta) (some (deltaOf (take (x .first) out)))
-    (cond (eqb (x .answer) replay) (some (deltaOf (take (x .second) out))) none)
+    cond (eqb (x .answer) delta) (some (decodeDelta (take (x .first) out)))
+    (cond (eqb (x .answer) replay) (some (decodeDelta (take (x .second) out))) none)
 
 -- a call, whether it was accepted, whether it answers none, the delta in its output, and the sheet then in the baseline slot
 abbrev pub exportEvent : Step → Event

@@ -15,7 +15,7 @@ use lib.Dec.{eqb}
 use Rattle.keyed.specs.Keyed.{filter}
 use Rattle.readers.specs.Messages.{responseOf}
 use Rattle.packed.specs.Assignment.{slotSize}
-use Rattle.delta.specs.Delta.{deltaOf}
+use Rattle.delta.specs.Delta.{decodeDelta}
 use Rattle.session.specs.Store.{baselineSlot, maxQueue, listIn, queueIn}
 use Rattle.session.specs.DemandThree.{AllOfBytes}
 use Rattle.magnetar.specs.Text.{Text}
@@ -48,10 +48,10 @@ Tells c l (rust.refuses x text) = (l .reply ≡ refusedReply x) × (textBeside c
 Tells c l (rust.baseline b) = (l .reply .answer ≡ accepted) × (asAssignment (topicIn (l .store)) (listIn (l .store) baselineSlot) ≡ b)
 Tells c l rust.done = l .reply .answer ≡ accepted
 Tells c l rust.no-change = l .reply .answer ≡ unchanged
-Tells c l (rust.delta d) = (l .reply .answer ≡ delta) × (asDelta (topicIn (l .store)) (deltaOf (take (l .reply .first) (l .out))) ≡ d)
+Tells c l (rust.delta d) = (l .reply .answer ≡ delta) × (asDelta (topicIn (l .store)) (decodeDelta (take (l .reply .first) (l .out))) ≡ d)
 Tells c l (rust.replay x) =
     (l .reply .answer ≡ replay)
-    × (asReplay (topicIn (l .store)) (sheetAt (l .store) (l .reply .first)) (deltaOf (take (l .reply .second) (l .out))) ≡ x)
+    × (asReplay (topicIn (l .store)) (sheetAt (l .store) (l .reply .first)) (decodeDelta (take (l .reply .second) (l .out))) ≡ x)
 
 -- so do the record's fields and the store, with what is left for that reader to drain
 pub record Sees (reader : ℕ) (c : ExportCall) (l : Lent) (x : Shown) : Type 0 where

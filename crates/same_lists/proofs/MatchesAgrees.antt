@@ -13,7 +13,7 @@ use Rattle.types.specs.declared.ScalableConsumerType.{ScalableConsumerType}
 use Rattle.types.specs.declared.ScalableConsumerType.the-variants.{Stream, Checkpoint}
 use Rattle.session.specs.declared.Match.the-variants.{Same, Other}
 use Rattle.session.specs.Store.{minStore, identitySlot, slot}
-use Rattle.session.specs.Identity.{Identity, kindByte, topicOf, subscriptionOf, consumerNameOf, kindOf, isIdentity}
+use Rattle.session.specs.Identity.{Identity, kindByte, identityTopic, subscriptionOf, consumerNameOf, identityKind, isIdentity}
 use Rattle.session.specs.Calls.{sameIdentity, matchOf}
 use Rattle.magnetar.specs.ConsumerType.{ScalableConsumerType-eq}
 use Rattle.magnetar.specs.Session.{ScalableConsumerSession, matches-registration}
@@ -32,9 +32,9 @@ kind-same k h = go (eqb k 1) refl
     go false e Stream = sym (eq-eqb k 0 (omega (arith, eqb-false k 1 e)))
     go false e Checkpoint = sym e
 
-kind-bound : (l : List ℕ) → isIdentity l ≡ true → kindOf l ≤ 1
+kind-bound : (l : List ℕ) → isIdentity l ≡ true → identityKind l ≤ 1
 unfolding isIdentity
-kind-bound l e = leb-true (kindOf l) 1 (both-true (leb (kindOf l) 1) _ e .0)
+kind-bound l e = leb-true (identityKind l) 1 (both-true (leb (identityKind l) 1) _ e .0)
 
 same-agrees : (l : List ℕ) (s : ScalableConsumerSession) (i : Identity) → isIdentity l ≡ true → HasIdentity l s
     → matches-registration s (i .topic) (i .subscription) (i .consumerName) (i .consumerType) ≡ sameIdentity l i
@@ -44,10 +44,10 @@ same-agrees l s i e h =
       h .subscription,
       h .consumer-name,
       h .consumer-type,
-      text-same (topicOf l) (i .topic),
+      text-same (identityTopic l) (i .topic),
       text-same (subscriptionOf l) (i .subscription),
       text-same (consumerNameOf l) (i .consumerName),
-      kind-same (kindOf l) (kind-bound l e) (i .consumerType),
+      kind-same (identityKind l) (kind-bound l e) (i .consumerType),
     )
 
 match-by : (t : Bool) → cond t Same Other ≡ matchBy t

@@ -23,7 +23,7 @@ use Rattle.topic.specs.Build.{buildName, canonicalSegmentTopic}
 use Rattle.segment_source.specs.Parse.{parseText, sourceStage, segmentSource}
 use Rattle.segment_source.proofs.RoundTrip.{reads-built}
 use Rattle.packed.specs.Assignment as port
-use Rattle.packed.specs.Assignment.{inOrder, okBuckets, okSegment, sizeAssignment, slotSize, okFrom, okAssignment, assignmentOf, startsAssignment}
+use Rattle.packed.specs.Assignment.{inOrder, okBuckets, okSegment, sizeAssignment, slotSize, okFrom, okAssignment, decodeAssignment, startsAssignment}
 use Rattle.packed.specs.Assignment.{isAssignment}
 use Rattle.packed.proofs.AssignmentLaws.{ok-good, ok-tail}
 use Rattle.packed.proofs.RoundLaws.{FitSegment, FitSegments, fit-assignment}
@@ -57,10 +57,10 @@ each-sound low [] f o = tt
 each-sound low (g ∷ gs) f o =
     (sound g (f .0) (ok-good low g gs o), each-sound (suc (g .segmentId)) gs (f .1) (ok-tail low g gs o))
 
-all-sound : (s : List ℕ) → Bytes s → isAssignment s ≡ true → Each Sound (assignmentOf s .segments)
+all-sound : (s : List ℕ) → Bytes s → isAssignment s ≡ true → Each Sound (decodeAssignment s .segments)
 unfolding isAssignment startsAssignment okAssignment
 all-sound s b e =
-    let a = assignmentOf s in
+    let a = decodeAssignment s in
     let starts = both-true (startsAssignment s) (eqb (sizeAssignment a) (length s)) e .0 in
     let ok = both-true (leb (sizeAssignment a) (length s)) (okAssignment a) starts .1 in
     each-sound 0 (a .segments) (fit-assignment s b .segments) (both-true (leb (sizeAssignment a) slotSize) (okFrom 0 (a .segments)) ok .1)
@@ -99,7 +99,7 @@ module _ (parent : List ℕ) (p : isParent parent ≡ true) (u : isUtf8 parent �
   topics-are out (g ∷ gs) S = ap₂ _∷_ (topic-is out g (S .0)) (topics-are out gs (S .1))
 
 pub source-agrees : SourceAgrees
-source-agrees s parent b e p u = sources-are parent p u (assignmentOf s .segments) (all-sound s b e)
+source-agrees s parent b e p u = sources-are parent p u (decodeAssignment s .segments) (all-sound s b e)
 
 pub topics-agree : TopicsAgrees
-topics-agree s parent out b e p u = topics-are parent p u out (assignmentOf s .segments) (all-sound s b e)
+topics-agree s parent out b e p u = topics-are parent p u out (decodeAssignment s .segments) (all-sound s b e)

@@ -22,7 +22,7 @@ use Rattle.parents.specs.Parents.{topicScheme, hasThreeParts, frontClean, isPat
 use Rattle.wire.specs.Fields.{fieldsOf}
 use Rattle.readers.specs.Messages.{WireSegment, WireAssignment}
 use Rattle.packed.specs.Assignment as port
-use Rattle.packed.specs.Assignment.{slotSize, sizeAssignment, okFrom, okAssignment, assignmentOf}
+use Rattle.packed.specs.Assignment.{slotSize, sizeAssignment, okFrom, okAssignment, decodeAssignment}
 use Rattle.packed.proofs.RoundLaws.{FitRange, FitRanges, FitSegment, FitSegments, fit-assignment}
 use Rattle.content.specs.Content.{taken, contentOf}
 use Rattle.keyed.proofs.EachLaws.{Each, each-map}
@@ -78,7 +78,7 @@ parent-unmarked t e =
 
 module _ (s parent o : List ℕ) (n : ℕ) (b : Bytes s) (short : length o < 2 ^ 64) (e : writeOutcome s parent o .answer ≡ Written n) where
   abbrev a : port.ConsumerAssignment
-  a = assignmentOf s
+  a = decodeAssignment s
 
   abbrev message : List ℕ
   message = assignmentMessage (pathOf parent) a
@@ -125,8 +125,8 @@ module _ (s parent o : List ℕ) (n : ℕ) (b : Bytes s) (short : length o < 2 ^
 pub to-pb-agrees : ToPbAgrees
 to-pb-agrees s parent o n b short e =
     written-is s parent o n b short e
-    ∙ ap (λ (l : List WireSegment). record { layoutEpoch = assignmentOf s .layoutEpoch; segments = l })
-    (segments-agree parent (assignmentOf s .segments) (fit-assignment s b .segments))
+    ∙ ap (λ (l : List WireSegment). record { layoutEpoch = decodeAssignment s .layoutEpoch; segments = l })
+    (segments-agree parent (decodeAssignment s .segments) (fit-assignment s b .segments))
 
 pub read-agrees : ReadAgrees
 read-agrees s parent o n b short e =

@@ -23,14 +23,14 @@ use Rattle.segment_source.specs.Parse.{segmentSource}
 use Rattle.wire.specs.Fields.{fieldsOf}
 use Rattle.readers.specs.Messages as readers
 use Rattle.packed.specs.Assignment as port
-use Rattle.packed.specs.Assignment.{assignmentOf, isAssignment}
+use Rattle.packed.specs.Assignment.{decodeAssignment, isAssignment}
 use Rattle.output.specs.declared.WriteAnswer.the-variants.{Written}
 use Rattle.writer.specs.Write.{writeOutcome}
 use Rattle.session.specs.declared.SessionRecord.{SessionRecord}
 use Rattle.session.specs.declared.Match.{Match}
 use Rattle.session.specs.declared.Match.the-variants.{Same, Other}
 use Rattle.session.specs.Store.{minStore, identitySlot, slot}
-use Rattle.session.specs.Identity.{Identity, topicOf, subscriptionOf, consumerNameOf, kindOf, isIdentity}
+use Rattle.session.specs.Identity.{Identity, identityTopic, subscriptionOf, consumerNameOf, identityKind, isIdentity}
 use Rattle.session.specs.Calls.{matchOf}
 use Rattle.magnetar.specs.Result.{Result, Ok}
 use Rattle.magnetar.specs.Text.{Text}
@@ -46,10 +46,10 @@ use Rattle.same_session.specs.Demand.{opened}
 
 -- a session of the Rust with the texts and the kind of an identity slot
 pub record HasIdentity (identity : List ℕ) (s : ScalableConsumerSession) : Type 0 where
-  pub topic : s .topic ≡ topicOf identity
+  pub topic : s .topic ≡ identityTopic identity
   pub subscription : s .subscription ≡ subscriptionOf identity
   pub consumer-name : s .consumer-name ≡ consumerNameOf identity
-  pub consumer-type : s .consumer-type ≡ asType (kindOf identity)
+  pub consumer-type : s .consumer-type ≡ asType (identityKind identity)
 
 -- the Rust's answer
 abbrev pub matchBy : Bool → Match
@@ -71,19 +71,19 @@ OpenedHas = (r : SessionRecord) (store : List ℕ) → HasIdentity (slot store i
 
 -- the message that the writer has written of the packed assignment s, read
 abbrev pub writtenOf : (s parent out : List ℕ) → ℕ → readers.WireAssignment
-writtenOf s parent out n = readers.assignmentOf (fieldsOf (take n (writeOutcome s parent out .out)))
+writtenOf s parent out n = readers.readAssignment (fieldsOf (take n (writeOutcome s parent out .out)))
 
 -- an output has fewer than 2 ^ 64 bytes, as every slice has
 abbrev pub ToPbAgrees : Type 0
 ToPbAgrees =
     (s parent out : List ℕ) (n : ℕ) → Bytes s → length out < 2 ^ 64 → writeOutcome s parent out .answer ≡ Written n
-    → writtenOf s parent out n ≡ ConsumerAssignment-to-pb (asAssignment parent (assignmentOf s))
+    → writtenOf s parent out n ≡ ConsumerAssignment-to-pb (asAssignment parent (decodeAssignment s))
 
 -- `try_from_pb` makes the assignment of what was written
 abbrev pub ReadAgrees : Type 0
 ReadAgrees =
     (s parent out : List ℕ) (n : ℕ) → Bytes s → length out < 2 ^ 64 → writeOutcome s parent out .answer ≡ Written n
-    → ConsumerAssignment-try-from-pb (writtenOf s parent out n) parent ≡ Ok (asAssignment parent (assignmentOf s))
+    → ConsumerAssignment-try-from-pb (writtenOf s parent out n) parent ≡ Ok (asAssignment parent (decodeAssignment s))
 
 -- ---- source
 
@@ -97,18 +97,18 @@ sourceBy parent g =
 abbrev pub SourceAgrees : Type 0
 SourceAgrees =
     (s parent : List ℕ) → Bytes s → isAssignment s ≡ true → isParent parent ≡ true → isUtf8 parent ≡ true
-    → map (sourceBy parent) (assignmentOf s .segments)
-    ≡ map (λ (r : AssignedSegment). Ok (source r)) (asAssignment parent (assignmentOf s) .segments)
+    → map (sourceBy parent) (decodeAssignment s .segments)
+    ≡ map (λ (r : AssignedSegment). Ok (source r)) (asAssignment parent (decodeAssignment s) .segments)
 
 -- ---- segment_topics
 
 -- the name builder, lent the parent and a segment's range and id
-abbrev pub topicBy : (parent out : List ℕ) → port.AssignedSegment → build.Outcome
+abbrev pub topicBy : (parent out : List ℕ) → port.AssignedSegment → build.NameOutcome
 topicBy parent out g = canonicalSegmentTopic parent (g .range .start) (g .range .end) (asId (g .segmentId)) out
 
 -- of each segment, in the order of ids: it writes the Rust's topic, or 21 where that does not fit
 abbrev pub TopicsAgrees : Type 0
 TopicsAgrees =
     (s parent out : List ℕ) → Bytes s → isAssignment s ≡ true → isParent parent ≡ true → isUtf8 parent ≡ true
-    → map (topicBy parent out) (assignmentOf s .segments)
-    ≡ map (λ (t : Text). build.written t out) (segment-topics (asAssignment parent (assignmentOf s)))
+    → map (topicBy parent out) (decodeAssignment s .segments)
+    ≡ map (λ (t : Text). build.written t out) (segment-topics (asAssignment parent (decodeAssignment s)))

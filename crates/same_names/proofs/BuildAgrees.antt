@@ -13,7 +13,7 @@ use Rattle.types.specs.KeyRanges.{newKeyRange}
 use Rattle.refusal.specs.declared.Refusal.the-variants as refusal
 use Rattle.parents.specs.Parents.{isParent, pathOf}
 use Rattle.topic.specs.Names.{segmentTopic}
-use Rattle.topic.specs.Build.{Outcome, refuse, written, buildName, canonicalSegmentTopic}
+use Rattle.topic.specs.Build.{NameOutcome, refuse, written, buildName, canonicalSegmentTopic}
 use Rattle.magnetar.specs.Result.{Result, Ok, Err, _>>=_, map-err}
 use Rattle.magnetar.specs.Text.{Text}
 use Rattle.magnetar.specs.SegmentTopic.{SegmentTopicError, InvalidParent, InvalidRange, canonical-segment-topic}
@@ -22,10 +22,10 @@ use Rattle.same_names.proofs.ParentAgrees.{segment-topic-agrees}
 use Rattle.same_names.proofs.RangeAgrees.{new-agrees, valid-made}
 
 -- a call with the outcome x, whose result in the Rust is r
-abbrev pub Gives : List ℕ → Outcome → Result Text SegmentTopicError → Type 0
+abbrev pub Gives : List ℕ → NameOutcome → Result Text SegmentTopicError → Type 0
 Gives out x r = fits out r ≡ true → x ≡ outcomeOf out r
 
-pub gives-by : (out : List ℕ) (x : Outcome) {r s : Result Text SegmentTopicError} → r ≡ s → Gives out x s → Gives out x r
+pub gives-by : (out : List ℕ) (x : NameOutcome) {r s : Result Text SegmentTopicError} → r ≡ s → Gives out x s → Gives out x r
 gives-by out x e g = subst (Gives out x) (sym e) g
 
 -- a text that fits is written
@@ -58,5 +58,5 @@ module _ (parent : Text) (id : SegmentId) (out : List ℕ) (m : isMarked parent 
 pub build-agrees : BuildAgrees
 unfolding canonicalSegmentTopic buildName
 build-agrees parent s e id out u m =
-    let x : Outcome = buildName parent (newKeyRange s e) id out in
+    let x : NameOutcome = buildName parent (newKeyRange s e) id out in
     rw u (gives-by out x (ap (behindRange parent id) (new-agrees s e)) (range-stage parent id out m s e (newKeyRange s e) refl))

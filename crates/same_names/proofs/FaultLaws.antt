@@ -7,7 +7,7 @@ use Rattle.refusal.specs.declared.Refusal.{Refusal}
 use Rattle.refusal.specs.declared.Refusal.the-variants.{InvalidWireFormat, WrongWireType, MissingField, InvalidUtf8}
 use Rattle.utf8.specs.Table.{isUtf8}
 use Rattle.wire.specs.declared.WireType.{WireType}
-use Rattle.wire.specs.Fields.{Content, number, bytes, fixed, cut, Field, badKey, field, fieldsOf}
+use Rattle.wire.specs.Fields.{Payload, number, bytes, fixed, cut, Field, badKey, field, fieldsOf}
 use Rattle.schema.specs.declared.MessageKind.{MessageKind}
 use Rattle.schema.specs.declared.ValueKind.{ValueKind}
 use Rattle.schema.specs.declared.ValueKind.the-variants as value
@@ -29,7 +29,7 @@ module _ (P : Refusal → Type 0) (wire : P InvalidWireFormat) (type : P WrongWi
   first-if (Refused x) b p q = p
 
   module _ (inner : MessageKind → List ℕ → Checked) (h : (k : MessageKind) (l : List ℕ) → IfRefused P (inner k l)) where
-    value-if : (v : ValueKind) (c : Content) → IfRefused P (checkValue inner v c)
+    value-if : (v : ValueKind) (c : Payload) → IfRefused P (checkValue inner v c)
     value-if v cut = wire
     value-if v (number n) = tt
     value-if v fixed = tt
@@ -38,7 +38,7 @@ module _ (P : Refusal → Type 0) (wire : P InvalidWireFormat) (type : P WrongWi
     value-if value.Text (bytes l) = choose (IfRefused P) (isUtf8 l) (λ t. tt) (λ t. text)
     value-if (value.Message k) (bytes l) = h k l
 
-    field-if : (v : ValueKind) (w : WireType) (c : Content) → IfRefused P (checkField inner v w c)
+    field-if : (v : ValueKind) (w : WireType) (c : Payload) → IfRefused P (checkField inner v w c)
     field-if v w c = choose (IfRefused P) (fitsWire v w) (λ t. value-if v c) (λ t. type)
 
     fields-if : (k : MessageKind) (fs : List Field) → IfRefused P (checkFields inner k fs)

@@ -34,7 +34,7 @@ use Rattle.utf8.specs.Table.{isUtf8}
 use Rattle.topic.specs.declared.NameAnswer.the-variants.{Written}
 use Rattle.parents.specs.Parents.{topicScheme, hasThreeParts, frontClean, isParent, pathOf}
 use Rattle.topic.specs.Names.{segmentScheme, segmentTopic}
-use Rattle.topic.specs.Build.{Outcome, outcome, refuse, canonicalSegmentTopic}
+use Rattle.topic.specs.Build.{NameOutcome, nameOutcome, refuse, canonicalSegmentTopic}
 use Rattle.segment_source.specs.declared.Parsed.{Parsed}
 use Rattle.segment_source.specs.declared.Parsed.the-variants as parsed
 use Rattle.segment_source.specs.declared.SourceAnswer.{SourceAnswer}
@@ -89,8 +89,8 @@ SegmentTopicAgrees =
     → canonical-segment-topic t range id ≡ cond (isParent t) (Ok (segmentTopic (pathOf t) range id)) (Err (InvalidParent t))
 
 -- a call with an output: the text at its front and the text's length, or a refusal and the output as it was
-abbrev pub outcomeOf : List ℕ → Result Text SegmentTopicError → Outcome
-outcomeOf out (Ok text) = outcome (Written (length text)) (put out 0 text)
+abbrev pub outcomeOf : List ℕ → Result Text SegmentTopicError → NameOutcome
+outcomeOf out (Ok text) = nameOutcome (Written (length text)) (put out 0 text)
 outcomeOf out (Err error) = refuse (paper error) out
 
 -- what the Rust gives fits the output

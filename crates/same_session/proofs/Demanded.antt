@@ -16,13 +16,13 @@ use Rattle.keyed.proofs.KeyedLaws.{choose}
 use Rattle.keyed.proofs.EachLaws.{Each}
 use Rattle.delta.specs.Join.{Proper}
 use Rattle.session.specs.declared.SessionRecord.{SessionRecord}
-use Rattle.packed_queue.specs.Entries.{entriesOf}
+use Rattle.packed_queue.specs.Entries.{decodeEntries}
 use Rattle.session.specs.Store.{identitySlot, slot, queueIn, writeAll}
-use Rattle.session.specs.Identity.{topicOf, subscriptionOf, consumerNameOf, kindOf}
+use Rattle.session.specs.Identity.{identityTopic, subscriptionOf, consumerNameOf, identityKind}
 use Rattle.session.specs.Session as session
 use Rattle.session.specs.Session.{Session, Reply, view}
 use Rattle.session.specs.Drain.{Found, end, entry, drained, nextFor}
-use Rattle.session.specs.Calls.{Outcome, answerOf, effectOf}
+use Rattle.session.specs.Calls.{CallOutcome, answerOf, effectOf}
 use Rattle.session.specs.Trace.{Call, update, response, drain, begin, invalidate, stepOf}
 use Rattle.session.specs.DemandThree.{Fresh, AllOfBytes}
 use Rattle.session.proofs.Model.{resultOf}
@@ -73,7 +73,7 @@ unfolding view
 state-view r st = refl
 
 -- of a call with that outcome, and the calls behind it
-abbrev FedFrom : (reader : ℕ) → Caller → Call → List Call → Outcome → Type 0
+abbrev FedFrom : (reader : ℕ) → Caller → Call → List Call → CallOutcome → Type 0
 FedFrom reader c w ws o =
     cond (isOurs (o .answer)) (fedShown reader (o .next) (o .store) ws) (portShown reader w o ∷ fedShown reader (o .next) (o .store) ws)
     ≡ rustRun c (cond (isOurs (o .answer)) (fedCalls (o .next) (o .store) ws) (w ∷ fedCalls (o .next) (o .store) ws))
@@ -131,12 +131,12 @@ registrationOf reader st =
       reader = reader;
       subscription = subscriptionOf (slot st identitySlot);
       consumer-name = consumerNameOf (slot st identitySlot);
-      consumer-type = asType (kindOf (slot st identitySlot));
+      consumer-type = asType (identityKind (slot st identitySlot));
     }
 
 start : (reader : ℕ) (r : SessionRecord) → Fresh r → (st : List ℕ) → isMarked (topicIn st) ≡ false
     → Mirror (registrationOf reader st) (view r st) (opened r st)
-unfolding view queueIn entriesOf
+unfolding view queueIn decodeEntries
 start reader r f st unmarked =
     record {
       unmarked = unmarked;
@@ -148,9 +148,9 @@ start reader r f st unmarked =
             is = λ i.
                 record {
                   session =
-                      sess (registrationOf reader st) (r .«consumer_id») (topicOf (slot st 0)) (r .incarnation) none
+                      sess (registrationOf reader st) (r .«consumer_id») (identityTopic (slot st 0)) (r .incarnation) none
                       (asFloor (sym (f .no-floor) i))
-                      (map (asAssignment (topicOf (slot st 0))) (queueIn st (sym (f .no-queue) i))) [] (sym (f .not-invalidated) i);
+                      (map (asAssignment (identityTopic (slot st 0))) (queueIn st (sym (f .no-queue) i))) [] (sym (f .not-invalidated) i);
                   taken = [];
                 };
             proper = subst (λ m. Each Proper (queueIn st m)) (sym (f .no-queue)) tt;
@@ -170,7 +170,7 @@ record AllFed (reader : ℕ) (r : SessionRecord) (st : List ℕ) (calls : List C
 all-fed : (reader : ℕ) (calls : List Call) (r : SessionRecord) (st : List ℕ) → noneOurs r st calls ≡ true → AllFed reader r st calls
 all-fed reader [] r st e = record { all = refl; shown = refl }
 all-fed reader (w ∷ ws) r st e =
-    let o : Outcome = stepOf r st w in
+    let o : CallOutcome = stepOf r st w in
     let p = both-true (not (isOurs (o .answer))) (noneOurs (o .next) (o .store) ws) e in
     let t : isOurs (o .answer) ≡ false = not-true (isOurs (o .answer)) (p .0) in
     let h : AllFed reader (o .next) (o .store) ws = all-fed reader ws (o .next) (o .store) (p .1) in

@@ -27,7 +27,7 @@ use Rattle.packed.specs.Equal.{sameAssignment}
 use Rattle.content.specs.Content.{Content, refused, taken, firstRefusal, consumerAssignment, contentBy, contentOf}
 use Rattle.session.specs.declared.SessionRecord.{SessionRecord}
 use Rattle.keyed.proofs.EachLaws.{Each, each-append, each-take}
-use Rattle.packed_queue.specs.Entries.{sizeEntry, entriesOf}
+use Rattle.packed_queue.specs.Entries.{sizeEntry, decodeEntries}
 use Rattle.packed_queue.proofs.EntryLaws.{size-most}
 use Rattle.session.specs.Store.{minStore, minOutput, maxQueue, identitySlot, slot, queueIn, queueEnd, writeAll}
 use Rattle.session.specs.Identity.{isIdentity}
@@ -37,7 +37,7 @@ use Rattle.session.specs.Update.{updateUnregistered, updateRegistered, updateCa
 use Rattle.session.specs.Tails.{updateContent, updateValid, updateChecked, responseValid, responseContent, responseAssignment, responseChecked}
 use Rattle.session.specs.Response.{staleFault, replayable, denied, responseCall}
 use Rattle.session.specs.Drain.{Found, end, entry, drained, nextFor, drainCall}
-use Rattle.session.specs.Calls.{Outcome}
+use Rattle.session.specs.Calls.{CallOutcome}
 use Rattle.session.specs.Trace.{Call, update, response, drain, begin, invalidate}
 use Rattle.session.specs.DemandThree.{Fresh, AllOfBytes}
 use Rattle.session.proofs.Model.{resultOf, pushes}
@@ -211,7 +211,7 @@ well-next room r st h x f p =
     }
 
 -- of a call with that outcome, and the calls behind it
-abbrev NoneFrom : List Call → Outcome → Type 0
+abbrev NoneFrom : List Call → CallOutcome → Type 0
 NoneFrom ws o = (not (isOurs (o .answer)) && noneOurs (o .next) (o .store) ws) ≡ true
 
 none-from : (room : ℕ) → room ≤ slotSize → (calls : List Call) (r : SessionRecord) (st : List ℕ) → Well room r st → AllOfBytes calls
@@ -231,7 +231,7 @@ none-from room most (w ∷ ws) r st h b e =
 
 well-fresh : (room : ℕ) (r : SessionRecord) (st : List ℕ) → Fresh r → storeFor room ≤ length st → isIdentity (slot st identitySlot) ≡ true
     → Well room r st
-unfolding view queueIn entriesOf
+unfolding view queueIn decodeEntries
 well-fresh room r st f big good =
     let k : Kept r st = kept-fresh r st f in
     record {

@@ -18,7 +18,7 @@ use Rattle.packed_queue.proofs.EntryLaws.{length-entriesOf}
 use Rattle.session.specs.Store.{listIn, queueIn, writeAll}
 use Rattle.session.specs.Session as session
 use Rattle.session.specs.Session.{Session, Reply, positionOf, view}
-use Rattle.session.specs.Drain.{Found, end, entry, placeOf, drained, nextFor}
+use Rattle.session.specs.Drain.{Found, end, entry, entryPlace, drained, nextFor}
 use Rattle.session.specs.Calls.{answerOf, outputOf, effectOf}
 use Rattle.session.specs.Trace.{Call, update, response, drain, begin, invalidate}
 use Rattle.session.proofs.Model.{resultOf, after}
@@ -96,7 +96,7 @@ Placed queue (session.refused x) = Unit {0}
 Placed queue session.accepted = Unit {0}
 Placed queue session.nothing = Unit {0}
 Placed queue (session.changed d) = Unit {0}
-Placed queue (session.replayed index place d) = (place ≡ placeOf queue index) × (index < length queue)
+Placed queue (session.replayed index place d) = (place ≡ entryPlace queue index) × (index < length queue)
 
 module _ (s : Session) (counted : length (s .queue) ≡ s .state .«queue_count») where
   abbrev PlacedIn : session.Result → Type 0
@@ -108,7 +108,7 @@ module _ (s : Session) (counted : length (s .queue) ≡ s .state .«queue_count�
   placed-found by (entry j d) e =
       let h : Next [] (s .baseline) 0 (s .baseline) (s .queue) (positionOf (s .state) by) j d =
       replays-entry [] (s .baseline) 0 (s .baseline) (s .queue) (positionOf (s .state) by) j d e in
-      subst (λ q. Placed q (session.replayed j (placeOf (s .queue) j) d)) (sym (take-at (s .queue) [] (s .state .«queue_count») counted))
+      subst (λ q. Placed q (session.replayed j (entryPlace (s .queue) j) d)) (sym (take-at (s .queue) [] (s .state .«queue_count») counted))
       (refl, omega (arith, h .at, h .inside))
 
   placed-call : (w : Call) → PlacedIn (resultOf s w)
@@ -125,7 +125,7 @@ view-counted r st = length-entriesOf (r .«queue_count») (drop 6144 st)
 
 module _ (r : SessionRecord) (st : List ℕ) (k : Kept r st) (w : Call) (out : List ℕ) where
   -- the list at an entry's byte place
-  sheet-entry : (i : ℕ) → i < length (view r st .queue) → sheetAt st (placeOf (view r st .queue) i) ≡ getD (view r st .queue) i (view r st .baseline)
+  sheet-entry : (i : ℕ) → i < length (view r st .queue) → sheetAt st (entryPlace (view r st .queue) i) ≡ getD (view r st .queue) i (view r st .baseline)
   unfolding view
   sheet-entry i h = queued-sheet st (r .«queue_count») (k .queue) i (listIn st 1) h
 

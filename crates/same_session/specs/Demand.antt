@@ -29,16 +29,16 @@ use Rattle.schema.specs.FirstFault.{firstFault}
 use Rattle.readers.specs.Messages.{WireAssignment, updateOf, responseOf}
 use Rattle.keyed.specs.Keyed.{isSome}
 use Rattle.packed.specs.Assignment as port
-use Rattle.packed.specs.Assignment.{slotSize, sizeAssignment, assignmentOf}
-use Rattle.delta.specs.Delta.{deltaOf}
+use Rattle.packed.specs.Assignment.{slotSize, sizeAssignment, decodeAssignment}
+use Rattle.delta.specs.Delta.{decodeDelta}
 use Rattle.content.specs.Content.{firstRefusal, consumerAssignment}
 use Rattle.session.specs.declared.SessionRecord.{SessionRecord}
 use Rattle.session.specs.declared.Answer.{Answer}
 use Rattle.session.specs.declared.Answer.the-variants.{Refused, Accepted, Unchanged, Delta, Replay}
 use Rattle.session.specs.Store.{minStore, minOutput, maxQueue, identitySlot, baselineSlot, slot, listIn, queueIn}
 use Rattle.session.specs.Session.{readers, positionOf}
-use Rattle.session.specs.Identity.{topicOf, subscriptionOf, consumerNameOf, kindOf, isIdentity}
-use Rattle.session.specs.Calls.{Outcome}
+use Rattle.session.specs.Identity.{identityTopic, subscriptionOf, consumerNameOf, identityKind, isIdentity}
+use Rattle.session.specs.Calls.{CallOutcome}
 use Rattle.session.specs.Trace.{Call, update, response, drain, begin, invalidate, stepOf}
 use Rattle.session.specs.Observers.{isResponse}
 use Rattle.session.specs.DemandThree.{Fresh, AllOfBytes, held}
@@ -80,7 +80,7 @@ pub record Shown : Type 0 where
 -- ---- the port's run
 
 abbrev pub topicIn : List ℕ → Text
-topicIn store = topicOf (slot store identitySlot)
+topicIn store = identityTopic (slot store identitySlot)
 
 -- "A text is handed back as a part of the message .. only `Broker` has one"
 abbrev pub textBeside : Call → Refusal → Text
@@ -92,18 +92,18 @@ textBeside invalidate x = []
 
 -- the list at a byte place of the store
 abbrev pub sheetAt : List ℕ → ℕ → port.ConsumerAssignment
-sheetAt store place = assignmentOf (take slotSize (drop place store))
+sheetAt store place = decodeAssignment (take slotSize (drop place store))
 
 -- an answer, with the lists and the delta that it refers to; "The baseline is read from its slot"
 abbrev pub toldBy : Call → Answer → List ℕ → List ℕ → Told
 toldBy c (Refused x) store out = refuses x (textBeside c x)
 toldBy c Accepted store out = cond (isResponse c) (baseline (asAssignment (topicIn store) (listIn store baselineSlot))) done
 toldBy c Unchanged store out = no-change
-toldBy c (Delta n) store out = delta (asDelta (topicIn store) (deltaOf (take n out)))
-toldBy c (Replay place n) store out = replay (asReplay (topicIn store) (sheetAt store place) (deltaOf (take n out)))
+toldBy c (Delta n) store out = delta (asDelta (topicIn store) (decodeDelta (take n out)))
+toldBy c (Replay place n) store out = replay (asReplay (topicIn store) (sheetAt store place) (decodeDelta (take n out)))
 
 -- with what is left for that reader to drain
-abbrev pub portShown : (reader : ℕ) → Call → Outcome → Shown
+abbrev pub portShown : (reader : ℕ) → Call → CallOutcome → Shown
 portShown reader c x =
     record {
       told = toldBy c (x .answer) (x .store) (x .out);
@@ -204,7 +204,7 @@ opened r store =
     let identity = slot store identitySlot in
     record {
       session =
-          new (r .«consumer_id») (topicOf identity) (subscriptionOf identity) (consumerNameOf identity) (asType (kindOf identity))
+          new (r .«consumer_id») (identityTopic identity) (subscriptionOf identity) (consumerNameOf identity) (asType (identityKind identity))
           (r .incarnation);
       taken = [];
     }

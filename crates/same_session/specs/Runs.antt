@@ -18,13 +18,13 @@ use Rattle.refusal.specs.declared.Refusal.the-variants.{NonAdvancingIncarnation
 use Rattle.utf8.specs.Table.{table, fits, sequenceIn, sequenceOf, textAfter, isUtf8}
 use Rattle.topic.specs.Names.{hex4, decimalWithin, decimal}
 use Rattle.wire.specs.Varints.{varintOf}
-use Rattle.wire.specs.Field.{keyOf, numberOf, partOf}
+use Rattle.wire.specs.Field.{keyOf, numberBody, partOf}
 use Rattle.wire.specs.Fields.{fieldsOf}
 use Rattle.schema.specs.Schema.{valueFor}
 use Rattle.schema.specs.Required.{isComplete}
 use Rattle.schema.specs.FirstFault.{firstFault}
 use Rattle.values.specs.Integers.{int32Of}
-use Rattle.readers.specs.Messages.{segmentOf, assignmentOf, updateOf, responseOf}
+use Rattle.readers.specs.Messages.{readSegment, readAssignment, updateOf, responseOf}
 use Rattle.content.specs.Rows.{parent, name}
 use Rattle.session.specs.Trace.{Call, update, response, drain, begin, invalidate}
 use Rattle.magnetar.specs.Text.{Text}
@@ -119,8 +119,8 @@ pub record Runs : Type 0 where
       ≡ refuses (Broker (pos 0)) (0x6e ∷ 0x6f ∷ []) ∷ baseline (none-at 3) ∷ refuses (Empty 1) [] ∷ []
 
 pub runs : Runs
-unfolding table fits sequenceIn sequenceOf textAfter isUtf8 hex4 decimalWithin decimal varintOf keyOf numberOf partOf fieldsOf valueFor
-    isComplete firstFault int32Of segmentOf assignmentOf updateOf responseOf
+unfolding table fits sequenceIn sequenceOf textAfter isUtf8 hex4 decimalWithin decimal varintOf keyOf numberBody partOf fieldsOf valueFor
+    isComplete firstFault int32Of readSegment readAssignment updateOf responseOf
 runs =
     record {
       rows-c-to-f = refl;

@@ -12,11 +12,11 @@ use Rattle.parts.specs.BoolLaws.{both-true}
 use Rattle.parts.proofs.PartLaws.{Bytes, Bytes-take}
 use Rattle.readers.specs.Messages.{watchUpdateOf}
 use Rattle.topics.specs.Topics.{rising, allShort}
-use Rattle.topics.specs.Packed.{topicsOf, isWhole, allUtf8, isSet}
+use Rattle.topics.specs.Packed.{decodeTopics, isWhole, allUtf8, isSet}
 use Rattle.topics.proofs.PackedLaws.{read-short}
-use Rattle.watch.specs.Watch.{Outcome}
+use Rattle.watch.specs.Watch.{WatchOutcome}
 use Rattle.magnetar.specs.Watch.{ScalableTopicsWatch, handle-update}
-use Rattle.same_watch.specs.Demand.{Update, Held, setIn, stepOf, heldAfter, portShown, rustRun, isOurs}
+use Rattle.same_watch.specs.Demand.{Update, Held, setIn, watchStep, heldAfter, portShown, rustRun, isOurs}
 use Rattle.same_watch.specs.Demand.{fedUpdates, fedShown, opened, DemandTwoWatch}
 use Rattle.same_watch.proofs.StepAgrees.{Good, Step, step-agrees}
 
@@ -25,7 +25,7 @@ module _ (id : ℕ) where
   abbrev Feeds : List Update → Type 0
   Feeds us = (h : Held) → allShort (setIn h) ≡ true → fedShown id h us ≡ rustRun (opened id h) (fedUpdates id h us)
 
-  fed-update : (u : Update) (us : List Update) → Feeds us → (h : Held) (x : Outcome) → allShort (setIn h) ≡ true
+  fed-update : (u : Update) (us : List Update) → Feeds us → (h : Held) (x : WatchOutcome) → allShort (setIn h) ≡ true
       → Step id h u x (handle-update (watchUpdateOf (u .message)) (opened id h))
       → cond (isOurs (x .answer)) (fedShown id (heldAfter h x) us) (portShown h u x ∷ fedShown id (heldAfter h x) us)
       ≡ rustRun (opened id h) (cond (isOurs (x .answer)) (fedUpdates id (heldAfter h x) us) (u ∷ fedUpdates id (heldAfter h x) us))
@@ -47,11 +47,11 @@ module _ (id : ℕ) where
 
   fed-run : (us : List Update) → Feeds us
   fed-run [] h s = refl
-  fed-run (u ∷ us) h s = fed-update u us (fed-run us) h (stepOf id h u) s (step-agrees id h u s)
+  fed-run (u ∷ us) h s = fed-update u us (fed-run us) h (watchStep id h u) s (step-agrees id h u s)
 
-set-short : (l : List ℕ) → Bytes l → isSet l ≡ true → allShort (topicsOf l) ≡ true
+set-short : (l : List ℕ) → Bytes l → isSet l ≡ true → allShort (decodeTopics l) ≡ true
 unfolding isSet
-set-short l b g = read-short l b (both-true (isWhole l) (allUtf8 (topicsOf l) && rising (topicsOf l)) g .0)
+set-short l b g = read-short l b (both-true (isWhole l) (allUtf8 (decodeTopics l) && rising (decodeTopics l)) g .0)
 
 pub demand-two-watch : DemandTwoWatch
 demand-two-watch id h b l g updates bytes =

@@ -22,7 +22,7 @@ use Rattle.schema.specs.FirstFault.{firstFault}
 use Rattle.readers.specs.Messages.{WireEvent, none, snapshot, diff, WireWatchUpdate, watchUpdateOf}
 use Rattle.keyed.proofs.KeyedLaws.{choose}
 use Rattle.topics.specs.Topics.{insertAll, sorted, rising, allShort}
-use Rattle.topics.specs.Packed.{topicsOf, encodeTopics, sizeTopics, isWhole, allUtf8, isSet}
+use Rattle.topics.specs.Packed.{decodeTopics, encodeTopics, sizeTopics, isWhole, allUtf8, isSet}
 use Rattle.topics.proofs.PackedLaws.{length-encode, size-append, size-topics, read-short}
 use Rattle.topic_lists.proofs.SizeLaws.{size-insertAll, size-filter}
 use Rattle.values.specs.Values.{partsOf}
@@ -30,11 +30,11 @@ use Rattle.topic_window.specs.declared.Listing.the-variants.{Added, Removed}
 use Rattle.topic_window.specs.Lists.{kept, isListed, addedOf, removedOf}
 use Rattle.watch.specs.declared.WatchAnswer.{WatchAnswer}
 use Rattle.watch.specs.declared.WatchAnswer.the-variants.{Changed, Refused}
-use Rattle.watch.specs.Watch.{Change, Outcome, snapshotBy, diffBy, settle, byEvent, forWatch, whenChecked, handleUpdate}
+use Rattle.watch.specs.Watch.{Change, WatchOutcome, snapshotBy, diffBy, settle, byEvent, forWatch, whenChecked, handleUpdate}
 use Rattle.watch.proofs.Keeps.{leaves-of-short}
 use Rattle.magnetar.specs.Text.{Text}
 use Rattle.magnetar.specs.Watch.{Snapshot, Diff, ScalableTopicsWatch, WatchDid, handle-event, handle-update}
-use Rattle.same_watch.specs.Demand.{Shown, Update, Held, setIn, stepOf, usedAfter, heldAfter, portShown, rustRun, isOurs, fedUpdates, fedShown}
+use Rattle.same_watch.specs.Demand.{Shown, Update, Held, setIn, watchStep, usedAfter, heldAfter, portShown, rustRun, isOurs, fedUpdates, fedShown}
 use Rattle.same_watch.specs.Demand.{opened, isTaken, namedBy, fitsDid}
 use Rattle.same_watch.specs.Demand.{namedSize, allNamed, roomyUpdate, allRoomy, noneOurs, portRun, RoomyRun, NoneDueRun, DemandTwoWatchOfInputs}
 use Rattle.same_watch.proofs.LoopLaws.{did, diff-is, snapshot-is}
@@ -123,7 +123,7 @@ module _ (buffer out : List ℕ) where
   MovesBy (Changed set n) b = set ≤ length buffer
   MovesBy (Refused x) b = b ≡ buffer
 
-  abbrev Moves : Outcome → Type 0
+  abbrev Moves : WatchOutcome → Type 0
   Moves x = (length (x .buffer) ≡ length buffer) × MovesBy (x .answer) (x .buffer)
 
   moves-settle : (c : Change) → Moves (settle buffer out c)
@@ -154,7 +154,7 @@ module _ (buffer out : List ℕ) where
   unfolding handleUpdate forWatch byEvent settle
   moves id used m =
       choose Moves (leb used (length buffer) && isSet (take used buffer))
-      (λ e. moves-checked id (topicsOf (take used buffer)) m (firstFault CommandWatchScalableTopicsUpdate m)) (λ e. (refl, refl))
+      (λ e. moves-checked id (decodeTopics (take used buffer)) m (firstFault CommandWatchScalableTopicsUpdate m)) (λ e. (refl, refl))
 
 -- a well-formed set of short topics, with room for so many bytes more
 record Formed (more : ℕ) (h : Held) : Type 0 where
@@ -167,8 +167,8 @@ module _ (id : ℕ) (h : Held) (u : Update) (more : ℕ) (f : Formed (namedSize 
   abbrev w : WireWatchUpdate
   w = watchUpdateOf (u .message)
 
-  abbrev x : Outcome
-  x = stepOf id h u
+  abbrev x : WatchOutcome
+  x = watchStep id h u
 
   read : (isTaken (firstFault CommandWatchScalableTopicsUpdate (u .message)) ≡ true)
       × (allShort (namedBy (w .event)) && (ltb (namedSize u) (2 ^ 32) && leb (5 + namedSize u) (length (u .out)))) ≡ true
@@ -224,14 +224,14 @@ module _ (id : ℕ) where
   none-from [] h f q = refl
   none-from (u ∷ us) h f q =
       let p = both-true (roomyUpdate u) (allRoomy us) q in
-      both (not (isOurs (stepOf id h u .answer))) _ (ap not (clean id h u (allNamed us) f (p .0)))
-      (none-from us (heldAfter h (stepOf id h u)) (next-formed id h u (allNamed us) f (p .0)) (p .1))
+      both (not (isOurs (watchStep id h u .answer))) _ (ap not (clean id h u (allNamed us) f (p .0)))
+      (none-from us (heldAfter h (watchStep id h u)) (next-formed id h u (allNamed us) f (p .0)) (p .1))
 
   -- where none of ours is due, no update is left out
   all-fed : (us : List Update) (h : Held) → noneOurs id h us ≡ true → (fedUpdates id h us ≡ us) × (fedShown id h us ≡ portRun id h us)
   all-fed [] h q = (refl, refl)
   all-fed (u ∷ us) h q =
-      let x = stepOf id h u in
+      let x = watchStep id h u in
       let p = both-true (not (isOurs (x .answer))) (noneOurs id (heldAfter h x) us) q in
       let r = all-fed us (heldAfter h x) (p .1) in
       let o : isOurs (x .answer) ≡ false = not-true (isOurs (x .answer)) (p .0) in
@@ -242,7 +242,7 @@ unfolding isSet
 start-formed h updates q =
     let l = take (h .used) (h .buffer) in
     let b = Bytes-take (h .used) (h .buffer) (q .bytes) in
-    let whole = both-true (isWhole l) (allUtf8 (topicsOf l) && rising (topicsOf l)) (q .set) .0 in
+    let whole = both-true (isWhole l) (allUtf8 (decodeTopics l) && rising (decodeTopics l)) (q .set) .0 in
     record {
       inside = omega (arith, q .room);
       set = q .set;

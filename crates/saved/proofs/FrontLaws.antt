@@ -15,12 +15,12 @@ use borrow.Author.Tests.{le-leb}
 use Rattle.parts.specs.BoolLaws.{both-true}
 use Rattle.parts.proofs.PartLaws.{drop-take}
 use Rattle.packed_int.specs.Be.{be}
-use Rattle.packed.specs.Assignment.{ConsumerAssignment, num, assignmentOf, isAssignment, startsAssignment}
-use Rattle.packed_queue.specs.Entries.{sheetIn, entryEnd, entriesOf, entriesEnd, startsEntry, startEntries}
+use Rattle.packed.specs.Assignment.{ConsumerAssignment, num, decodeAssignment, isAssignment, startsAssignment}
+use Rattle.packed_queue.specs.Entries.{sheetIn, entryEnd, decodeEntries, entriesEnd, startsEntry, startEntries}
 use Rattle.packed_queue.proofs.WalkLaws.{ends-inside, ends-by-size, entry-inside, entry-whole}
 use Rattle.session.specs.declared.SessionRecord.{SessionRecord}
 use Rattle.session.specs.Store.{slot, listIn, queueIn, queueReads, queueEnd}
-use Rattle.session.specs.Identity.{topicOf, isIdentity}
+use Rattle.session.specs.Identity.{identityTopic, isIdentity}
 use Rattle.session.specs.Session.{listsStart, inUse, view, anyBeyond, damaged}
 use Rattle.session_store.specs.Places.{QueueEnds}
 use Rattle.session_store.proofs.StoreLaws.{sheet-few, count-most, queue-starts}
@@ -55,8 +55,8 @@ module _ (l m : List ℕ) (h : startsEntry l ≡ true) (e : take (entryEnd l) l 
       simp (le-leb (entryEnd m) (length m) k, sheet-alike, entry-whole l h)
 
 pub entries-alike : (n : ℕ) (l m : List ℕ) → startEntries n l ≡ true → take (entriesEnd n l) l ≡ take (entriesEnd n l) m
-    → (startEntries n m ≡ true) × (entriesOf n m ≡ entriesOf n l)
-unfolding startEntries entriesEnd entriesOf
+    → (startEntries n m ≡ true) × (decodeEntries n m ≡ decodeEntries n l)
+unfolding startEntries entriesEnd decodeEntries
 entries-alike zero l m h e = (refl, refl)
 entries-alike (suc n) l m h e =
     let p = both-true (startsEntry l) _ h in
@@ -66,7 +66,7 @@ entries-alike (suc n) l m h e =
     let d : drop (entryEnd m) m ≡ drop (entryEnd l) m = ap (λ (k : ℕ). drop (2 + k) m) (length-alike l m (p .0) f) in
     let q = entries-alike n rest (drop (entryEnd l) m) (p .1) (front-behind l m (entryEnd l) (entriesEnd n rest) e) in (
       simp (starts-alike l m (p .0) f, d, q .0),
-      ap₂ (λ (x : List ℕ) (y : List ConsumerAssignment). assignmentOf x ∷ y) (sheet-alike l m (p .0) f) (ap (entriesOf n) d ∙ q .1),
+      ap₂ (λ (x : List ℕ) (y : List ConsumerAssignment). decodeAssignment x ∷ y) (sheet-alike l m (p .0) f) (ap (decodeEntries n) d ∙ q .1),
     )
 
 -- ---- how long a queue is
@@ -148,9 +148,9 @@ module _ (r : SessionRecord) (st : List ℕ) (good : damaged (view r st) ≡ fal
         record {
           state = refl;
           sound = use-alike;
-          topic = ap topicOf (slot-alike 0 (omega arith));
-          baseline = ap assignmentOf (slot-alike 1 (omega arith));
-          list = ap assignmentOf (slot-alike 2 (omega arith));
+          topic = ap identityTopic (slot-alike 0 (omega arith));
+          baseline = ap decodeAssignment (slot-alike 1 (omega arith));
+          list = ap decodeAssignment (slot-alike 2 (omega arith));
           queue = queue-alike .1;
         }
 

@@ -9,7 +9,7 @@ use mathlib.Core.Path.{_≡_, refl, _∙_}
 use mathlib.Core.Bool.{Bool, true, false, cond}
 use mathlib.Core.List.{List, [], _∷_}
 use lib.Dec.{eqb}
-use Rattle.wire.specs.Fields.{Content, number, bytes, fixed, cut, Field, badKey, field, fieldsOf}
+use Rattle.wire.specs.Fields.{Payload, number, bytes, fixed, cut, Field, badKey, field, fieldsOf}
 use Rattle.schema.specs.declared.MessageKind.{MessageKind}
 use Rattle.schema.specs.declared.MessageKind.the-variants.{
   CommandScalableTopicAssignmentUpdate,
@@ -25,7 +25,7 @@ use Rattle.schema.specs.declared.ValueKind.{ValueKind}
 use Rattle.schema.specs.declared.ValueKind.the-variants as value
 use Rattle.schema.specs.declared.Checked.{Checked}
 use Rattle.values.specs.Values.{partsOf, mergedFields, Member, absent, holds, memberOf}
-use Rattle.schema.specs.Schema.{required, optional, repeated, oneof, SchemaField, has, schema, valueOf, kindOf, valueIn, valueFor}
+use Rattle.schema.specs.Schema.{required, optional, repeated, oneof, SchemaField, has, schema, valueOf, fieldKind, valueIn, valueFor}
 use Rattle.schema.specs.Schema.{membersOf, levels}
 use Rattle.schema.specs.Required.{valueComplete, allComplete, eachComplete, memberComplete, fieldComplete, allFields}
 use Rattle.schema.specs.Required.{completeWithin, isComplete}
@@ -42,7 +42,7 @@ Below d (value.Message j) = levels j < d
 
 abbrev AllBelow : ℕ → List SchemaField → Type 0
 AllBelow d [] = Unit {0}
-AllBelow d (r ∷ rs) = Below d (kindOf r) × AllBelow d rs
+AllBelow d (r ∷ rs) = Below d (fieldKind r) × AllBelow d rs
 
 below-cond : (d : ℕ) (b : Bool) (p q : ValueKind) → Below d p → Below d q → Below d (cond b p q)
 below-cond d true p q h g = h
@@ -50,7 +50,7 @@ below-cond d false p q h g = g
 
 below-in : (d f : ℕ) (rs : List SchemaField) → AllBelow d rs → Below d (valueIn f rs)
 below-in d f [] h = tt
-below-in d f (has g a t ∷ rs) h = below-cond d (eqb f g) (kindOf (has g a t)) (valueIn f rs) (h .0) (below-in d f rs (h .1))
+below-in d f (has g a t ∷ rs) h = below-cond d (eqb f g) (fieldKind (has g a t)) (valueIn f rs) (h .0) (below-in d f rs (h .1))
 
 schema-below : (k : MessageKind) → AllBelow (levels k) (schema k)
 schema-below CommandScalableTopicAssignmentUpdate = (tt, (omega arith, tt))
@@ -70,7 +70,7 @@ value-below k f = below-in (levels k) f (schema k) (schema-below k)
 
 module _ (k : MessageKind) (p q : MessageKind → List ℕ → Checked)
     (same : (j : MessageKind) (l : List ℕ) → levels j < levels k → p j l ≡ q j l) where
-  value-same : (v : ValueKind) (c : Content) → Below (levels k) v → checkValue p v c ≡ checkValue q v c
+  value-same : (v : ValueKind) (c : Payload) → Below (levels k) v → checkValue p v c ≡ checkValue q v c
   value-same v cut h = refl
   value-same v (number n) h = refl
   value-same v fixed h = refl
@@ -108,7 +108,7 @@ module _ (d : ℕ) (p q : MessageKind → List Field → Bool)
   member-same v f absent h = refl
   member-same v f (holds k fs) h = rw (held-same v fs h)
 
-  field-same : (all : List SchemaField) (r : SchemaField) (fs : List Field) → Below d (kindOf r)
+  field-same : (all : List SchemaField) (r : SchemaField) (fs : List Field) → Below d (fieldKind r)
       → fieldComplete p all r fs ≡ fieldComplete q all r fs
   field-same all (has f required t) fs h = rw (held-same (valueOf t) (mergedFields f fs) h)
   field-same all (has f optional t) fs h = rw (held-same (valueOf t) (mergedFields f fs) h)

@@ -13,8 +13,8 @@ use Rattle.values.specs.declared.Last.the-variants as last
 use Rattle.values.specs.Values.{numbersOf, partsOf, lastOf, joinFields, mergedFields, present}
 use Rattle.values.specs.Values.{Member, memberBehind, isMember, memberBy, memberAfter, memberOf}
 use Rattle.values.specs.Integers.{int32Of}
-use Rattle.readers.specs.Messages.{intRangeOf, segmentOf, assignmentOf, codeOf, updateOf, responseOf}
-use Rattle.readers.specs.Messages.{snapshot, diff, eventFields, eventBy, eventOf, watchUpdateOf}
+use Rattle.readers.specs.Messages.{intRangeOf, readSegment, readAssignment, codeOf, updateOf, responseOf}
+use Rattle.readers.specs.Messages.{snapshot, diff, eventFields, eventBy, readEvent, watchUpdateOf}
 use Rattle.schema.specs.declared.MessageKind.the-variants.{CommandScalableTopicAssignmentUpdate, CommandScalableTopicSubscribeResponse}
 use Rattle.schema.specs.declared.MessageKind.the-variants.{ScalableConsumerAssignment, ScalableAssignedSegment, IntRange}
 use Rattle.schema.specs.declared.MessageKind.the-variants.{CommandWatchScalableTopicsUpdate, ScalableTopicsSnapshot, ScalableTopicsDiff}
@@ -31,13 +31,13 @@ range-by : (p : List ℕ) → rangeValue (intRangeOf p) ≡ messageWithin 1 IntR
 unfolding intRangeOf
 range-by p = refl
 
-segment-by : (p : List ℕ) → segmentValue (segmentOf p) ≡ messageWithin 2 ScalableAssignedSegment (fieldsOf p)
-unfolding segmentOf
+segment-by : (p : List ℕ) → segmentValue (readSegment p) ≡ messageWithin 2 ScalableAssignedSegment (fieldsOf p)
+unfolding readSegment
 segment-by p = rw (each-map rangeValue intRangeOf (λ q. messageWithin 1 IntRange (fieldsOf q)) range-by (partsOf 5 (fieldsOf p)))
 
-assignment-by : (fs : List Field) → assignmentValue (assignmentOf fs) ≡ messageWithin 3 ScalableConsumerAssignment fs
-unfolding assignmentOf
-assignment-by fs = rw (each-map segmentValue segmentOf (λ q. messageWithin 2 ScalableAssignedSegment (fieldsOf q)) segment-by (partsOf 2 fs))
+assignment-by : (fs : List Field) → assignmentValue (readAssignment fs) ≡ messageWithin 3 ScalableConsumerAssignment fs
+unfolding readAssignment
+assignment-by fs = rw (each-map segmentValue readSegment (λ q. messageWithin 2 ScalableAssignedSegment (fieldsOf q)) segment-by (partsOf 2 fs))
 
 -- an error code
 error-by : (x : Last) → errorValue (codeOf x) ≡ lastValue (λ v. signed (int32Of v)) x
@@ -99,14 +99,14 @@ diff-by (Member.holds n fs) k = go (eqb n 2) refl (eqb n 3) refl k
     go false e false f h = absurd (true≢false (sym h))
 
 watch-by : (m : List ℕ) → watchUpdateValue (watchUpdateOf m) ≡ messageBy CommandWatchScalableTopicsUpdate (fieldsOf m)
-unfolding watchUpdateOf eventOf
+unfolding watchUpdateOf readEvent
 watch-by m =
     let e = memberOf eventFields (fieldsOf m) in
     rw (error-by (lastOf (numbersOf 4 (fieldsOf m))), snapshot-by e, diff-by e (known-after eventFields Member.absent (fieldsOf m) tt))
 
 -- an assignment that may be absent
 optional-by : (ps : List (List ℕ))
-    → cond (present ps) (assignmentValue (assignmentOf (joinFields ps))) absent ≡ mergedValue (messageWithin 3) ScalableConsumerAssignment ps
+    → cond (present ps) (assignmentValue (readAssignment (joinFields ps))) absent ≡ mergedValue (messageWithin 3) ScalableConsumerAssignment ps
 optional-by [] = refl
 optional-by (p ∷ ps) = assignment-by (joinFields (p ∷ ps))
 

@@ -12,7 +12,7 @@ use mathlib.Core.List.{List, [], _∷_}
 use Rattle.utf8.specs.Table.{isUtf8}
 use Rattle.refusal.specs.declared.Refusal.the-variants.{InvalidWireFormat, WrongWireType, MissingField, InvalidUtf8}
 use Rattle.wire.specs.declared.WireType.{WireType}
-use Rattle.wire.specs.Fields.{Content, number, bytes, fixed, cut, Field, badKey, field, fieldsOf}
+use Rattle.wire.specs.Fields.{Payload, number, bytes, fixed, cut, Field, badKey, field, fieldsOf}
 use Rattle.schema.specs.declared.MessageKind.{MessageKind}
 use Rattle.schema.specs.declared.ValueKind.{ValueKind}
 use Rattle.schema.specs.declared.ValueKind.the-variants as value
@@ -29,7 +29,7 @@ first (Refused x) r = Refused x
 -- inner gives the first fault of a message that stands in a field
 module _ (inner : MessageKind → List ℕ → Checked) where
   -- 3 or 7: a field's length or value
-  abbrev pub checkValue : ValueKind → Content → Checked
+  abbrev pub checkValue : ValueKind → Payload → Checked
   checkValue v cut = Refused InvalidWireFormat
   checkValue v (number n) = Valid
   checkValue v fixed = Valid
@@ -39,7 +39,7 @@ module _ (inner : MessageKind → List ℕ → Checked) where
   checkValue (value.Message k) (bytes l) = inner k l
 
   -- 4, then the value
-  abbrev pub checkField : ValueKind → WireType → Content → Checked
+  abbrev pub checkField : ValueKind → WireType → Payload → Checked
   checkField v w c = cond (fitsWire v w) (checkValue v c) (Refused WrongWireType)
 
   -- the fields in turn

@@ -77,16 +77,16 @@ valueOf enumeration = value.Number
 valueOf string = value.Text
 valueOf (message k) = value.Message k
 
-abbrev pub numberOf : SchemaField → ℕ
-numberOf (has f a t) = f
+abbrev pub fieldNumber : SchemaField → ℕ
+fieldNumber (has f a t) = f
 
-abbrev pub kindOf : SchemaField → ValueKind
-kindOf (has f a t) = valueOf t
+abbrev pub fieldKind : SchemaField → ValueKind
+fieldKind (has f a t) = valueOf t
 
 -- an unknown field has any type
 abbrev pub valueIn : ℕ → List SchemaField → ValueKind
 valueIn f [] = value.Any
-valueIn f (r ∷ rs) = cond (eqb f (numberOf r)) (kindOf r) (valueIn f rs)
+valueIn f (r ∷ rs) = cond (eqb f (fieldNumber r)) (fieldKind r) (valueIn f rs)
 
 -- what field f of a message holds
 unfoldable pub valueFor : MessageKind → ℕ → ValueKind

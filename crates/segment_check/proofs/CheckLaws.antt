@@ -32,7 +32,7 @@ use Rattle.parents.specs.Parents.{isParent}
 use Rattle.topic.specs.Names.{segmentTopic}
 use Rattle.keyed.specs.Keyed.{orElse}
 use Rattle.readers.specs.declared.SegmentHead.{SegmentHead}
-use Rattle.readers.specs.Messages.{segmentOf}
+use Rattle.readers.specs.Messages.{readSegment}
 use Rattle.readers.specs.Places.{SegmentIs}
 use Rattle.content.specs.declared.Outside.{Outside}
 use Rattle.content.specs.declared.Outside.the-variants.{At, Nothing}
@@ -50,7 +50,7 @@ idOf head = record { 0 = head .«segment_id» }
 
 -- ---- the name
 
-pub name-no-parent : (parent p : List ℕ) → isParent parent ≡ false → Refused InvalidParent ≡ verdictOf (nameFault parent (segmentOf p))
+pub name-no-parent : (parent p : List ℕ) → isParent parent ≡ false → Refused InvalidParent ≡ verdictOf (nameFault parent (readSegment p))
 unfolding nameFault
 name-no-parent parent p e = rw e
 
@@ -64,32 +64,32 @@ module _ (parent : List ℕ) {p : List ℕ} {head : SegmentHead} (S : SegmentIs 
       (segmentTopic (take (length parent - 8) (drop 8 parent)) (keyRange (head .«hash_start») (head .«hash_end»)) (idOf head))
 
   module _ (g : isParent parent ≡ true) {t : Bool} (said : t ≡ same) where
-    opened : nameFault parent (segmentOf p) ≡ cond t none (some (AttachmentMismatch (idOf head)))
+    opened : nameFault parent (readSegment p) ≡ cond t none (some (AttachmentMismatch (idOf head)))
     unfolding nameFault
     opened =
         rw (g, said, add-sub-cancel-left (head .«topic_start») (head .«topic_len»), rest parent 8, S .topic, S .start, S .end, S .id)
 
-    pub name-good : t ≡ true → Good ≡ verdictOf (nameFault parent (segmentOf p))
+    pub name-good : t ≡ true → Good ≡ verdictOf (nameFault parent (readSegment p))
     name-good y = sym (ap verdictOf opened ∙ rw y)
 
-    pub name-other : t ≡ false → Refused (AttachmentMismatch (idOf head)) ≡ verdictOf (nameFault parent (segmentOf p))
+    pub name-other : t ≡ false → Refused (AttachmentMismatch (idOf head)) ≡ verdictOf (nameFault parent (readSegment p))
     name-other y = sym (ap verdictOf opened ∙ rw y)
 
 -- ---- the buckets inside the range, then the name
 
-buckets-are : (p : List ℕ) → bucketsOf (segmentOf p) ≡ bucketsFrom p 0
-unfolding segmentOf
+buckets-are : (p : List ℕ) → bucketsOf (readSegment p) ≡ bucketsFrom p 0
+unfolding readSegment
 buckets-are p = refl
 
 -- what is left of the tests behind 11
 abbrev pub insideFault : List ℕ → List ℕ → Option Refusal
-insideFault parent p = orElse (outsideFault (segmentOf p)) (nameFault parent (segmentOf p))
+insideFault parent p = orElse (outsideFault (readSegment p)) (nameFault parent (readSegment p))
 
 module _ (parent : List ℕ) {p : List ℕ} {head : SegmentHead} (S : SegmentIs p head) {r : Outside}
     (said : r ≡ outsideOf (firstOutside (keyRange (head .«hash_start») (head .«hash_end»)) 0 (bucketsFrom p 0))) where
   -- the place that the walk found, in the segment's terms
   abbrev place : Option ℕ
-  place = firstOutside (keyRange (segmentOf p .hashStart) (segmentOf p .hashEnd)) 0 (bucketsOf (segmentOf p))
+  place = firstOutside (keyRange (readSegment p .hashStart) (readSegment p .hashEnd)) 0 (bucketsOf (readSegment p))
 
   place-is : r ≡ outsideOf place
   place-is = rw (← S .start, ← S .end, buckets-are p) said
@@ -97,7 +97,7 @@ module _ (parent : List ℕ) {p : List ℕ} {head : SegmentHead} (S : SegmentIs 
   pub outside-found : {i : ℕ} → r ≡ At i → Refused (BucketOutsideSegment (idOf head) i) ≡ verdictOf (insideFault parent p)
   outside-found {i} e = rw (place-found place i (sym e ∙ place-is), S .id)
 
-  pub outside-none : r ≡ Nothing → {v : Verdict} → v ≡ verdictOf (nameFault parent (segmentOf p)) → v ≡ verdictOf (insideFault parent p)
+  pub outside-none : r ≡ Nothing → {v : Verdict} → v ≡ verdictOf (nameFault parent (readSegment p)) → v ≡ verdictOf (insideFault parent p)
   outside-none e f = rw (place-none place (sym e ∙ place-is)) f
 
 -- ---- the buckets, then the others
@@ -118,7 +118,7 @@ none-left (x ∷ xs) e = absurd (omega arith)
 -- what is left of the tests behind the range
 abbrev pub bucketsFault : List ℕ → List ℕ → Option Refusal
 bucketsFault parent p =
-    let w = segmentOf p in
+    let w = readSegment p in
     orElse (bucketFault (wireId w) 0 (w .bucketRanges)) (orElse (overlapFault w) (insideFault parent p))
 
 module _ (parent : List ℕ) {p : List ℕ} {scan : SegmentScan} (S : ScanOf p scan) where
@@ -126,29 +126,29 @@ module _ (parent : List ℕ) {p : List ℕ} {scan : SegmentScan} (S : ScanOf p s
       → Refused (InvalidBucketRange (idOf (scan .head)) (scan .run .count) (scan .run .last .start) (scan .run .last .end))
       ≡ verdictOf (bucketsFault parent p)
   bucket-bad g =
-      let b = run-bad (segmentOf p .bucketRanges) (wireId (segmentOf p)) (rw (S .run) at g) in
+      let b = run-bad (readSegment p .bucketRanges) (wireId (readSegment p)) (rw (S .run) at g) in
       rw (b, S .run, S .head .id)
 
   module _ (g : scan .run .good ≡ true) where
-    good : (id : SegmentId) → bucketFault id 0 (segmentOf p .bucketRanges) ≡ none
-    good = run-good (segmentOf p .bucketRanges) (rw (S .run) at g)
+    good : (id : SegmentId) → bucketFault id 0 (readSegment p .bucketRanges) ≡ none
+    good = run-good (readSegment p .bucketRanges) (rw (S .run) at g)
 
     pub buckets-good : AllGood (bucketsFrom p 0)
     buckets-good =
-        let o = run-ok (segmentOf p .bucketRanges) (rw (S .run) at g) in
-        subst AllGood (buckets-are p) (all-good (bucketsOf (segmentOf p)) (o .0) (o .1))
+        let o = run-ok (readSegment p .bucketRanges) (rw (S .run) at g) in
+        subst AllGood (buckets-are p) (all-good (bucketsOf (readSegment p)) (o .0) (o .1))
 
     -- no two share a value
-    apart : anyOverlap (bucketsOf (segmentOf p)) ≡ false → {r : Verdict} → r ≡ verdictOf (insideFault parent p)
+    apart : anyOverlap (bucketsOf (readSegment p)) ≡ false → {r : Verdict} → r ≡ verdictOf (insideFault parent p)
         → r ≡ verdictOf (bucketsFault parent p)
-    apart a e = rw (good (wireId (segmentOf p)), a) e
+    apart a e = rw (good (wireId (readSegment p)), a) e
 
     -- there are none
-    pub buckets-none : scan .run .count ≡ 0 → {r : Verdict} → r ≡ verdictOf (nameFault parent (segmentOf p))
+    pub buckets-none : scan .run .count ≡ 0 → {r : Verdict} → r ≡ verdictOf (nameFault parent (readSegment p))
         → r ≡ verdictOf (bucketsFault parent p)
     unfolding anyOverlap firstOutside
     buckets-none h e =
-        let w = segmentOf p in
+        let w = readSegment p in
         let n : length (w .bucketRanges) ≡ 0 = sym (run-count (w .bucketRanges) (rw (S .run) at g)) ∙ (rw (S .run) at h) in
         let b : bucketsOf w ≡ [] = ap (map bucketOf) (none-left (w .bucketRanges) n) in
         let o : firstOutside (keyRange (w .hashStart) (w .hashEnd)) 0 (bucketsOf w) ≡ none =
@@ -157,7 +157,7 @@ module _ (parent : List ℕ) {p : List ℕ} {scan : SegmentScan} (S : ScanOf p s
 
     pub buckets-rise : scan .run .rising ≡ true → {r : Verdict} → r ≡ verdictOf (insideFault parent p)
         → r ≡ verdictOf (bucketsFault parent p)
-    buckets-rise h e = apart (run-rising (segmentOf p .bucketRanges) (rw (S .run) at g) (rw (S .run) at h)) e
+    buckets-rise h e = apart (run-rising (readSegment p .bucketRanges) (rw (S .run) at g) (rw (S .run) at h)) e
 
     module _ {t : Bool} (said : t ≡ anyOverlap (bucketsFrom p 0)) where
       pub buckets-apart : t ≡ false → {r : Verdict} → r ≡ verdictOf (insideFault parent p) → r ≡ verdictOf (bucketsFault parent p)
@@ -165,23 +165,23 @@ module _ (parent : List ℕ) {p : List ℕ} {scan : SegmentScan} (S : ScanOf p s
 
       pub buckets-overlap : t ≡ true → Refused (OverlappingBucketRanges (idOf (scan .head))) ≡ verdictOf (bucketsFault parent p)
       buckets-overlap y =
-          let a : anyOverlap (bucketsOf (segmentOf p)) ≡ true = ap anyOverlap (buckets-are p) ∙ sym said ∙ y in
-          rw (good (wireId (segmentOf p)), a, S .head .id)
+          let a : anyOverlap (bucketsOf (readSegment p)) ≡ true = ap anyOverlap (buckets-are p) ∙ sym said ∙ y in
+          rw (good (wireId (readSegment p)), a, S .head .id)
 
 -- ---- the range, then the others
 
 module _ (parent : List ℕ) {p : List ℕ} {head : SegmentHead} (S : SegmentIs p head) where
   -- what `KeyRange::new` said of the numbers of the walk, it says of the segment's
   range-is : {q : RangeResult} → newKeyRange (head .«hash_start») (head .«hash_end») ≡ q
-      → newKeyRange (segmentOf p .hashStart) (segmentOf p .hashEnd) ≡ q
+      → newKeyRange (readSegment p .hashStart) (readSegment p .hashEnd) ≡ q
   range-is h = rw (← S .start, ← S .end) h
 
   pub range-bad : {e : KeyRangeError} → newKeyRange (head .«hash_start») (head .«hash_end») ≡ Invalid e
-      → Refused (InvalidRange (idOf head) e) ≡ verdictOf (segmentFault parent (segmentOf p))
+      → Refused (InvalidRange (idOf head) e) ≡ verdictOf (segmentFault parent (readSegment p))
   unfolding segmentFault
   range-bad h = rw (range-is h, S .id)
 
   pub range-good : {k : KeyRange} {r : Verdict} → newKeyRange (head .«hash_start») (head .«hash_end») ≡ Valid k
-      → r ≡ verdictOf (bucketsFault parent p) → r ≡ verdictOf (segmentFault parent (segmentOf p))
+      → r ≡ verdictOf (bucketsFault parent p) → r ≡ verdictOf (segmentFault parent (readSegment p))
   unfolding segmentFault
   range-good h e = rw (range-is h) e

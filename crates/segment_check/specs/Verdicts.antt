@@ -7,7 +7,7 @@ use mathlib.Core.List.{List}
 use mathlib.Core.Option.{Option, some, none}
 use Prim.Native.Nat.{ℕ}
 use Rattle.refusal.specs.declared.Refusal.{Refusal}
-use Rattle.readers.specs.Messages.{segmentOf}
+use Rattle.readers.specs.Messages.{readSegment}
 use Rattle.readers.specs.Places.{SegmentIs}
 use Rattle.segment_scan.specs.declared.SegmentScan.{SegmentScan}
 use Rattle.segment_scan.specs.Scan.{runOf}
@@ -21,4 +21,4 @@ verdictOf (some x) = Refused x
 -- the scan is the segment p's
 pub record ScanOf (p : List ℕ) (scan : SegmentScan) : Type 0 where
   pub head : SegmentIs p (scan .head)
-  pub run : scan .run ≡ runOf (segmentOf p .bucketRanges)
+  pub run : scan .run ≡ runOf (readSegment p .bucketRanges)

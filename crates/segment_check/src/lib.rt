@@ -4,7 +4,7 @@
 ghost use mathlib.Core.Path.{_≡_};
 ghost use Rattle.parents.specs.Parents.{isParent};
 ghost use Rattle.keyed.specs.Keyed.{orElse};
-ghost use Rattle.readers.specs.Messages.{segmentOf};
+ghost use Rattle.readers.specs.Messages.{readSegment};
 ghost use Rattle.readers.specs.Places.{SegmentIs};
 ghost use Rattle.content.specs.Content.{wireId, bucketFault, overlapFault, outsideFault, nameFault, segmentFault};
 ghost use Rattle.segment_check.specs.Verdicts.{verdictOf, ScanOf};
@@ -25,7 +25,7 @@ pub enum Verdict {
 fn check_name(p: &[u8], parent: &[u8], good: bool, head: SegmentHead) -> Verdict
     requires { ⌜ good ≡ isParent (now parent) ⌝ }
     requires { ⌜ SegmentIs (now p) head ⌝ }
-    ensures { λ r. ⌜ r ≡ verdictOf (nameFault (now (parent .entry)) (segmentOf (now (p .entry)))) ⌝ }
+    ensures { λ r. ⌜ r ≡ verdictOf (nameFault (now (parent .entry)) (readSegment (now (p .entry)))) ⌝ }
 {
     if !good {
         return Verdict::Refused(Refusal::InvalidParent);
@@ -48,7 +48,7 @@ fn check_name(p: &[u8], parent: &[u8], good: bool, head: SegmentHead) -> Verdict
 fn check_inside(p: &[u8], parent: &[u8], good: bool, head: SegmentHead) -> Verdict
     requires { ⌜ good ≡ isParent (now parent) ⌝ }
     requires { ⌜ SegmentIs (now p) head ⌝ }
-    ensures { λ r. ⌜ r ≡ verdictOf (orElse (outsideFault (segmentOf (now (p .entry)))) (nameFault (now (parent .entry)) (segmentOf (now (p .entry))))) ⌝ }
+    ensures { λ r. ⌜ r ≡ verdictOf (orElse (outsideFault (readSegment (now (p .entry)))) (nameFault (now (parent .entry)) (readSegment (now (p .entry))))) ⌝ }
 {
     let range = KeyRange {
         start: head.hash_start,
@@ -67,9 +67,9 @@ fn check_inside(p: &[u8], parent: &[u8], good: bool, head: SegmentHead) -> Verdi
 fn check_buckets(p: &[u8], parent: &[u8], good: bool, scan: SegmentScan) -> Verdict
     requires { ⌜ good ≡ isParent (now parent) ⌝ }
     requires { ⌜ ScanOf (now p) scan ⌝ }
-    ensures { λ r. ⌜ r ≡ verdictOf (orElse (bucketFault (wireId (segmentOf (now (p .entry)))) 0 (segmentOf (now (p .entry)) .bucketRanges))
-        (orElse (overlapFault (segmentOf (now (p .entry))))
-        (orElse (outsideFault (segmentOf (now (p .entry)))) (nameFault (now (parent .entry)) (segmentOf (now (p .entry))))))) ⌝ }
+    ensures { λ r. ⌜ r ≡ verdictOf (orElse (bucketFault (wireId (readSegment (now (p .entry)))) 0 (readSegment (now (p .entry)) .bucketRanges))
+        (orElse (overlapFault (readSegment (now (p .entry))))
+        (orElse (outsideFault (readSegment (now (p .entry)))) (nameFault (now (parent .entry)) (readSegment (now (p .entry))))))) ⌝ }
 {
     let head = scan.head;
     let run = scan.run;
@@ -99,7 +99,7 @@ fn check_buckets(p: &[u8], parent: &[u8], good: bool, scan: SegmentScan) -> Verd
 pub fn check_segment(p: &[u8], parent: &[u8], good: bool, scan: SegmentScan) -> Verdict
     requires { ⌜ good ≡ isParent (now parent) ⌝ }
     requires { ⌜ ScanOf (now p) scan ⌝ }
-    ensures { λ r. ⌜ r ≡ verdictOf (segmentFault (now (parent .entry)) (segmentOf (now (p .entry)))) ⌝ }
+    ensures { λ r. ⌜ r ≡ verdictOf (segmentFault (now (parent .entry)) (readSegment (now (p .entry)))) ⌝ }
 {
     let head = scan.head;
     match KeyRange::new(head.hash_start, head.hash_end) {

@@ -21,7 +21,7 @@ use Rattle.ranges.specs.Overlap.{overlap, overlapsAny}
 use Rattle.ranges.specs.Meaning.{common}
 use Rattle.key_range.specs.Calls.{holds}
 use Rattle.keyed.specs.Keyed.{find}
-use Rattle.packed.specs.Assignment.{AssignedSegment, idOf, slotSize, assignmentOf, sizeAssignment, inOrder, allInOrder}
+use Rattle.packed.specs.Assignment.{AssignedSegment, idOf, slotSize, decodeAssignment, sizeAssignment, inOrder, allInOrder}
 use Rattle.packed.specs.Assignment.{okBuckets, okSegment, okFrom, okAssignment, startsAssignment, isAssignment}
 use Rattle.packed.proofs.AssignmentLaws.{ok-good, ok-tail}
 use Rattle.packed.proofs.RoundLaws.{FitSegment, FitSegments, fit-assignment}
@@ -114,11 +114,11 @@ unfolding keyIn
 in-is gs id ok fit (some g) e = at-is gs id g e (found-good id 0 gs g ok e) (found-fit id gs g fit e) (leastTaken g) (least-taken g)
 in-is gs id ok fit none e = λ g f. absurd (Option·none-ne-some g (sym e ∙ f))
 
-pub answer-is : (l : List ℕ) (id : ℕ) → Bytes l → isAssignment l ≡ true → Answered (assignmentOf l .segments) id (keyInSegment l id)
+pub answer-is : (l : List ℕ) (id : ℕ) → Bytes l → isAssignment l ≡ true → Answered (decodeAssignment l .segments) id (keyInSegment l id)
 unfolding keyInSegment isAssignment startsAssignment okAssignment
 answer-is l id b e =
     let s = both-true (startsAssignment l) _ e in
-    let f = both-true (leb (sizeAssignment (assignmentOf l)) (length l)) _ (s .0) in
-    let o = both-true (leb (sizeAssignment (assignmentOf l)) slotSize) _ (f .1) in
+    let f = both-true (leb (sizeAssignment (decodeAssignment l)) (length l)) _ (s .0) in
+    let o = both-true (leb (sizeAssignment (decodeAssignment l)) slotSize) _ (f .1) in
     rw e
-    (in-is (assignmentOf l .segments) id (o .1) (fit-assignment l b .segments) (find idOf id (assignmentOf l .segments)) refl)
+    (in-is (decodeAssignment l .segments) id (o .1) (fit-assignment l b .segments) (find idOf id (decodeAssignment l .segments)) refl)

@@ -17,7 +17,7 @@ use Rattle.types.specs.declared.KeyRange.{KeyRange}
 use Rattle.refusal.specs.declared.Refusal.the-variants.{MalformedInput}
 use Rattle.keyed.specs.Keyed.{find}
 use Rattle.packed_int.specs.Be.{beAt}
-use Rattle.packed.specs.Assignment.{AssignedSegment, idOf, rangeOf, rangesOf, segmentOf, segmentsOf, sizeSegment, okSegment, okFrom, isAssignment}
+use Rattle.packed.specs.Assignment.{AssignedSegment, idOf, decodeRange, decodeRanges, decodeSegment, decodeSegments, sizeSegment, okSegment, okFrom, isAssignment}
 use Rattle.packed.proofs.AssignmentLaws.{length-rangesOf, segment-at, segments-at, seen-size, ok-good, Rest, rest-next}
 use Rattle.packed.proofs.WholeLaws.{Whole}
 use Rattle.segment_key.specs.declared.Least.the-variants.{Value}
@@ -29,30 +29,30 @@ use Rattle.segment_key.proofs.LeastLaws.{least-whole, least-bucketed}
 
 -- ---- the record at a place, by the range and the count that were read there
 
-module _ (s : List ℕ) (p : ℕ) (r : KeyRange) (n : ℕ) (er : r ≡ rangeOf (drop (p + 8) s)) (en : n ≡ beAt 2 s (p + 12)) where
+module _ (s : List ℕ) (p : ℕ) (r : KeyRange) (n : ℕ) (er : r ≡ decodeRange (drop (p + 8) s)) (en : n ≡ beAt 2 s (p + 12)) where
   abbrev g : AssignedSegment
-  g = segmentOf (drop p s)
+  g = decodeSegment (drop p s)
 
   pub at-size : sizeSegment g ≡ 14 + 4 * n
   at-size = seen-size s p (beAt 8 s p) r n (record { id-is = refl; range-is = er; count-is = en })
 
-  seen : g ≡ record { segmentId = beAt 8 s p; range = r; buckets = rangesOf n (drop (p + 14) s) }
+  seen : g ≡ record { segmentId = beAt 8 s p; range = r; buckets = decodeRanges n (drop (p + 14) s) }
   seen = segment-at s p (beAt 8 s p) r n refl er en
 
   range-is : g .range ≡ r
   range-is = ap (λ (x : AssignedSegment). x .range) seen
 
-  buckets-are : g .buckets ≡ rangesOf n (drop (p + 14) s)
+  buckets-are : g .buckets ≡ decodeRanges n (drop (p + 14) s)
   buckets-are = ap (λ (x : AssignedSegment). x .buckets) seen
 
   pub at-whole : okSegment g ≡ true → n ≡ 0 → Value (r .start) ≡ leastTaken g
-  unfolding okSegment rangesOf
+  unfolding okSegment decodeRanges
   at-whole ok z =
       let h : g .range .start ≤ g .range .end = leb-true _ _ (both-true (leb (g .range .start) (g .range .end)) _ ok .0) in
-      let e : g .buckets ≡ [] = buckets-are ∙ ap (λ (k : ℕ). rangesOf k (drop (p + 14) s)) z in
+      let e : g .buckets ≡ [] = buckets-are ∙ ap (λ (k : ℕ). decodeRanges k (drop (p + 14) s)) z in
       ap (λ (x : KeyRange). Value (x .start)) (sym range-is) ∙ least-whole g e h
 
-  pub at-bucketed : (n ≡ 0 → ⊥) → leastIn r (rangesOf n (drop (p + 14) s)) ≡ leastTaken g
+  pub at-bucketed : (n ≡ 0 → ⊥) → leastIn r (decodeRanges n (drop (p + 14) s)) ≡ leastTaken g
   at-bucketed z =
       let some : g .buckets ≡ [] → ⊥ =
       λ e. z (sym (length-rangesOf n (drop (p + 14) s)) ∙ ap length (sym buckets-are ∙ e)) in
@@ -63,37 +63,37 @@ module _ (s : List ℕ) (p : ℕ) (r : KeyRange) (n : ℕ) (er : r ≡ rangeOf (
 -- those that are left, from the place p on, decide the whole
 pub record Turn (s : List ℕ) (m id p left : ℕ) : Type 0 where
   pub rest : Rest s p left
-  pub decides : keyIn (find idOf id (segmentsOf m (drop 10 s))) ≡ keyIn (find idOf id (segmentsOf left (drop p s)))
+  pub decides : keyIn (find idOf id (decodeSegments m (drop 10 s))) ≡ keyIn (find idOf id (decodeSegments left (drop p s)))
 
 pub turn-start : (s : List ℕ) (m id : ℕ) → Rest s 10 m → Turn s m id 10 m
 turn-start s m id r = record { rest = r; decides = refl }
 
 module _ (s : List ℕ) (m id p left : ℕ) (v : Turn s m id p left) where
-  pub turn-end : left ≤ 0 → NoKey ≡ keyIn (find idOf id (segmentsOf m (drop 10 s)))
-  unfolding keyIn segmentsOf
-  turn-end h = let e : left ≡ 0 = omega arith in sym (v .decides ∙ ap (λ (n : ℕ). keyIn (find idOf id (segmentsOf n (drop p s)))) e)
+  pub turn-end : left ≤ 0 → NoKey ≡ keyIn (find idOf id (decodeSegments m (drop 10 s)))
+  unfolding keyIn decodeSegments
+  turn-end h = let e : left ≡ 0 = omega arith in sym (v .decides ∙ ap (λ (n : ℕ). keyIn (find idOf id (decodeSegments n (drop p s)))) e)
 
   module _ (h : 0 < left) where
-    pub turn-good : okSegment (segmentOf (drop p s)) ≡ true
+    pub turn-good : okSegment (decodeSegment (drop p s)) ≡ true
     turn-good =
-        ok-good 0 (segmentOf (drop p s)) _ (subst (λ (l : List AssignedSegment). okFrom 0 l ≡ true) (segments-at s p left _ h refl) (v .rest .ok))
+        ok-good 0 (decodeSegment (drop p s)) _ (subst (λ (l : List AssignedSegment). okFrom 0 l ≡ true) (segments-at s p left _ h refl) (v .rest .ok))
 
-    pub turn-found : id ≡ segmentOf (drop p s) .segmentId
-        → keyAt (leastTaken (segmentOf (drop p s))) ≡ keyIn (find idOf id (segmentsOf m (drop 10 s)))
+    pub turn-found : id ≡ decodeSegment (drop p s) .segmentId
+        → keyAt (leastTaken (decodeSegment (drop p s))) ≡ keyIn (find idOf id (decodeSegments m (drop 10 s)))
     unfolding keyIn
     turn-found e =
         sym (v .decides
         ∙ ap (λ (l : List AssignedSegment). keyIn (find idOf id l)) (segments-at s p left _ h refl)
-        ∙ rw (eq-eqb id (segmentOf (drop p s) .segmentId) e))
+        ∙ rw (eq-eqb id (decodeSegment (drop p s) .segmentId) e))
 
-    pub turn-next : (z : ℕ) → (id ≡ segmentOf (drop p s) .segmentId → ⊥) → z ≡ sizeSegment (segmentOf (drop p s)) → Turn s m id (p + z) (left - 1)
+    pub turn-next : (z : ℕ) → (id ≡ decodeSegment (drop p s) .segmentId → ⊥) → z ≡ sizeSegment (decodeSegment (drop p s)) → Turn s m id (p + z) (left - 1)
     turn-next z e ez =
         record {
           rest = rest-next s p left z h ez (v .rest);
           decides =
               v .decides
               ∙ ap (λ (l : List AssignedSegment). keyIn (find idOf id l)) (segments-at s p left z h ez)
-              ∙ rw (ne-eqb id (segmentOf (drop p s) .segmentId) e);
+              ∙ rw (ne-eqb id (decodeSegment (drop p s) .segmentId) e);
         }
 
 -- ---- the cases of `keyInSegment`
@@ -103,6 +103,6 @@ module _ (s : List ℕ) (id : ℕ) where
   unfolding keyInSegment
   key-malformed e = rw e
 
-  pub key-whole : (n : ℕ) → Whole s n → keyIn (find idOf id (segmentsOf n (drop 10 s))) ≡ keyInSegment s id
+  pub key-whole : (n : ℕ) → Whole s n → keyIn (find idOf id (decodeSegments n (drop 10 s))) ≡ keyInSegment s id
   unfolding keyInSegment
   key-whole n w = rw (w .is-assignment, w .segments-are)

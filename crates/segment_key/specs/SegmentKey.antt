@@ -7,7 +7,7 @@ use mathlib.Core.Option.{Option, some, none}
 use Rattle.refusal.specs.declared.Refusal.the-variants.{MalformedInput}
 use Rattle.refusal.specs.Steps.{_>>_, refuseUnless}
 use Rattle.keyed.specs.Keyed.{find}
-use Rattle.packed.specs.Assignment.{AssignedSegment, idOf, assignmentOf, isAssignment}
+use Rattle.packed.specs.Assignment.{AssignedSegment, idOf, decodeAssignment, isAssignment}
 use Rattle.test_key.specs.Inverse.{keyForHash}
 use Rattle.segment_key.specs.declared.Least.{Least}
 use Rattle.segment_key.specs.declared.Least.the-variants.{Value, NoValue}
@@ -29,4 +29,4 @@ keyIn none = NoKey
 unfoldable pub keyInSegment : (assignment : List ℕ) (id : ℕ) → KeyAnswer
 keyInSegment assignment id = do
   refuseUnless Refused (isAssignment assignment) MalformedInput  -- 20
-  keyIn (find idOf id (assignmentOf assignment .segments))
+  keyIn (find idOf id (decodeAssignment assignment .segments))

@@ -7,7 +7,7 @@ ghost use mathlib.Core.Bool.{true};
 ghost use Prim.Native.Nat.{_+_, _*_, _≤_, max};
 ghost use lib.ListN.{length, drop};
 ghost use Rattle.keyed.specs.Keyed.{find};
-ghost use Rattle.packed.specs.Assignment.{idOf, rangesOf, segmentOf, segmentsOf, sizeSegment, okSegment};
+ghost use Rattle.packed.specs.Assignment.{idOf, decodeRanges, decodeSegment, decodeSegments, sizeSegment, okSegment};
 ghost use Rattle.packed.proofs.AssignmentLaws.{Rest};
 ghost use Rattle.segment_key.specs.Least.{leastTaken};
 ghost use Rattle.segment_key.specs.Ends.{lesserOf, leastCommon, leastIn};
@@ -74,7 +74,7 @@ fn least_common(a: KeyRange, b: KeyRange) -> Least
 // The least value of a range that lies in one of the n ranges from a place on.
 fn least_in(s: &[u8], at: usize, n: usize, range: KeyRange) -> Least
     requires { ⌜ at + 4 * n ≤ length (now s) ⌝ }
-    ensures { λ r. ⌜ r ≡ leastIn range (rangesOf n (drop at (now (s .entry)))) ⌝ }
+    ensures { λ r. ⌜ r ≡ leastIn range (decodeRanges n (drop at (now (s .entry)))) ⌝ }
 {
     let mut best = Least::NoValue;
     let mut p = at;
@@ -89,9 +89,9 @@ fn least_in(s: &[u8], at: usize, n: usize, range: KeyRange) -> Least
 
 // The least hash that the segment takes whose record stands at the place p.
 fn least_at(s: &[u8], p: usize) -> Least
-    requires { ⌜ p + sizeSegment (segmentOf (drop p (now s))) ≤ length (now s) ⌝ }
-    requires { ⌜ okSegment (segmentOf (drop p (now s))) ≡ true ⌝ }
-    ensures { λ r. ⌜ r ≡ leastTaken (segmentOf (drop p (now (s .entry)))) ⌝ }
+    requires { ⌜ p + sizeSegment (decodeSegment (drop p (now s))) ≤ length (now s) ⌝ }
+    requires { ⌜ okSegment (decodeSegment (drop p (now s))) ≡ true ⌝ }
+    ensures { λ r. ⌜ r ≡ leastTaken (decodeSegment (drop p (now (s .entry)))) ⌝ }
 {
     let range = packed::range_at(s, p + 8);
     let count = packed_int::read_u16(s, p + 12) as usize;
@@ -114,7 +114,7 @@ fn key_at(least: Least) -> KeyAnswer
 // The key of the segment with the id among the m records from the place 10 on.
 fn key_among(s: &[u8], m: usize, id: u64) -> KeyAnswer
     requires { ⌜ Rest (now s) 10 m ⌝ }
-    ensures { λ r. ⌜ r ≡ keyIn (find idOf id (segmentsOf m (drop 10 (now (s .entry))))) ⌝ }
+    ensures { λ r. ⌜ r ≡ keyIn (find idOf id (decodeSegments m (drop 10 (now (s .entry))))) ⌝ }
 {
     let mut p: usize = 10;
     let mut left = m;

@@ -20,7 +20,7 @@ use Rattle.schema.specs.declared.Checked.the-variants as checked
 use Rattle.schema.specs.FirstFault.{firstFault}
 use Rattle.wire.specs.Fields.{Field, fieldsOf}
 use Rattle.values.specs.Values.{numbersOf, partsOf, present, lastOf, mergedFields, orZero, numberIn}
-use Rattle.readers.specs.Messages.{segmentOf, assignmentOf, updateOf, responseOf}
+use Rattle.readers.specs.Messages.{readSegment, readAssignment, updateOf, responseOf}
 use Rattle.content.specs.Content.{Content, contentOf}
 use Rattle.session.specs.Store.{minStore, minOutput}
 use Rattle.session.specs.Session.{Session, view, Result, damaged, refuse}
@@ -59,15 +59,15 @@ number-alike : (n : ℕ) (fs gs : List Field) → numbersOf n fs ≡ numbersOf n
 number-alike n fs gs e = ap (λ (l : List ℕ). orZero (lastOf l)) e
 
 row-alike : (parent : List ℕ) (fs gs : List Field) → Reordered fs gs
-    → AlikeContent (contentOf parent (assignmentOf fs)) (contentOf parent (assignmentOf gs))
-unfolding assignmentOf
+    → AlikeContent (contentOf parent (readAssignment fs)) (contentOf parent (readAssignment gs))
+unfolding readAssignment
 row-alike parent fs gs r =
-    content-shuffled parent (assignmentOf fs) (assignmentOf gs) (number-alike 1 fs gs (numbers-reordered 1 r))
-    (shuffled-map segmentOf (parts-reordered r))
+    content-shuffled parent (readAssignment fs) (readAssignment gs) (number-alike 1 fs gs (numbers-reordered 1 r))
+    (shuffled-map readSegment (parts-reordered r))
 
 -- the assignments that two messages have in field a
 abbrev contentIn : List ℕ → ℕ → List ℕ → Content
-contentIn parent a m = contentOf parent (assignmentOf (mergedFields a (fieldsOf m)))
+contentIn parent a m = contentOf parent (readAssignment (mergedFields a (fieldsOf m)))
 
 assignment-alike : (parent : List ℕ) (a : ℕ) (m n : List ℕ) → Rearranged a (fieldsOf m) (fieldsOf n)
     → AlikeContent (contentIn parent a m) (contentIn parent a n)

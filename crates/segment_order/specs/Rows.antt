@@ -7,7 +7,7 @@ use Prim.Native.Nat.{ℕ}
 use mathlib.Core.List.{List, [], _∷_, _++_}
 use Rattle.wire.specs.declared.WireType.the-variants as type
 use Rattle.wire.specs.Varints.{varintOf}
-use Rattle.wire.specs.Field.{fixedOf, numberOf, partOf, keyOf}
+use Rattle.wire.specs.Field.{fixedOf, numberBody, partOf, keyOf}
 use Rattle.wire.specs.Fields.{number, Field, field, fieldsOf}
 use Rattle.segment_order.specs.SegmentOrder.{segment, Reordered, Rearranged, SameUpdate}
 
@@ -47,6 +47,6 @@ reordered =
     (Reordered.same (segment high) (Reordered.same nine (Reordered.later low epoch []))))))
 
 pub either-first : SameUpdate (update lowFirst) (update highFirst)
-unfolding varintOf fixedOf numberOf partOf keyOf fieldsOf
+unfolding varintOf fixedOf numberBody partOf keyOf fieldsOf
 either-first =
     Rearranged.same (field 1 type.Varint (number 7)) (Rearranged.assignment lowFirst highFirst reordered Rearranged.end)

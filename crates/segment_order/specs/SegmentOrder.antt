@@ -17,7 +17,7 @@ use Rattle.types.specs.declared.ControllerIncarnation.{ControllerIncarnation}
 use Rattle.wire.specs.declared.WireType.the-variants as type
 use Rattle.wire.specs.Fields.{bytes, Field, field, fieldsOf}
 use Rattle.session.specs.declared.SessionRecord.{SessionRecord}
-use Rattle.session.specs.Calls.{Outcome, updateOutcome, responseOutcome}
+use Rattle.session.specs.Calls.{CallOutcome, updateOutcome, responseOutcome}
 use Rattle.session.specs.Trace.{isAccepted}
 
 -- ---- messages that differ only in the order of their segments
@@ -52,7 +52,7 @@ SameResponse m n = Rearranged 4 (fieldsOf m) (fieldsOf n)
 
 -- "one is accepted exactly if the other is"; "accepted, both give the same baseline or delta and leave the same store
 -- and record": answer, record, store and output are equal. "Which refusal is named may differ."
-pub record Alike (x y : Outcome) : Type 0 where
+pub record Alike (x y : CallOutcome) : Type 0 where
   pub accepted : isAccepted (x .answer) ≡ isAccepted (y .answer)
   pub outcome : isAccepted (x .answer) ≡ true → x ≡ y
 

@@ -16,7 +16,7 @@ use Rattle.wire.specs.Fields.{fieldsOf}
 use Rattle.values.specs.Values.{numbersOf, partsOf, lastPart, numberIn}
 use Rattle.values.proofs.FrontLaws.{numbersFrom, partsFrom, NumberAt, PartAt, number-same, number-other, part-same, part-other}
 use Rattle.values.proofs.WalkLaws.{Kept, kept-done, kept-next, kept-stays, later, number-start, part-start}
-use Rattle.readers.specs.Messages.{segmentOf}
+use Rattle.readers.specs.Messages.{readSegment}
 use Rattle.readers.specs.Places.{headOf, SegmentIs}
 
 pub record NumbersKept (s : List ℕ) (at : ℕ) (numbers : List ℕ) : Type 0 where
@@ -80,7 +80,7 @@ module _ {s : List ℕ} {at start len : ℕ} (k : TopicKept s at start len) wher
 -- nothing is left of the segment
 pub head-says : {s : List ℕ} {at : ℕ} {numbers : List ℕ} {start len : ℕ} → ((n : ℕ) → numbersFrom n s at ≡ []) → partsFrom 4 s at ≡ []
     → NumbersKept s at numbers → TopicKept s at start len → SegmentIs s (headOf numbers start len)
-unfolding segmentOf
+unfolding readSegment
 head-says {s} {at} {numbers} e g k t =
     let d : (n : ℕ) → n < 4 → getD numbers n 0 ≡ numberIn n (fieldsOf s) = λ n h. kept-done (e n) (k .each n h) in
     record {

@@ -24,7 +24,7 @@ use Rattle.values.proofs.FrontLaws.{partsFrom, PartAt, part-same}
 use Rattle.values.proofs.WalkLaws.{Kept, kept-done, kept-next}
 use Rattle.readers.specs.declared.IntRange.{IntRange}
 use Rattle.readers.specs.declared.SegmentHead.{SegmentHead}
-use Rattle.readers.specs.Messages.{intRangeOf, segmentOf}
+use Rattle.readers.specs.Messages.{intRangeOf, readSegment}
 use Rattle.readers.specs.Places.{SegmentIs}
 use Rattle.content.specs.Content.{bucketOk, bucketOf}
 use Rattle.segment_scan.specs.declared.BucketRun.{BucketRun}
@@ -114,7 +114,7 @@ abbrev pub rangesFrom : List ℕ → ℕ → List IntRange
 rangesFrom p at = map intRangeOf (partsFrom 5 p at)
 
 abbrev pub rangesIn : List ℕ → List IntRange
-rangesIn p = segmentOf p .bucketRanges
+rangesIn p = readSegment p .bucketRanges
 
 -- the part of a bucket, `&p[begin..end]`
 pub ranges-next : {p : List ℕ} {at f start len : ℕ} {r : IntRange} → PartAt p at f start len → f ≡ 5
@@ -134,7 +134,7 @@ pub record Scanned (all left : List IntRange) (at : ℕ) (o b : List ℕ) (from 
   pub long : length b ≡ length o
 
 pub scanned-start : (p : List ℕ) (at : ℕ) (o : List ℕ) → Scanned (rangesIn p) (rangesFrom p 0) at o o 0 noBuckets
-unfolding runOf segmentOf
+unfolding runOf readSegment
 scanned-start p at o =
     let z : at + 4 * 0 ≡ at = omega arith in
     record { ran = record { is = refl }; few = omega arith; wrote = λ g h. rw z; kept = refl; long = refl }

@@ -13,7 +13,7 @@ use Rattle.types.specs.declared.KeyRange.{KeyRange}
 use Rattle.packed_int.specs.Put.{put}
 use Rattle.packed.specs.Assignment.{encodeRange, encodeRanges}
 use Rattle.readers.specs.declared.IntRange.{IntRange}
-use Rattle.readers.specs.Messages.{segmentOf}
+use Rattle.readers.specs.Messages.{readSegment}
 use Rattle.readers.specs.Places.{SegmentIs}
 use Rattle.content.specs.Content.{bucketOk, bucketOf, bucketsOf}
 use Rattle.segment_scan.specs.declared.BucketRun.{BucketRun}
@@ -56,7 +56,7 @@ bucketWritten run r b at room = cond (run .good && bucketOk r) (roomFor b at (ru
 -- the walk over the segment p, with the buckets written to b from the place at on, where they are good and there is room
 pub record ScanIs (p : List ℕ) (at : ℕ) (b : List ℕ) (r : SegmentScan) (b′ : List ℕ) : Type 0 where
   pub head : SegmentIs p (r .head)
-  pub run : r .run ≡ runOf (segmentOf p .bucketRanges)
-  pub wrote : r .run .good ≡ true → at + 4 * length (segmentOf p .bucketRanges) ≤ length b → b′ ≡ put b at (encodeRanges (bucketsOf (segmentOf p)))
+  pub run : r .run ≡ runOf (readSegment p .bucketRanges)
+  pub wrote : r .run .good ≡ true → at + 4 * length (readSegment p .bucketRanges) ≤ length b → b′ ≡ put b at (encodeRanges (bucketsOf (readSegment p)))
   pub kept : take at b′ ≡ take at b
   pub long : length b′ ≡ length b

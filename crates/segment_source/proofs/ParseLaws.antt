@@ -32,7 +32,7 @@ use Rattle.parents.specs.Classes.{classOf}
 use Rattle.parents.specs.Parents.{topicScheme, isPath}
 use Rattle.topic.specs.Names.{segmentScheme}
 use Rattle.topic.specs.declared.NameAnswer.the-variants.{Written}
-use Rattle.topic.specs.Build.{outcome, refuse, written}
+use Rattle.topic.specs.Build.{nameOutcome, refuse, written}
 use Rattle.digits.specs.declared.Number.the-variants.{Is, None}
 use Rattle.segment_source.specs.declared.Slash.the-variants.{At, Nothing}
 use Rattle.segment_source.specs.declared.Parsed.the-variants.{Name, Refused}
@@ -234,7 +234,7 @@ module _ (t o : List ℕ) where
     parent-no-room h = parent-is ∙ rw (parent-length, lt-leb (n - 2) (length o) h)
 
     pub parent-written : n - 2 ≤ length o
-        → parentTopic t o ≡ outcome (Written (n - 2)) (put (put o 0 topicScheme) 8 (take (n - 10) (drop 10 t)))
+        → parentTopic t o ≡ nameOutcome (Written (n - 2)) (put (put o 0 topicScheme) 8 (take (n - 10) (drop 10 t)))
     unfolding written
     parent-written h =
         let f : put (put o 0 topicScheme) 8 (take (n - 10) (drop 10 t)) ≡ put o 0 (topicScheme ++ take (n - 10) (drop 10 t)) =

@@ -21,7 +21,7 @@ use Rattle.utf8.specs.Table.{isUtf8}
 use Rattle.parents.specs.Classes.{isSlash, isDash}
 use Rattle.parents.specs.Parents.{topicScheme, isPath}
 use Rattle.topic.specs.Names.{segmentScheme}
-use Rattle.topic.specs.Build.{Outcome, unwritten, written}
+use Rattle.topic.specs.Build.{NameOutcome, unwritten, written}
 use Rattle.digits.specs.Digits.{decimalValue, hexValue, isHexWord, isSegmentId}
 use Rattle.segment_source.specs.declared.SourceAnswer.{SourceAnswer}
 use Rattle.segment_source.specs.declared.SourceAnswer.the-variants as source
@@ -97,7 +97,7 @@ segmentSource id t = do
   source.Source (record { «segment_id» = id; «key_range» = name .range })
 
 -- `SegmentSource::parent_topic` of a name: `topic://` and the path
-unfoldable pub parentTopic : (t out : List ℕ) → Outcome
+unfoldable pub parentTopic : (t out : List ℕ) → NameOutcome
 parentTopic t out = do
   name ← takeName (unwritten out) (parseText t)  -- 7, 18, 12, 18, 9
   written (topicScheme ++ take (name .pathEnd - 10) (drop 10 t)) out  -- 21
@@ -110,7 +110,7 @@ sourceStage id x = do
   refuseUnless source.Refused (eqb (name .id .0) (id .0)) (SegmentIdMismatch id (name .id))
   source.Source (record { «segment_id» = id; «key_range» = name .range })
 
-unfoldable pub parentOutcome : (t out : List ℕ) → Parsed → Outcome
+unfoldable pub parentOutcome : (t out : List ℕ) → Parsed → NameOutcome
 parentOutcome t out x = do
   name ← takeName (unwritten out) x
   written (topicScheme ++ take (name .pathEnd - 10) (drop 10 t)) out

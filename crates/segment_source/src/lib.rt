@@ -2,7 +2,7 @@
 //
 // A name is `segment://`, a parent's path, '/', and a descriptor `ssss-eeee-id`. Every function takes a part of any length and content.
 ghost use mathlib.Core.Path.{_≡_};
-ghost use Rattle.topic.specs.Build.{outcome};
+ghost use Rattle.topic.specs.Build.{nameOutcome};
 ghost use Rattle.segment_source.specs.Parse.{lastSlash, descriptorStage, parseSegmentTopic, parseText, segmentSource, parentTopic};
 use digits::Number;
 use digits::hex_word;
@@ -133,7 +133,7 @@ pub fn segment_source(id: SegmentId, topic: &[u8]) -> SourceAnswer
 // Writes the parent of a segment's name: `topic://` and the path. Tested as by `segment_source` without the id, then the room (21). A refusal
 // leaves the output as it was.
 pub fn parent_topic(topic: &[u8], out: &mut [u8]) -> NameAnswer
-    ensures { λ r. ⌜ outcome r (now (out .exit)) ≡ parentTopic (now (topic .entry)) (now (out .entry)) ⌝ }
+    ensures { λ r. ⌜ nameOutcome r (now (out .exit)) ≡ parentTopic (now (topic .entry)) (now (out .entry)) ⌝ }
 {
     match parse_text(topic) {
         Parsed::Refused(refusal) => NameAnswer::Refused(refusal),

@@ -15,7 +15,7 @@ use Rattle.delta.specs.Delta.{AssignmentDelta}
 use Rattle.delta.specs.Change.{deltaBetween}
 use Rattle.delta.specs.Join.{Proper, apply}
 use Rattle.session.specs.Session.{Session, Reply, nothing, replayed, Result, positionOf, raise}
-use Rattle.session.specs.Drain.{Found, end, entry, nextChange, withPosition, placeOf, drained, nextFor, drainCall}
+use Rattle.session.specs.Drain.{Found, end, entry, nextChange, withPosition, entryPlace, drained, nextFor, drainCall}
 use Rattle.session.specs.Trace.{drain}
 use Rattle.session.specs.Observers.{Seen}
 use Rattle.session.proofs.Model.{after, isNothing}
@@ -69,7 +69,7 @@ module _ (reader by : ℕ) (apart : by ≢ reader) (s : Session) (o : Seen) wher
   other-found w end g =
       good-same reader w s (drained s by end) o (good-counted reader w s o g) (other-moved w nothing (s .state .«queue_count») g)
   other-found w (entry j d) g =
-      good-same reader w s (drained s by (entry j d)) o (good-counted reader w s o g) (other-moved w (replayed j (placeOf (s .queue) j) d) (suc j) g)
+      good-same reader w s (drained s by (entry j d)) o (good-counted reader w s o g) (other-moved w (replayed j (entryPlace (s .queue) j) d) (suc j) g)
 
   -- whatever it answers
   other-drain : (w : Bool) (out : List ℕ) → Good reader w s o

@@ -17,7 +17,7 @@ use Rattle.types.specs.declared.ScalableConsumerType.the-variants.{Stream, Chec
 use Rattle.packed_int.specs.Be.{be, beAt, bytesOf}
 use Rattle.packed_int.proofs.BeLaws.{length-bytesOf, be-front, drop-front}
 use Rattle.session.specs.Identity.{Identity, kindByte, textsLength, encodeIdentity, topicLength, subscriptionLength, nameLength}
-use Rattle.session.specs.Identity.{topicOf, subscriptionOf, consumerNameOf, kindOf, isIdentity}
+use Rattle.session.specs.Identity.{identityTopic, subscriptionOf, consumerNameOf, identityKind, isIdentity}
 use Rattle.session.specs.Calls.{allUtf8}
 
 pub length-encodeIdentity : (i : Identity) → length (encodeIdentity i) ≡ 7 + textsLength i
@@ -73,7 +73,7 @@ module _ (i : Identity) (r : List ℕ) where
 
   -- ---- the kind and the lengths
 
-  pub read-kind : kindOf (encodeIdentity i ++ r) ≡ kindByte (i .consumerType)
+  pub read-kind : identityKind (encodeIdentity i ++ r) ≡ kindByte (i .consumerType)
   read-kind = sym (getD-drop 6 (encodeIdentity i ++ r) 0 0) ∙ ap (λ (l : List ℕ). getD l 0 0) behind-six
 
   module _ (h : textsLength i ≤ 2041) where
@@ -92,8 +92,8 @@ module _ (i : Identity) (r : List ℕ) where
 
     -- ---- the texts
 
-    pub read-topic : topicOf (encodeIdentity i ++ r) ≡ i .topic
-    unfolding topicOf
+    pub read-topic : identityTopic (encodeIdentity i ++ r) ≡ i .topic
+    unfolding identityTopic
     read-topic = rw (topic-length, behind-seven) (take-at (i .topic) _ (length (i .topic)) refl)
 
     pub read-subscription : subscriptionOf (encodeIdentity i ++ r) ≡ i .subscription

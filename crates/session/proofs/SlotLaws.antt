@@ -16,10 +16,10 @@ use lib.Dec.{ltb}
 use borrow.Author.Tests.{ltb-true, ltb-false}
 use Rattle.packed_int.specs.Put.{put}
 use Rattle.packed_int.proofs.PutLaws.{length-put}
-use Rattle.packed.specs.Assignment.{ConsumerAssignment, slotSize, encodeAssignment, assignmentOf, startsAssignment}
+use Rattle.packed.specs.Assignment.{ConsumerAssignment, slotSize, encodeAssignment, decodeAssignment, startsAssignment}
 use Rattle.packed.proofs.RoundLaws.{length-encodeAssignment, read-assignment, starts-encode}
 use Rattle.keyed.proofs.EachLaws.{Each, each-append}
-use Rattle.packed_queue.specs.Entries.{encodeEntry, encodeEntries, sizeEntry, sizeEntries, entriesOf}
+use Rattle.packed_queue.specs.Entries.{encodeEntry, encodeEntries, sizeEntry, sizeEntries, decodeEntries}
 use Rattle.packed_queue.proofs.EntryLaws.{Packable, packable-size, length-encodeEntry, length-encodeEntries, encode-snoc}
 use Rattle.packed_queue.proofs.EntryLaws.{Row, row-none, row-read, row-start, row-front, row-sheet}
 use Rattle.session.specs.Store.{slot, listIn, queueIn, queueReads, queueEnd, toSlot, push, writeOne}
@@ -107,7 +107,7 @@ module _ (k : ℕ) (a : ConsumerAssignment) (st : List ℕ) (p : Packable a) (in
 
   pub list-same : listIn (writeOne (toSlot k a) st) k ≡ a
   unfolding listIn
-  list-same = ap assignmentOf slot-same ∙ read-assignment a _ (p .fits)
+  list-same = ap decodeAssignment slot-same ∙ read-assignment a _ (p .fits)
 
   pub starts-same : startsAssignment (slot (writeOne (toSlot k a) st) k) ≡ true
   starts-same = ap startsAssignment slot-same ∙ starts-encode a _ (p .fits) (p .ok)
@@ -135,7 +135,7 @@ queued-none st = record { lists = []; row = row-none (drop 6144 st); counted = r
 -- in a store with the same bytes there
 pub queue-same : (st : List ℕ) (n : ℕ) (su : List ℕ) → drop 6144 su ≡ drop 6144 st → queueIn su n ≡ queueIn st n
 unfolding queueIn
-queue-same st n su e = ap (entriesOf n) e
+queue-same st n su e = ap (decodeEntries n) e
 
 module _ (st : List ℕ) (n : ℕ) (h : Queued st n) where
   pub queued-lists : queueIn st n ≡ h .lists
@@ -166,11 +166,11 @@ module _ (st : List ℕ) (n : ℕ) (h : Queued st n) where
 
   -- the list of one of them, behind its length
   pub queued-sheet : (i : ℕ) (z : ConsumerAssignment) → i < length (queueIn st n)
-      → assignmentOf (take slotSize (drop (queueEnd (take i (queueIn st n)) + 2) st)) ≡ getD (queueIn st n) i z
+      → decodeAssignment (take slotSize (drop (queueEnd (take i (queueIn st n)) + 2) st)) ≡ getD (queueIn st n) i z
   queued-sheet i z l =
       let m : ℕ = sizeEntries (take i (queueIn st n)) + 2 in
       let e : 6144 + sizeEntries (take i (queueIn st n)) + 2 ≡ 6144 + m = omega arith in
-      ap (λ k. assignmentOf (take slotSize (drop k st))) e ∙ ap (λ x. assignmentOf (take slotSize x)) (sym (drop-drop m 6144 st))
+      ap (λ k. decodeAssignment (take slotSize (drop k st))) e ∙ ap (λ x. decodeAssignment (take slotSize x)) (sym (drop-drop m 6144 st))
       ∙ row-sheet (queueIn st n) (drop 6144 st) (subst (λ q. Row q (drop 6144 st)) (sym queued-lists) (h .row)) i z l
 
   -- in a store with the same bytes there

@@ -28,7 +28,7 @@ use Rattle.readers.specs.Messages.{WireAssignment, updateOf, responseOf}
 use Rattle.packed_int.specs.Put.{put}
 use Rattle.packed.specs.Assignment.{ConsumerAssignment}
 use Rattle.packed.specs.Equal.{sameAssignment}
-use Rattle.delta.specs.Delta.{AssignmentDelta, encodeDelta, sizeDelta, deltaOf}
+use Rattle.delta.specs.Delta.{AssignmentDelta, encodeDelta, sizeDelta, decodeDelta}
 use Rattle.delta.proofs.RoundLaws.{FitDelta, read-delta, length-encodeDelta}
 use Rattle.keyed.proofs.KeyedLaws.{choose}
 use Rattle.content.specs.Content as content
@@ -47,9 +47,9 @@ use Rattle.session.specs.Tails.{updateContent, updateValid, updateChecke
 use Rattle.session.specs.Response.{staleFault, lastList, replayable, responseCall}
 use Rattle.session.specs.Drain.{Found, end, entry, nextChange, drained, drainCall}
 use Rattle.session.specs.Link.{beginOf, invalidateOf}
-use Rattle.session.specs.Calls.{Outcome, answerOf, outputOf, effectOf, updateOutcome, responseOutcome, drainOutcome}
+use Rattle.session.specs.Calls.{CallOutcome, answerOf, outputOf, effectOf, updateOutcome, responseOutcome, drainOutcome}
 use Rattle.session.specs.Trace.{Call, update, response, drain, begin, invalidate, stepOf}
-use Rattle.session.specs.Trace.{isAccepted, isNone, handedOut, eventOf, trace, final}
+use Rattle.session.specs.Trace.{isAccepted, isNone, handedOut, traceEvent, trace, final}
 use Rattle.session.specs.DemandThree.{OfBytes, AllOfBytes}
 use Rattle.session.proofs.Model.{beginCall, resultOf, accepts, isNothing, handed, valueEvent, valueTrace, valueFinal}
 use Rattle.session.proofs.PositionLaws.{within-start, within-moved}
@@ -226,10 +226,10 @@ none-is (changed d) = refl
 none-is (replayed index place d) = refl
 
 -- a delta is read back from the output's front
-pub delta-back : (d : AssignmentDelta) (out : List ℕ) → FitDelta d → deltaOf (take (sizeDelta d) (put out 0 (encodeDelta d))) ≡ d
+pub delta-back : (d : AssignmentDelta) (out : List ℕ) → FitDelta d → decodeDelta (take (sizeDelta d) (put out 0 (encodeDelta d))) ≡ d
 unfolding put
 delta-back d out f =
-    ap deltaOf (take-at (encodeDelta d) _ (sizeDelta d) (length-encodeDelta d) ∙ sym (append-nil (encodeDelta d))) ∙ read-delta d [] f
+    ap decodeDelta (take-at (encodeDelta d) _ (sizeDelta d) (length-encodeDelta d) ∙ sym (append-nil (encodeDelta d))) ∙ read-delta d [] f
 
 pub handed-is : (x : Reply) (out : List ℕ) → FitReply x → handedOut (answerOf x) (outputOf x out) ≡ handed x
 handed-is (refused x) out f = refl
@@ -262,7 +262,7 @@ step-is r st (begin incarnation) = go (ltb (r .incarnation .0) (incarnation .0))
 step-is r st invalidate = refl
 
 pub event-is : (r : SessionRecord) (st : List ℕ) (c : Call) → Follows r st (resultOf (view r st) c)
-    → eventOf c (effectOf (resultOf (view r st) c) st (outOf c)) ≡ valueEvent (view r st) c
+    → traceEvent c (effectOf (resultOf (view r st) c) st (outOf c)) ≡ valueEvent (view r st) c
 unfolding view
 event-is r st c f = λ i.
     record {
@@ -295,10 +295,10 @@ same (c ∷ cs) r st k b =
     let e : stepOf r st c ≡ effectOf x st (outOf c) = step-is r st c in
     record {
       events =
-          ap (λ (o : Outcome). eventOf c o ∷ trace (o .next) (o .store) cs) e
+          ap (λ (o : CallOutcome). traceEvent c o ∷ trace (o .next) (o .store) cs) e
           ∙ ap₂ _∷_ (event-is r st c f) (h .events ∙ ap (λ s. valueTrace s cs) (f .session));
       ends =
-          ap (λ (o : Outcome). view (final (o .next) (o .store) cs .state) (final (o .next) (o .store) cs .store)) e
+          ap (λ (o : CallOutcome). view (final (o .next) (o .store) cs .state) (final (o .next) (o .store) cs .store)) e
           ∙ h .ends ∙ ap (λ s. valueFinal s cs) (f .session);
-      kept = subst (λ (o : Outcome). Kept (final (o .next) (o .store) cs .state) (final (o .next) (o .store) cs .store)) (sym e) (h .kept);
+      kept = subst (λ (o : CallOutcome). Kept (final (o .next) (o .store) cs .state) (final (o .next) (o .store) cs .store)) (sym e) (h .kept);
     }

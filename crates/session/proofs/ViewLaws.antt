@@ -15,7 +15,7 @@ use lib.Seq.{take-all}
 use lib.Dec.{eqb, ltb, leb}
 use borrow.Author.Tests.{ltb-false, eqb-true, eqb-false, le-ltb, not-false}
 use Rattle.parts.specs.BoolLaws.{both-true}
-use Rattle.packed.specs.Assignment.{ConsumerAssignment, assignmentOf, sizeAssignment, startsAssignment}
+use Rattle.packed.specs.Assignment.{ConsumerAssignment, decodeAssignment, sizeAssignment, startsAssignment}
 use Rattle.packed.proofs.RoundLaws.{FitAssignment}
 use Rattle.delta.specs.Change.{deltaBetween}
 use Rattle.delta.proofs.RoundLaws.{FitDelta}
@@ -25,7 +25,7 @@ use Rattle.packed_queue.proofs.EntryLaws.{Packable, packable-size}
 use Rattle.keyed.proofs.EachLaws.{Each}
 use Rattle.session.specs.declared.SessionRecord.{SessionRecord}
 use Rattle.session.specs.Store.{slot, listIn, queueIn, queueReads, queueEnd, toSlot, push, writeOne, writeAll}
-use Rattle.session.specs.Identity.{topicOf, isIdentity}
+use Rattle.session.specs.Identity.{identityTopic, isIdentity}
 use Rattle.session.specs.Session.{Session, listsStart, inUse, view, anyBeyond, damaged, Result}
 use Rattle.session.specs.Session.{Reply, refused, accepted, nothing, changed, replayed}
 use Rattle.session.specs.Update.{enqueue, hold}
@@ -79,16 +79,16 @@ pub stands-packable : (st : List ℕ) (k : ℕ) → Stands st k → Packable (li
 unfolding listIn startsAssignment
 stands-packable st k s =
     let l : List ℕ = slot st k in
-    record { fits = s .fits; ok = both-true (leb (sizeAssignment (assignmentOf l)) (length l)) _ (s .starts) .1 }
+    record { fits = s .fits; ok = both-true (leb (sizeAssignment (decodeAssignment l)) (length l)) _ (s .starts) .1 }
 
 pub stands-same : (st su : List ℕ) (k : ℕ) → slot su k ≡ slot st k → Stands st k → Stands su k
 unfolding listIn
 stands-same st su k e s =
-    record { fits = subst (λ l. FitAssignment (assignmentOf l)) (sym e) (s .fits); starts = ap startsAssignment e ∙ s .starts }
+    record { fits = subst (λ l. FitAssignment (decodeAssignment l)) (sym e) (s .fits); starts = ap startsAssignment e ∙ s .starts }
 
 list-still : (st su : List ℕ) (k : ℕ) → slot su k ≡ slot st k → listIn su k ≡ listIn st k
 unfolding listIn
-list-still st su k e = ap assignmentOf e
+list-still st su k e = ap decodeAssignment e
 
 -- ---- behind a write to a slot
 
@@ -129,7 +129,7 @@ module _ (k : ℕ) (a : ConsumerAssignment) (st : List ℕ) (p : Slotted (length
     where
       go : (b : Bool) → eqb k j ≡ b → listIn (writeOne (toSlot k a) st) j ≡ cond b a (listIn st j)
       go true t = subst (λ i. listIn (writeOne (toSlot k a) st) i ≡ a) (eqb-true k j t) (list-same k a st (p .packable) inside)
-      go false t = ap assignmentOf (slot-other k a st (p .packable) inside j (λ e. eqb-false k j t (sym e)))
+      go false t = ap decodeAssignment (slot-other k a st (p .packable) inside j (λ e. eqb-false k j t (sym e)))
 
   lists-kept : (n : ℕ) → queueIn (writeOne (toSlot k a) st) n ≡ queueIn st n
   lists-kept n = queue-same st n (writeOne (toSlot k a) st) (area-slotted k a st (p .packable) inside (p .below))
@@ -216,7 +216,7 @@ module _ (r : SessionRecord) (st : List ℕ) (k : Kept r st) where
       let s : inUse (x .next) (writeAll (x .writes) st) ≡ inUse r st =
       sound-is (x .next) (writeAll (x .writes) st) n ∙ ap isIdentity e ∙ sym (sound-is r st k) in
       λ i.
-      record { state = x .next; size = z i; sound = s i; topic = topicOf (e i); baseline = b i; list = l i; queue = q i }
+      record { state = x .next; size = z i; sound = s i; topic = identityTopic (e i); baseline = b i; list = l i; queue = q i }
 
   -- the queue, or its front, where no list joined it
   queue-still : (m : ℕ) → m ≤ r .«queue_count» → queueIn st m ≡ take m (queued ++ [])

@@ -22,21 +22,21 @@ use Rattle.session.specs.declared.Answer.the-variants as answer
 use Rattle.session.specs.declared.Match.{Match}
 use Rattle.session.specs.declared.Match.the-variants as match′
 use Rattle.session.specs.Store.{minStore, identitySlot, slot, writeAll}
-use Rattle.session.specs.Identity.{Identity, maxTexts, kindByte, textsLength, encodeIdentity, topicOf, subscriptionOf, consumerNameOf, kindOf, isIdentity}
+use Rattle.session.specs.Identity.{Identity, maxTexts, kindByte, textsLength, encodeIdentity, identityTopic, subscriptionOf, consumerNameOf, identityKind, isIdentity}
 use Rattle.session.specs.Session.{Session, atStart, view, Reply, refused, accepted, nothing, changed, replayed, Result}
 use Rattle.session.specs.Update.{updateCall}
 use Rattle.session.specs.Response.{responseCall}
 use Rattle.session.specs.Drain.{drainCall}
 
 -- what a call leaves: answer, record, store, output
-pub record Outcome : Type 0 where
+pub record CallOutcome : Type 0 where
   pub answer : Answer
   pub next : SessionRecord
   pub store : List ℕ
   pub out : List ℕ
 
-abbrev pub outcome : Answer → SessionRecord → (store out : List ℕ) → Outcome
-outcome answer next store out = record { answer = answer; next = next; store = store; out = out }
+abbrev pub callOutcome : Answer → SessionRecord → (store out : List ℕ) → CallOutcome
+callOutcome answer next store out = record { answer = answer; next = next; store = store; out = out }
 
 abbrev pub answerOf : Reply → Answer
 answerOf (refused x) = answer.Refused x
@@ -54,18 +54,18 @@ outputOf (changed d) out = put out 0 (encodeDelta d)
 outputOf (replayed index place d) out = put out 0 (encodeDelta d)
 
 -- a result on bytes
-abbrev pub effectOf : Result → (store out : List ℕ) → Outcome
+abbrev pub effectOf : Result → (store out : List ℕ) → CallOutcome
 effectOf result store out =
-    outcome (answerOf (result .reply)) (result .next) (writeAll (result .writes) store) (outputOf (result .reply) out)
+    callOutcome (answerOf (result .reply)) (result .next) (writeAll (result .writes) store) (outputOf (result .reply) out)
 
-unfoldable pub updateOutcome : (r : SessionRecord) (store message : List ℕ) (incarnation : ControllerIncarnation) (out : List ℕ) → Outcome
+unfoldable pub updateOutcome : (r : SessionRecord) (store message : List ℕ) (incarnation : ControllerIncarnation) (out : List ℕ) → CallOutcome
 updateOutcome r store message incarnation out = effectOf (updateCall (view r store) message incarnation (length out)) store out
 
 -- no output is lent: none is written
-unfoldable pub responseOutcome : (r : SessionRecord) (store message : List ℕ) (incarnation : ControllerIncarnation) (out : List ℕ) → Outcome
+unfoldable pub responseOutcome : (r : SessionRecord) (store message : List ℕ) (incarnation : ControllerIncarnation) (out : List ℕ) → CallOutcome
 responseOutcome r store message incarnation out = effectOf (responseCall (view r store) message incarnation) store out
 
-unfoldable pub drainOutcome : (r : SessionRecord) (store : List ℕ) (reader : ℕ) (out : List ℕ) → Outcome
+unfoldable pub drainOutcome : (r : SessionRecord) (store : List ℕ) (reader : ℕ) (out : List ℕ) → CallOutcome
 drainOutcome r store reader out = effectOf (drainCall (view r store) reader (length out)) store out
 
 -- ---- open: 1, 7, 8
@@ -111,9 +111,9 @@ openOutcome consumer incarnation i store = do
 -- nothing is asked of the texts that are lent: those that are no identity's just do not match
 abbrev pub sameIdentity : List ℕ → Identity → Bool
 sameIdentity l i =
-    sameBytes (topicOf l) (i .topic)
+    sameBytes (identityTopic l) (i .topic)
     && (sameBytes (subscriptionOf l) (i .subscription)
-    && (sameBytes (consumerNameOf l) (i .consumerName) && eqb (kindOf l) (kindByte (i .consumerType))))
+    && (sameBytes (consumerNameOf l) (i .consumerName) && eqb (identityKind l) (kindByte (i .consumerType))))
 
 unfoldable pub matchOf : List ℕ → Identity → Match
 matchOf store i = do

@@ -37,13 +37,13 @@ withPosition r reader k =
     withFields r (r .incarnation) (r .registered) (r .invalidated) (r .«epoch_floor») (r .«queue_count») (set (r .«drain_positions») reader k)
 
 -- "the byte place of its sheet in the store": behind those before it and its own length
-abbrev pub placeOf : List ConsumerAssignment → ℕ → ℕ
-placeOf queue i = queueEnd (take i queue) + 2
+abbrev pub entryPlace : List ConsumerAssignment → ℕ → ℕ
+entryPlace queue i = queueEnd (take i queue) + 2
 
 unfoldable pub drained : Session → (reader : ℕ) → Found → Result
 drained s reader end = record { reply = session.nothing; next = withPosition (s .state) reader (s .state .«queue_count»); writes = [] }
 drained s reader (entry i d) =
-    record { reply = session.replayed i (placeOf (s .queue) i) d; next = withPosition (s .state) reader (suc i); writes = [] }
+    record { reply = session.replayed i (entryPlace (s .queue) i) d; next = withPosition (s .state) reader (suc i); writes = [] }
 
 -- what a reader finds
 abbrev pub nextFor : Session → (reader : ℕ) → Found

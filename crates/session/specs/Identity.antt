@@ -48,8 +48,8 @@ subscriptionLength l = beAt 2 l 2
 abbrev pub nameLength : List ℕ → ℕ
 nameLength l = beAt 2 l 4
 
-unfoldable pub topicOf : List ℕ → List ℕ
-topicOf l = take (topicLength l) (drop identityHead l)
+unfoldable pub identityTopic : List ℕ → List ℕ
+identityTopic l = take (topicLength l) (drop identityHead l)
 
 unfoldable pub subscriptionOf : List ℕ → List ℕ
 subscriptionOf l = take (subscriptionLength l) (drop (identityHead + topicLength l) l)
@@ -57,12 +57,12 @@ subscriptionOf l = take (subscriptionLength l) (drop (identityHead + topicLength
 unfoldable pub consumerNameOf : List ℕ → List ℕ
 consumerNameOf l = take (nameLength l) (drop (identityHead + topicLength l + subscriptionLength l) l)
 
-abbrev pub kindOf : List ℕ → ℕ
-kindOf l = getD l 6 0
+abbrev pub identityKind : List ℕ → ℕ
+identityKind l = getD l 6 0
 
 -- "An identity is malformed with texts above 2,041 bytes or not UTF-8, or a kind above 1."
 unfoldable pub isIdentity : List ℕ → Bool
 isIdentity l =
-    leb (kindOf l) 1
+    leb (identityKind l) 1
     && (leb (topicLength l + subscriptionLength l + nameLength l) maxTexts
-    && (isUtf8 (topicOf l) && (isUtf8 (subscriptionOf l) && isUtf8 (consumerNameOf l))))
+    && (isUtf8 (identityTopic l) && (isUtf8 (subscriptionOf l) && isUtf8 (consumerNameOf l))))

@@ -16,7 +16,7 @@ use Rattle.session.specs.declared.SessionRecord.{SessionRecord}
 use Rattle.session.specs.declared.Floor.{Floor}
 use Rattle.session.specs.declared.Floor.the-variants.{Unset, At}
 use Rattle.session.specs.Store.{maxQueue, baselineSlot, listSlot, identitySlot, slot, listIn, queueIn, queueReads, Write}
-use Rattle.session.specs.Identity.{topicOf, isIdentity}
+use Rattle.session.specs.Identity.{identityTopic, isIdentity}
 
 pub record Session : Type 0 where
   -- the record, as it is
@@ -46,7 +46,7 @@ view r store =
       state = r;
       size = length store;
       sound = inUse r store;
-      topic = topicOf (slot store identitySlot);
+      topic = identityTopic (slot store identitySlot);
       baseline = listIn store baselineSlot;
       list = listIn store listSlot;
       queue = queueIn store (r .«queue_count»);

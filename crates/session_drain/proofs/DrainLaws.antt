@@ -16,9 +16,9 @@ use borrow.Author.Tests.{lt-ltb, le-ltb, le-leb, lt-leb, not-true, not-false}
 use Rattle.refusal.specs.declared.Refusal.the-variants.{StoreTooShort, OutputTooShort, UnknownReader, MalformedStore}
 use Rattle.packed_int.specs.Be.{beAt}
 use Rattle.packed_int.specs.Put.{put}
-use Rattle.packed.specs.Assignment.{ConsumerAssignment, assignmentOf}
+use Rattle.packed.specs.Assignment.{ConsumerAssignment, decodeAssignment}
 use Rattle.packed.specs.Equal.{sameAssignment}
-use Rattle.packed_queue.specs.Entries.{sizeEntries, sheetIn, entryEnd, entriesOf, entriesEnd}
+use Rattle.packed_queue.specs.Entries.{sizeEntries, sheetIn, entryEnd, decodeEntries, entriesEnd}
 use Rattle.packed_queue.proofs.WalkLaws.{ends-split, entries-take}
 use Rattle.delta.specs.Delta.{AssignmentDelta, encodeDelta, sizeDelta}
 use Rattle.delta.specs.Change.{deltaBetween}
@@ -27,8 +27,8 @@ use Rattle.session.specs.declared.Changed.{Changed}
 use Rattle.session.specs.declared.Answer.the-variants.{Refused, Unchanged, Replay}
 use Rattle.session.specs.Store.{slot, listIn, queueIn, queueEnd}
 use Rattle.session.specs.Session.{positionOf, view, damaged}
-use Rattle.session.specs.Drain.{Found, end, entry, nextChange, withPosition, placeOf, drained, drainCall}
-use Rattle.session.specs.Calls.{outcome, effectOf, drainOutcome}
+use Rattle.session.specs.Drain.{Found, end, entry, nextChange, withPosition, entryPlace, drained, drainCall}
+use Rattle.session.specs.Calls.{callOutcome, effectOf, drainOutcome}
 use Rattle.session_store.specs.Places.{Lies, entryIn, listBefore}
 use Rattle.session_store.proofs.StoreLaws.{count-most, lists-start, queue-starts, entry-room, entry-lies, entry-next}
 use Rattle.session_drain.specs.declared.Reached.{Reached}
@@ -46,7 +46,7 @@ before-later st (suc i) at size h y = let e : suc i - 1 ≡ i = omega arith in s
 
 -- the first entry, behind the baseline
 pub reaches-first : (st : List ℕ) (n : ℕ) → Entries st n → Reaches st (record { i = 0; at = 6144; before = 2048; until = 4096 })
-unfolding listIn slot queueIn entriesOf sizeEntries
+unfolding listIn slot queueIn decodeEntries sizeEntries
 reaches-first st n e =
     record {
       here = refl;
@@ -88,15 +88,15 @@ abbrev listsFrom : List ℕ → ℕ → ℕ → List ConsumerAssignment
 listsFrom st zero i = []
 listsFrom st (suc n) i = entryIn st i ∷ listsFrom st n (suc i)
 
-lists-from : (st : List ℕ) (n i : ℕ) → entriesOf n (drop (entriesEnd i (drop 6144 st)) (drop 6144 st)) ≡ listsFrom st n i
-unfolding entriesOf entryIn entriesEnd
+lists-from : (st : List ℕ) (n i : ℕ) → decodeEntries n (drop (entriesEnd i (drop 6144 st)) (drop 6144 st)) ≡ listsFrom st n i
+unfolding decodeEntries entryIn entriesEnd
 lists-from st zero i = refl
 lists-from st (suc n) i =
     let l = drop 6144 st in
     let x = drop (entriesEnd i l) l in
     let e : entriesEnd (suc i) l ≡ entriesEnd i l + entryEnd x = ap (λ m. entriesEnd m l) (sym (add-one i)) ∙ ends-split i 1 l ∙ omega arith in
-    ap (assignmentOf (sheetIn x) ∷_)
-    (ap (entriesOf n) (drop-drop (entryEnd x) (entriesEnd i l) l ∙ ap (λ m. drop m l) (sym e)) ∙ lists-from st n (suc i))
+    ap (decodeAssignment (sheetIn x) ∷_)
+    (ap (decodeEntries n) (drop-drop (entryEnd x) (entriesEnd i l) l ∙ ap (λ m. drop m l) (sym e)) ∙ lists-from st n (suc i))
 
 queue-from : (st : List ℕ) (n : ℕ) → queueIn st n ≡ listsFrom st n 0
 unfolding queueIn entriesEnd
@@ -152,8 +152,8 @@ module _ (st : List ℕ) (from n : ℕ) (r : Reached) (w : Walked st from n r) w
   ended h = w .found ∙ walk-ends st n (r .i) (omega (arith, w .low)) h
 
   module _ (e : Entries st n) (h : r .i < n) (len : ℕ) (z : len ≡ beAt 2 st (r .at)) (x : Bool)
-      (f : x ≡ sameAssignment (assignmentOf (take (r .until - r .before) (drop (r .before) st)))
-      (assignmentOf (take (r .at + 2 + len - (r .at + 2)) (drop (r .at + 2) st)))) where
+      (f : x ≡ sameAssignment (decodeAssignment (take (r .until - r .before) (drop (r .before) st)))
+      (decodeAssignment (take (r .at + 2 + len - (r .at + 2)) (drop (r .at + 2) st)))) where
     pub stops : not x ≡ true → nextChange 0 (listIn st 1) (queueIn st n) from ≡ foundAt st n (r .i)
     stops g = w .found ∙ entry-differs st n (r .i) h x _ _ (w .reaches .lies .holds) (next-lies st n r (w .reaches) e h len z .holds) f g
 
@@ -176,34 +176,34 @@ unfolding foundAt
 found-some st n i h = rw (lt-ltb i n h)
 
 -- its place
-placed : (st : List ℕ) (n i : ℕ) → i < n → placeOf (queueIn st n) i ≡ queueEnd (queueIn st i) + 2
+placed : (st : List ℕ) (n i : ℕ) → i < n → entryPlace (queueIn st n) i ≡ queueEnd (queueIn st i) + 2
 unfolding queueIn
 placed st n i h = ap (λ q. queueEnd q + 2) (entries-take i n (drop 6144 st) (omega arith))
 
 -- ---- the call
 
 -- what is answered, with the record, is what the call gives
-pub told : (r : SessionRecord) (st : List ℕ) (reader : ℕ) (out : List ℕ) {x y : Changed} → x ≡ y → outcome (y .answer) (y .next) st out ≡ drainOutcome r st reader out
-    → outcome (x .answer) (x .next) st out ≡ drainOutcome r st reader out
+pub told : (r : SessionRecord) (st : List ℕ) (reader : ℕ) (out : List ℕ) {x y : Changed} → x ≡ y → callOutcome (y .answer) (y .next) st out ≡ drainOutcome r st reader out
+    → callOutcome (x .answer) (x .next) st out ≡ drainOutcome r st reader out
 told r st reader out e h = rw e h
 
 module _ (r : SessionRecord) (st : List ℕ) (reader : ℕ) (out : List ℕ) where
-  pub store-short : length st < 6144 → outcome (Refused StoreTooShort) r st out ≡ drainOutcome r st reader out
+  pub store-short : length st < 6144 → callOutcome (Refused StoreTooShort) r st out ≡ drainOutcome r st reader out
   unfolding drainOutcome drainCall view
   store-short h = rw (lt-ltb (length st) 6144 h)
 
   module _ (h : 6144 ≤ length st) where
-    pub output-short : length out < 3210 → outcome (Refused OutputTooShort) r st out ≡ drainOutcome r st reader out
+    pub output-short : length out < 3210 → callOutcome (Refused OutputTooShort) r st out ≡ drainOutcome r st reader out
     unfolding drainOutcome drainCall view
     output-short k = rw (le-ltb (length st) 6144 h, lt-ltb (length out) 3210 k)
 
     module _ (k : 3210 ≤ length out) where
-      pub reader-unknown : 8 ≤ reader → outcome (Refused UnknownReader) r st out ≡ drainOutcome r st reader out
+      pub reader-unknown : 8 ≤ reader → callOutcome (Refused UnknownReader) r st out ≡ drainOutcome r st reader out
       unfolding drainOutcome drainCall view
       reader-unknown l = rw (le-ltb (length st) 6144 h, le-ltb (length out) 3210 k, le-leb 8 reader l)
 
       pub store-bad : reader < 8 → (x : Bool) → x ≡ not (damaged (view r st)) → not x ≡ true
-          → outcome (Refused MalformedStore) r st out ≡ drainOutcome r st reader out
+          → callOutcome (Refused MalformedStore) r st out ≡ drainOutcome r st reader out
       unfolding drainOutcome drainCall view
       store-bad l x e f =
           rw (
@@ -225,7 +225,7 @@ pub record Taken (r : SessionRecord) (st : List ℕ) (reader : ℕ) (out : List 
   pub sound : not (damaged (view r st)) ≡ true
 
 module _ (r : SessionRecord) (st : List ℕ) (reader : ℕ) (out : List ℕ) (t : Taken r st reader out) where
-  pub unregistered : not (r .registered) ≡ true → outcome Unchanged r st out ≡ drainOutcome r st reader out
+  pub unregistered : not (r .registered) ≡ true → callOutcome Unchanged r st out ≡ drainOutcome r st reader out
   unfolding drainOutcome drainCall view
   unregistered g =
       rw (
@@ -260,7 +260,7 @@ module _ (r : SessionRecord) (st : List ℕ) (reader : ℕ) (out : List ℕ) (t 
 
     -- the walk stopped at entry i
     module _ (i : ℕ) (q : nextOf r st reader ≡ foundAt st (r .«queue_count») i) where
-      pub none-left : i ≡ r .«queue_count» → outcome Unchanged (withPosition r reader (r .«queue_count»)) st out ≡ drainOutcome r st reader out
+      pub none-left : i ≡ r .«queue_count» → callOutcome Unchanged (withPosition r reader (r .«queue_count»)) st out ≡ drainOutcome r st reader out
       unfolding view drained
       none-left p = found end (q ∙ found-none st (r .«queue_count») i p)
 
@@ -268,7 +268,7 @@ module _ (r : SessionRecord) (st : List ℕ) (reader : ℕ) (out : List ℕ) (t 
           → (a b : ConsumerAssignment) → a ≡ listBefore st i → b ≡ entryIn st i
           → (len : ℕ) → len ≡ sizeDelta (deltaBetween a b) → (new : List ℕ) → new ≡ put out 0 (encodeDelta (deltaBetween a b))
           → (next : SessionRecord) → next ≡ withPosition r reader (i + 1)
-          → outcome (Replay place len) next st new ≡ drainOutcome r st reader out
+          → callOutcome (Replay place len) next st new ≡ drainOutcome r st reader out
       unfolding view drained
       replayed p place ep a b ea eb len el new en next ex =
           rw (el, en, ex, ea, eb, add-one i, ep ∙ sym (placed st (r .«queue_count») i p)) (found (entry i (changeTo st i)) (q ∙ found-some st (r .«queue_count») i p))

@@ -3,7 +3,7 @@ ghost use mathlib.Core.Path.{_≡_};
 ghost use Prim.Native.Nat.{_≤_};
 ghost use Rattle.session.specs.Store.{listIn, queueIn};
 ghost use Rattle.session.specs.Drain.{nextChange};
-ghost use Rattle.session.specs.Calls.{outcome, drainOutcome};
+ghost use Rattle.session.specs.Calls.{callOutcome, drainOutcome};
 ghost use Rattle.session_drain.specs.Entries.{foundAt, Entries, Reaches};
 use packed::SLOT;
 use packed_queue::LENGTH;
@@ -87,7 +87,7 @@ fn next_change(store: &[u8], from: usize, n: usize) -> Reached
 // The next entry of the queue, from a reader's position on, that differs from its predecessor: its place in the store, and the delta in the output. Refused in
 // order: 1, 2, 33, 22.
 pub fn drained(r: SessionRecord, store: &[u8], reader: usize, out: &mut [u8]) -> Changed
-    ensures { λ x. ⌜ outcome (x .answer) (x .next) (now (store .entry)) (now (out .exit)) ≡ drainOutcome r (now (store .entry)) reader (now (out .entry)) ⌝ }
+    ensures { λ x. ⌜ callOutcome (x .answer) (x .next) (now (store .entry)) (now (out .exit)) ≡ drainOutcome r (now (store .entry)) reader (now (out .entry)) ⌝ }
 {
     if store.len() < MIN_STORE {
         return session_record::refuse(r, Refusal::StoreTooShort);

@@ -31,7 +31,7 @@ use Rattle.plain.specs.Plain.{NumberIs, PartField}
 use Rattle.values.specs.Values.{mergedFields}
 use Rattle.readers.specs.Messages.{updateOf, responseOf}
 use Rattle.readers.specs.Messages as wire
-use Rattle.packed.specs.Assignment.{ConsumerAssignment, encodeAssignment, assignmentOf, sizeAssignment, okAssignment, startsAssignment}
+use Rattle.packed.specs.Assignment.{ConsumerAssignment, encodeAssignment, decodeAssignment, sizeAssignment, okAssignment, startsAssignment}
 use Rattle.packed.proofs.RoundLaws.{FitAssignment, length-encodeAssignment, read-assignment, starts-encode}
 use Rattle.content.specs.Content.{Content, refused, taken, contentOf}
 use Rattle.content.proofs.WideLaws.{Wide, update-wide, response-wide}
@@ -43,7 +43,7 @@ use Rattle.plain_intake.specs.declared.PlainIntake.{PlainIntake}
 use Rattle.plain_intake.specs.declared.PlainIntake.the-variants.{Taken}
 use Rattle.plain_intake.specs.Taken.{PlainTaken, PlainSays}
 use Rattle.session.specs.Store.{slot}
-use Rattle.session.specs.Identity.{topicOf, isIdentity}
+use Rattle.session.specs.Identity.{identityTopic, isIdentity}
 use Rattle.packed_queue.proofs.EntryLaws.{size-ok}
 use Rattle.session_intake.specs.Taken.{AssignmentField, messageWith, contentIn, TopicEnd, Answers, PlainMessageTaken}
 
@@ -58,16 +58,16 @@ unfolding slot
 topic-cut st n h = ap (take n) (drop-take 7 2041 st) ∙ take-take n 2041 (drop 7 st) h
 
 module _ (l : List ℕ) (e : isIdentity l ≡ true) where
-  texts : (beAt 2 l 0 + beAt 2 l 2 + beAt 2 l 4 ≤ 2041) × (isUtf8 (topicOf l) ≡ true)
+  texts : (beAt 2 l 0 + beAt 2 l 2 + beAt 2 l 4 ≤ 2041) × (isUtf8 (identityTopic l) ≡ true)
   unfolding isIdentity
   texts =
       let n : ℕ = beAt 2 l 0 + beAt 2 l 2 + beAt 2 l 4 in
       let p = both-true (leb n 2041) _ (both-true (leb (getD l 6 0) 1) _ e .1) in
-      (leb-true n 2041 (p .0), both-true (isUtf8 (topicOf l)) _ (p .1) .0)
+      (leb-true n 2041 (p .0), both-true (isUtf8 (identityTopic l)) _ (p .1) .0)
 
 module _ (st : List ℕ) (h : isIdentity (slot st 0) ≡ true) where
   pub topic-end : (n : ℕ) → n ≡ beAt 2 st 0 → 6144 ≤ length st → TopicEnd st (7 + n)
-  unfolding topicOf
+  unfolding identityTopic
   topic-end n e l =
       let s : n ≤ 2041 = omega (arith, e, topic-front st, texts (slot st 0) h .0) in
       record {
@@ -89,7 +89,7 @@ put-answers : (a : ConsumerAssignment) (b b′ : List ℕ) (n : ℕ) → length 
 unfolding put
 put-answers a b b′ n l f o e w =
     let z : length (encodeAssignment a) ≡ sizeAssignment a = length-encodeAssignment a in
-    let v : assignmentOf b′ ≡ a = ap assignmentOf w ∙ read-assignment a (drop (0 + length (encodeAssignment a)) b) f in
+    let v : decodeAssignment b′ ≡ a = ap decodeAssignment w ∙ read-assignment a (drop (0 + length (encodeAssignment a)) b) f in
     record {
       is = ap taken (sym v);
       ready =
@@ -104,10 +104,10 @@ pub field-small : (n : ℕ) → AssignmentField n → (0 < n) × (n < 16)
 field-small n (inl e) = (omega arith, omega arith)
 field-small n (inr e) = (omega arith, omega arith)
 
-field-wide : (m : List ℕ) → Bytes m → (n : ℕ) → AssignmentField n → Wide (wire.assignmentOf (mergedFields n (fieldsOf m)))
+field-wide : (m : List ℕ) → Bytes m → (n : ℕ) → AssignmentField n → Wide (wire.readAssignment (mergedFields n (fieldsOf m)))
 unfolding updateOf responseOf
-field-wide m h n (inl e) = subst (λ (k : ℕ). Wide (wire.assignmentOf (mergedFields k (fieldsOf m)))) (sym e) (update-wide m h)
-field-wide m h n (inr e) = subst (λ (k : ℕ). Wide (wire.assignmentOf (mergedFields k (fieldsOf m)))) (sym e) (response-wide m h)
+field-wide m h n (inl e) = subst (λ (k : ℕ). Wide (wire.readAssignment (mergedFields k (fieldsOf m)))) (sym e) (update-wide m h)
+field-wide m h n (inr e) = subst (λ (k : ℕ). Wide (wire.readAssignment (mergedFields k (fieldsOf m)))) (sym e) (response-wide m h)
 
 -- ---- a message of two fields
 
@@ -131,14 +131,14 @@ module _ (m : List ℕ) {head at from to : ℕ} (i : NumberIs 1 m 0 head at) (h 
 
 module _ (st m b b′ : List ℕ) (n end : ℕ) (o : AssignmentField n) (e : TopicEnd st end) (l : length b ≡ 2048) (h : Bytes m) where
   pub intake-answers : (x : Intake)
-      → IntakeIs b x b′ (contentOf (take (end - 7) (drop 7 st)) (wire.assignmentOf (mergedFields n (fieldsOf m))))
+      → IntakeIs b x b′ (contentOf (take (end - 7) (drop 7 st)) (wire.readAssignment (mergedFields n (fieldsOf m))))
       → Answers x b′ (contentIn st n m)
   intake-answers x i = go (contentIn st n m) refl (rw (← e .is) i)
     where
       go : (c : Content) → contentIn st n m ≡ c → IntakeIs b x b′ c → Answers x b′ c
       go (refused y) p q = rw q (record { is = refl; ready = tt })
       go (taken a) p q =
-          let f = content-fits (topicOf (slot st 0)) _ (field-wide m h n o) a p in
+          let f = content-fits (identityTopic (slot st 0)) _ (field-wide m h n o) a p in
           rw (q .0) (put-answers a b b′ (sizeAssignment a) l (f .0) (f .1) refl (q .1))
 
   pub plain-taken : (head at from to epoch size : ℕ) → NumberIs 1 m 0 head at → PartField n m at from to → length m ≤ to
@@ -150,7 +150,7 @@ module _ (st m b b′ : List ℕ) (n end : ℕ) (o : AssignmentField n) (e : Top
       let fs = message-row m i g (t .valid) n p in
       let w : mergedFields n (fieldsOf m) ≡ fieldsOf s = rw (fs, eq-eqb n n refl) (append-nil (fieldsOf s)) in
       let c : contentIn st n m ≡ taken (t .assignment) = rw (w, ← e .is) (t .content) in
-      let f = content-fits (topicOf (slot st 0)) _ (field-wide m h n o) (t .assignment) c in
+      let f = content-fits (identityTopic (slot st 0)) _ (field-wide m h n o) (t .assignment) c in
       record {
         valid = message-valid m i g (t .valid) n o p;
         part = s;

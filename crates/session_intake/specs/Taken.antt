@@ -17,12 +17,12 @@ use Rattle.schema.specs.declared.Checked.the-variants.{Valid}
 use Rattle.schema.specs.FirstFault.{firstFault}
 use Rattle.values.specs.Values.{mergedFields}
 use Rattle.readers.specs.Messages as wire
-use Rattle.packed.specs.Assignment.{assignmentOf}
+use Rattle.packed.specs.Assignment.{decodeAssignment}
 use Rattle.content.specs.Content.{Content, refused, taken, contentOf}
 use Rattle.intake.specs.declared.Intake.{Intake}
 use Rattle.intake.specs.declared.Intake.the-variants as intake
 use Rattle.session.specs.Store.{slot}
-use Rattle.session.specs.Identity.{topicOf}
+use Rattle.session.specs.Identity.{identityTopic}
 use Rattle.session_store.specs.Scratch.{Scratch}
 use Rattle.session_intake.specs.declared.PlainMessage.{PlainMessage}
 use Rattle.session_intake.specs.declared.PlainMessage.the-variants as plain
@@ -36,18 +36,18 @@ messageWith n = cond (eqb n 2) CommandScalableTopicAssignmentUpdate CommandScala
 
 -- what the assignment in field n comes to below the store's topic
 abbrev pub contentIn : (store : List ℕ) (n : ℕ) (m : List ℕ) → Content
-contentIn store n m = contentOf (topicOf (slot store 0)) (wire.assignmentOf (mergedFields n (fieldsOf m)))
+contentIn store n m = contentOf (identityTopic (slot store 0)) (wire.readAssignment (mergedFields n (fieldsOf m)))
 
 -- the topic of a store lies in it from the place 7 on
 pub record TopicEnd (store : List ℕ) (end : ℕ) : Type 0 where
   pub ordered : 7 ≤ end
   pub within : end ≤ length store
-  pub is : take (end - 7) (drop 7 store) ≡ topicOf (slot store 0)
+  pub is : take (end - 7) (drop 7 store) ≡ identityTopic (slot store 0)
 
 -- ---- an answer of the intake, with the buffer b
 
 abbrev pub contentFrom : Intake → List ℕ → Content
-contentFrom (intake.Taken n) b = taken (assignmentOf b)
+contentFrom (intake.Taken n) b = taken (decodeAssignment b)
 contentFrom (intake.Refused x) b = refused x
 
 -- what was taken stands at the buffer's front

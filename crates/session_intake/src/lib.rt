@@ -7,7 +7,7 @@ ghost use Prim.Native.Nat.{_≤_};
 ghost use lib.ListN.{length};
 ghost use Rattle.wire.specs.Fields.{fieldsOf};
 ghost use Rattle.values.specs.Values.{mergedFields};
-ghost use Rattle.readers.specs.Messages.{assignmentOf};
+ghost use Rattle.readers.specs.Messages.{readAssignment};
 ghost use Rattle.session.specs.Store.{slot};
 ghost use Rattle.session.specs.Identity.{isIdentity};
 ghost use Rattle.session_intake.specs.Taken.{AssignmentField, contentIn, TopicEnd, Answers, PlainMessageSays};
@@ -58,7 +58,7 @@ pub fn take_plain_message(store: &[u8], m: &[u8], n: u8, b: &mut [u8]) -> PlainM
 pub fn take_assignment(store: &[u8], m: &[u8], n: u64, epoch: u64, b: &mut [u8]) -> Intake
     requires { ⌜ (6144 ≤ length (now store)) × (isIdentity (slot (now store) 0) ≡ true) ⌝ }
     requires { ⌜ AssignmentField n × (length (now b) ≡ 2048) ⌝ }
-    requires { ⌜ epoch ≡ assignmentOf (mergedFields n (fieldsOf (now m))) .layoutEpoch ⌝ }
+    requires { ⌜ epoch ≡ readAssignment (mergedFields n (fieldsOf (now m))) .layoutEpoch ⌝ }
     ensures { λ r. ⌜ Answers r (now (b .exit)) (contentIn (now (store .entry)) n (now (m .entry))) ⌝ }
 {
     let end = topic_end(store);

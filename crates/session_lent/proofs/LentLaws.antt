@@ -11,7 +11,7 @@ use Rattle.session.specs.declared.SessionRecord.{SessionRecord}
 use Rattle.session.specs.declared.Answer.{Answer}
 use Rattle.session.specs.declared.Answer.the-variants as answer
 use Rattle.session.specs.Session.{view, damaged}
-use Rattle.session.specs.Calls.{Outcome, outcome}
+use Rattle.session.specs.Calls.{CallOutcome, callOutcome}
 use Rattle.session_reply.specs.declared.Record.{Record}
 use Rattle.session_reply.specs.declared.SessionReply.{SessionReply}
 use Rattle.session_reply.specs.Replies.{Lent, lentOf, sessionReply}
@@ -21,8 +21,8 @@ abbrev pub lent : SessionReply → List ℕ → List ℕ → Lent
 lent x store out = record { reply = x .reply; state = x .state; store = store; out = out }
 
 pub lent-call :
-    {x : SessionReply} (r : Record) {a : Answer} {next : SessionRecord} {store out : List ℕ} {o : Outcome} →
-    x ≡ sessionReply r a next → outcome a next store out ≡ o → lent x store out ≡ lentOf r o
+    {x : SessionReply} (r : Record) {a : Answer} {next : SessionRecord} {store out : List ℕ} {o : CallOutcome} →
+    x ≡ sessionReply r a next → callOutcome a next store out ≡ o → lent x store out ≡ lentOf r o
 lent-call r {store = store} {out = out} e f = ap (λ (y : SessionReply). lent y store out) e ∙ ap (lentOf r) f
 
 -- ---- the check

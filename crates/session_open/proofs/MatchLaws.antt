@@ -14,7 +14,7 @@ use Rattle.refusal.specs.declared.Refusal.the-variants.{StoreTooShort, Malforme
 use Rattle.parts.specs.Same.{sameBytes}
 use Rattle.session.specs.declared.Match.the-variants.{Same, Other, Refused}
 use Rattle.session.specs.Store.{slot}
-use Rattle.session.specs.Identity.{Identity, kindByte, topicOf, subscriptionOf, consumerNameOf, isIdentity}
+use Rattle.session.specs.Identity.{Identity, kindByte, identityTopic, subscriptionOf, consumerNameOf, isIdentity}
 use Rattle.session.specs.Calls.{sameIdentity, matchOf}
 use Rattle.session_store.proofs.IdentityLaws.{Lengths, topic-part, subscription-part, name-part}
 
@@ -22,7 +22,7 @@ use Rattle.session_store.proofs.IdentityLaws.{Lengths, topic-part, subscription
 
 module _ (l : List ℕ) (a b c : ℕ) (q : Lengths l a b c) (i : Identity) (x : Bool)
     (ex : x ≡ sameBytes (take (7 + a - 7) (drop 7 l)) (i .topic)) where
-  first : x ≡ sameBytes (topicOf l) (i .topic)
+  first : x ≡ sameBytes (identityTopic l) (i .topic)
   first = ex ∙ ap (λ (m : List ℕ). sameBytes m (i .topic)) (topic-part l a b c q)
 
   pub topic-other : not x ≡ true → false ≡ sameIdentity l i

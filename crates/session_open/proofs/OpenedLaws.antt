@@ -25,7 +25,7 @@ use Rattle.session.specs.declared.Answer.the-variants as answer
 use Rattle.packed_queue.specs.Entries.{startEntries}
 use Rattle.session.specs.declared.Match.the-variants.{Same, Other}
 use Rattle.session.specs.Store.{slot, queueReads}
-use Rattle.session.specs.Identity.{Identity, kindByte, textsLength, encodeIdentity, topicOf, subscriptionOf, consumerNameOf, kindOf, isIdentity}
+use Rattle.session.specs.Identity.{Identity, kindByte, textsLength, encodeIdentity, identityTopic, subscriptionOf, consumerNameOf, identityKind, isIdentity}
 use Rattle.session.specs.Session.{inUse, view, anyBeyond, damaged}
 use Rattle.session.specs.Calls.{OpenOutcome, freshRecord, notOpened, allUtf8, openOutcome, sameIdentity, matchOf}
 use Rattle.session.specs.Trace.{isAccepted}
@@ -120,10 +120,10 @@ module _ (i : Identity) (st : List ℕ) (long : 6144 ≤ length st) (utf8 : allU
   held =
       record {
         formed = ap isIdentity front ∙ identity-reads i behind fits utf8;
-        topic = ap topicOf front ∙ read-topic i behind fits;
+        topic = ap identityTopic front ∙ read-topic i behind fits;
         subscription = ap subscriptionOf front ∙ read-subscription i behind fits;
         consumerName = ap consumerNameOf front ∙ read-name i behind fits;
-        kind = ap kindOf front ∙ read-kind i behind;
+        kind = ap identityKind front ∙ read-kind i behind;
       }
 
   stays : drop (7 + textsLength i) written ≡ drop (7 + textsLength i) st

@@ -15,7 +15,7 @@ use Rattle.session.specs.declared.Answer.the-variants as answer
 use Rattle.session.specs.declared.Match.{Match}
 use Rattle.session.specs.declared.Match.the-variants.{Same, Other}
 use Rattle.session.specs.Store.{identitySlot, slot}
-use Rattle.session.specs.Identity.{Identity, kindByte, textsLength, topicOf, subscriptionOf, consumerNameOf, kindOf, isIdentity}
+use Rattle.session.specs.Identity.{Identity, kindByte, textsLength, identityTopic, subscriptionOf, consumerNameOf, identityKind, isIdentity}
 use Rattle.session.specs.Session.{view, damaged}
 use Rattle.session.specs.Calls.{OpenOutcome, freshRecord, openOutcome, matchOf}
 use Rattle.session.specs.Trace.{isAccepted}
@@ -35,10 +35,10 @@ told false = Other
 -- the identity in a slot is well formed, and it is i
 pub record Holds (i : Identity) (l : List ℕ) : Type 0 where
   pub formed : isIdentity l ≡ true
-  pub topic : topicOf l ≡ i .topic
+  pub topic : identityTopic l ≡ i .topic
   pub subscription : subscriptionOf l ≡ i .subscription
   pub consumerName : consumerNameOf l ≡ i .consumerName
-  pub kind : kindOf l ≡ kindByte (i .consumerType)
+  pub kind : identityKind l ≡ kindByte (i .consumerType)
 
 -- what an accepted open of the identity i leaves
 pub record Accepted (consumer : ℕ) (incarnation : ControllerIncarnation) (i : Identity) (store : List ℕ) (o : OpenOutcome) : Type 0 where

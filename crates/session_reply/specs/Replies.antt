@@ -14,7 +14,7 @@ use Rattle.session.specs.declared.Floor.the-variants.{Unset, At}
 use Rattle.session.specs.declared.Answer.{Answer}
 use Rattle.session.specs.declared.Answer.the-variants as answer
 use Rattle.session.specs.declared.Changed.{Changed}
-use Rattle.session.specs.Calls.{Outcome}
+use Rattle.session.specs.Calls.{CallOutcome}
 use Rattle.session_record.specs.Floors.{floorValue}
 use Rattle.reply.specs.declared.Reply.{Reply}
 use Rattle.reply.specs.Replies.{accepted, unchanged, delta, replay, refusedReply, takenReply}
@@ -117,5 +117,5 @@ pub record Lent : Type 0 where
   pub store : List ℕ
   pub out : List ℕ
 
-abbrev pub lentOf : Record → Outcome → Lent
+abbrev pub lentOf : Record → CallOutcome → Lent
 lentOf r o = record { reply = answerReply (o .answer); state = leftRecord r (o .answer) (o .next); store = o .store; out = o .out }

@@ -27,17 +27,17 @@ use Rattle.readers.specs.Messages.{WireResponse, responseOf}
 use Rattle.readers.specs.Messages as wire
 use Rattle.readers.specs.Places.{ResponseIs}
 use Rattle.packed_int.specs.Put.{put}
-use Rattle.packed.specs.Assignment.{ConsumerAssignment, encodeAssignment, assignmentOf}
+use Rattle.packed.specs.Assignment.{ConsumerAssignment, encodeAssignment, decodeAssignment}
 use Rattle.content.specs.Content.{Content, refused, taken, contentOf}
 use Rattle.session.specs.declared.SessionRecord.{SessionRecord}
 use Rattle.session.specs.declared.Changed.{Changed}
 use Rattle.session.specs.declared.Answer.the-variants as answer
 use Rattle.session.specs.Store.{slot, queueIn, writeOne}
-use Rattle.session.specs.Identity.{topicOf}
+use Rattle.session.specs.Identity.{identityTopic}
 use Rattle.session.specs.Session.{view, damaged, Result, refuse, unless, floorFault}
 use Rattle.session.specs.Response.{staleFault, lastList, replayable, denied, responseCall}
 use Rattle.session.specs.Tails.{responseAssignment, responseContent, responseValid, responseChecked}
-use Rattle.session.specs.Calls.{outcome, effectOf, responseOutcome}
+use Rattle.session.specs.Calls.{callOutcome, effectOf, responseOutcome}
 use Rattle.intake.specs.declared.Intake.{Intake}
 use Rattle.intake.specs.declared.Intake.the-variants as intake
 use Rattle.session_intake.specs.Taken.{contentIn, Answers, PlainMessageTaken}
@@ -53,22 +53,22 @@ use Rattle.session_response.proofs.ReplayLaws.{stale-fault, replayed-is
 module _ (st m : List ℕ) where
   -- its epoch, by its fields
   pub response-epoch : (epoch : ℕ) → epoch ≡ responseOf m .assignment .layoutEpoch
-      → epoch ≡ wire.assignmentOf (mergedFields 4 (fieldsOf m)) .layoutEpoch
+      → epoch ≡ wire.readAssignment (mergedFields 4 (fieldsOf m)) .layoutEpoch
   unfolding responseOf
   response-epoch epoch e = e
 
-  assignment-says : responseOf m .hasAssignment ≡ true → responseSays (topicOf (slot st 0)) (responseOf m) ≡ contentIn st 4 m
+  assignment-says : responseOf m .hasAssignment ≡ true → responseSays (identityTopic (slot st 0)) (responseOf m) ≡ contentIn st 4 m
   unfolding responseOf
   assignment-says e = rw e refl
 
   module _ (h : ResponseHead) (p : ResponseIs m h) (x : Intake) (b : List ℕ) where
     pub assignment-answers : h .«has_assignment» ≡ true → Answers x b (contentIn st 4 m)
-        → Answers x b (responseSays (topicOf (slot st 0)) (responseOf m))
+        → Answers x b (responseSays (identityTopic (slot st 0)) (responseOf m))
     assignment-answers e a = rw (assignment-says (sym (p .has-assignment) ∙ e)) a
 
   pub denial-answers : (h : ResponseHead) → ResponseIs m h → h .«has_assignment» ≡ false
       → (b : List ℕ) (y : Refusal) → y ≡ deniedBy (h .error) (h .«request_id»)
-      → Answers (intake.Refused y) b (responseSays (topicOf (slot st 0)) (responseOf m))
+      → Answers (intake.Refused y) b (responseSays (identityTopic (slot st 0)) (responseOf m))
   denial-answers h p e b y g =
       record {
         is = rw (sym (p .has-assignment) ∙ e) (ap refused (sym (g ∙ ap₂ deniedBy (p .error) (p .id))));
@@ -77,7 +77,7 @@ module _ (st m : List ℕ) where
 
   -- one in its usual form
   pub plain-says : (id n : ℕ) (b : List ℕ) → PlainMessageTaken st m 4 id n b
-      → responseSays (topicOf (slot st 0)) (responseOf m) ≡ taken (assignmentOf b)
+      → responseSays (identityTopic (slot st 0)) (responseOf m) ≡ taken (decodeAssignment b)
   unfolding responseOf
   plain-says id n b t = assignment-says (ap (λ (fs : List Field). present (partsOf 4 fs)) (t .fields)) ∙ t .answers .is
 
@@ -85,26 +85,26 @@ module _ (r : SessionRecord) (st : List ℕ) where
   -- ---- a result on bytes
 
   pub refused-out : (c : Changed) (x : Refusal) (q : Result) → c ≡ record { next = r; answer = answer.Refused x } → q ≡ refuse x (view r st)
-      → (out : List ℕ) → outcome (c .answer) (c .next) st out ≡ effectOf q st out
+      → (out : List ℕ) → callOutcome (c .answer) (c .next) st out ≡ effectOf q st out
   unfolding view
-  refused-out c x q e f out = ap (λ (d : Changed). outcome (d .answer) (d .next) st out) e ∙ sym (ap (λ (p : Result). effectOf p st out) f)
+  refused-out c x q e f out = ap (λ (d : Changed). callOutcome (d .answer) (d .next) st out) e ∙ sym (ap (λ (p : Result). effectOf p st out) f)
 
   pub given-out : (c : Changed) (st′ : List ℕ) (p q : Result) → q ≡ p
-      → ((out : List ℕ) → outcome (c .answer) (c .next) st′ out ≡ effectOf p st out)
-      → (out : List ℕ) → outcome (c .answer) (c .next) st′ out ≡ effectOf q st out
+      → ((out : List ℕ) → callOutcome (c .answer) (c .next) st′ out ≡ effectOf p st out)
+      → (out : List ℕ) → callOutcome (c .answer) (c .next) st′ out ≡ effectOf q st out
   given-out c st′ p q e f out = f out ∙ sym (ap (λ (x : Result). effectOf x st out) e)
 
   -- baseline, then the last list
   pub registered-out : (next : SessionRecord) (st₁ st₂ b last : List ℕ) (epoch count size : ℕ)
-      → count ≡ cond (r .registered) 0 (r .«queue_count») → LastIs st b count size last → epoch ≡ assignmentOf last .layoutEpoch
-      → st₁ ≡ put st (2048 * 1) (encodeAssignment (assignmentOf b)) → st₂ ≡ put st₁ (2048 * 2) (encodeAssignment (assignmentOf last))
+      → count ≡ cond (r .registered) 0 (r .«queue_count») → LastIs st b count size last → epoch ≡ decodeAssignment last .layoutEpoch
+      → st₁ ≡ put st (2048 * 1) (encodeAssignment (decodeAssignment b)) → st₂ ≡ put st₁ (2048 * 2) (encodeAssignment (decodeAssignment last))
       → next ≡ registeredBy r epoch count
-      → (out : List ℕ) → outcome answer.Accepted next st₂ out ≡ effectOf (registered (view r st) (assignmentOf b)) st out
+      → (out : List ℕ) → callOutcome answer.Accepted next st₂ out ≡ effectOf (registered (view r st) (decodeAssignment b)) st out
   unfolding view writeOne
   registered-out next st₁ st₂ b last epoch count size e l f g h i out =
       let q : replayable (view r st) ≡ queueIn st count = replayed-is r st count e in
-      let a : assignmentOf last ≡ lastList (assignmentOf b) (replayable (view r st)) =
-      l .is-last ∙ ap (lastList (assignmentOf b)) (sym q) in
+      let a : decodeAssignment last ≡ lastList (decodeAssignment b) (replayable (view r st)) =
+      l .is-last ∙ ap (lastList (decodeAssignment b)) (sym q) in
       rw (← a, i, f, ← e, h, g) refl
 
   -- ---- an assignment: 26, then 27
@@ -161,13 +161,13 @@ module _ (r : SessionRecord) (st : List ℕ) where
     valid-mismatch f = rw (ne-eqb (i .0) (r .incarnation .0) f) refl
 
     pub valid-says : i .0 ≡ r .incarnation .0
-        → responseValid (view r st) i w ≡ responseContent (view r st) (responseSays (topicOf (slot st 0)) w)
+        → responseValid (view r st) i w ≡ responseContent (view r st) (responseSays (identityTopic (slot st 0)) w)
     unfolding responseValid responseContent view
     valid-says e = rw (eq-eqb (i .0) (r .incarnation .0) e) (go (w .hasAssignment) (w .error))
       where
         go : (t : Bool) (c : ErrorCode)
-            → cond t (responseContent (view r st) (contentOf (topicOf (slot st 0)) (w .assignment))) (refuse (denied w c) (view r st))
-            ≡ responseContent (view r st) (cond t (contentOf (topicOf (slot st 0)) (w .assignment)) (refused (deniedBy c (w .requestId))))
+            → cond t (responseContent (view r st) (contentOf (identityTopic (slot st 0)) (w .assignment))) (refuse (denied w c) (view r st))
+            ≡ responseContent (view r st) (cond t (contentOf (identityTopic (slot st 0)) (w .assignment)) (refused (deniedBy c (w .requestId))))
         go true c = refl
         go false (Given code) = refl
         go false Absent = refl
@@ -205,7 +205,7 @@ module _ (r : SessionRecord) (st : List ℕ) where
 
   -- as the call on bytes
   pub call-out : (c : Changed) (st′ m : List ℕ) (i : ControllerIncarnation)
-      → ((out : List ℕ) → outcome (c .answer) (c .next) st′ out ≡ effectOf (responseCall (view r st) m i) st out)
-      → (out : List ℕ) → outcome (c .answer) (c .next) st′ out ≡ responseOutcome r st m i out
+      → ((out : List ℕ) → callOutcome (c .answer) (c .next) st′ out ≡ effectOf (responseCall (view r st) m i) st out)
+      → (out : List ℕ) → callOutcome (c .answer) (c .next) st′ out ≡ responseOutcome r st m i out
   unfolding responseOutcome
   call-out c st′ m i f = f

@@ -17,9 +17,9 @@ use Rattle.parts.specs.BoolLaws.{both-true}
 use Rattle.parts.proofs.PartLaws.{Bytes, Bytes-take, Bytes-drop}
 use Rattle.packed_int.specs.Be.{be, beAt}
 use Rattle.packed_int.specs.Put.{put}
-use Rattle.packed.specs.Assignment.{ConsumerAssignment, num, encodeAssignment, sizeAssignment, assignmentOf, startsAssignment}
+use Rattle.packed.specs.Assignment.{ConsumerAssignment, num, encodeAssignment, sizeAssignment, decodeAssignment, startsAssignment}
 use Rattle.packed.proofs.RoundLaws.{write-assignment, read-assignment, fit-assignment, starts-encode}
-use Rattle.packed_queue.specs.Entries.{sizeEntry, sizeEntries, sheetIn, entryEnd, entriesOf, entriesEnd, startsEntry, startEntries}
+use Rattle.packed_queue.specs.Entries.{sizeEntry, sizeEntries, sheetIn, entryEnd, decodeEntries, entriesEnd, startsEntry, startEntries}
 use Rattle.packed_queue.proofs.WalkLaws.{entry-inside, sheet-size}
 use Rattle.session.specs.declared.SessionRecord.{SessionRecord}
 use Rattle.session.specs.Store.{queueIn, queueReads}
@@ -34,8 +34,8 @@ use Rattle.session_response.specs.Replay.{staleOf, staleRefusal, LastBeg
 -- ---- epochs
 
 -- of the packed assignment at the front of a buffer
-pub buffer-epoch : (b : List ℕ) (e : ℕ) → e ≡ beAt 8 b 0 → e ≡ assignmentOf b .layoutEpoch
-unfolding beAt assignmentOf num
+pub buffer-epoch : (b : List ℕ) (e : ℕ) → e ≡ beAt 8 b 0 → e ≡ decodeAssignment b .layoutEpoch
+unfolding beAt decodeAssignment num
 buffer-epoch b e f = f
 
 -- a list has ten bytes at least
@@ -44,8 +44,8 @@ unfolding sizeAssignment
 long l h = omega (arith, sheet-size l h)
 
 -- and of the list of the entry at a place
-entry-epoch : (st : List ℕ) (at e : ℕ) → startsEntry (drop at st) ≡ true → e ≡ beAt 8 st (at + 2) → e ≡ assignmentOf (sheetIn (drop at st)) .layoutEpoch
-unfolding beAt assignmentOf num sheetIn
+entry-epoch : (st : List ℕ) (at e : ℕ) → startsEntry (drop at st) ≡ true → e ≡ beAt 8 st (at + 2) → e ≡ decodeAssignment (sheetIn (drop at st)) .layoutEpoch
+unfolding beAt decodeAssignment num sheetIn
 entry-epoch st at e h f =
     f ∙ ap (λ x. be (take 8 x)) (sym (drop-drop 2 at st))
     ∙ ap be (sym (take-take 8 (num 2 (drop at st)) (drop 2 (drop at st)) (omega (arith, long (drop at st) h))))
@@ -56,7 +56,7 @@ entry-epoch st at e h f =
 pub record Epochs (st : List ℕ) (epoch n prev last at left : ℕ) : Type 0 where
   pub inside : at ≤ length st
   pub reads : startEntries left (drop at st) ≡ true
-  pub decide : staleOf 6144 6144 epoch (queueIn st n) ≡ staleOf last at prev (entriesOf left (drop at st))
+  pub decide : staleOf 6144 6144 epoch (queueIn st n) ≡ staleOf last at prev (decodeEntries left (drop at st))
 
 pub epochs-start : (st : List ℕ) (epoch n : ℕ) → 6144 ≤ length st → queueReads st n ≡ true → Epochs st epoch n epoch 6144 6144 n
 unfolding queueReads queueIn
@@ -64,8 +64,8 @@ epochs-start st epoch n big h = record { inside = big; reads = h; decide = refl 
 
 module _ (st : List ℕ) (epoch n prev last at left : ℕ) (w : Epochs st epoch n prev last at left) where
   pub stale-end : left ≤ 0 → Nowhere last ≡ staleOf 6144 6144 epoch (queueIn st n)
-  unfolding staleOf entriesOf
-  stale-end h = let e : left ≡ 0 = omega arith in sym (w .decide ∙ ap (λ m. staleOf last at prev (entriesOf m (drop at st))) e)
+  unfolding staleOf decodeEntries
+  stale-end h = let e : left ≡ 0 = omega arith in sym (w .decide ∙ ap (λ m. staleOf last at prev (decodeEntries m (drop at st))) e)
 
   module _ (h : 0 < left) where
     split-first : (startsEntry (drop at st) ≡ true) × (startEntries (left - 1) (drop (entryEnd (drop at st)) (drop at st)) ≡ true)
@@ -98,17 +98,17 @@ module _ (st : List ℕ) (epoch n prev last at left : ℕ) (w : Epochs st epoch 
           drop-drop (entryEnd (drop at st)) at st ∙ ap (λ m. drop m st) e
 
       module _ (got : ℕ) (f : got ≡ beAt 8 st (at + 2)) where
-        step : staleOf last at prev (entriesOf left (drop at st))
-            ≡ cond (ltb got prev) (At got prev) (staleOf at (at + 2 + size) got (entriesOf (left - 1) (drop (at + 2 + size) st)))
-        unfolding staleOf entriesOf
+        step : staleOf last at prev (decodeEntries left (drop at st))
+            ≡ cond (ltb got prev) (At got prev) (staleOf at (at + 2 + size) got (decodeEntries (left - 1) (drop (at + 2 + size) st)))
+        unfolding staleOf decodeEntries
         step =
             let e : left ≡ suc (left - 1) = omega arith in
-            let a : ConsumerAssignment = assignmentOf (sheetIn (drop at st)) in
+            let a : ConsumerAssignment = decodeAssignment (sheetIn (drop at st)) in
             let g : a .layoutEpoch ≡ got = sym (entry-epoch st at got first f) in
             let p : at + sizeEntry a ≡ at + 2 + size = omega (arith, size-is, sheet-size (drop at st) first) in
-            ap (λ m. staleOf last at prev (entriesOf m (drop at st))) e
-            ∙ ap (λ x. cond (ltb x prev) (At x prev) (staleOf at (at + sizeEntry a) x (entriesOf (left - 1) (drop (entryEnd (drop at st)) (drop at st))))) g
-            ∙ ap₂ (λ x y. cond (ltb got prev) (At got prev) (staleOf at x got (entriesOf (left - 1) y))) p next
+            ap (λ m. staleOf last at prev (decodeEntries m (drop at st))) e
+            ∙ ap (λ x. cond (ltb x prev) (At x prev) (staleOf at (at + sizeEntry a) x (decodeEntries (left - 1) (drop (entryEnd (drop at st)) (drop at st))))) g
+            ∙ ap₂ (λ x y. cond (ltb got prev) (At got prev) (staleOf at x got (decodeEntries (left - 1) y))) p next
 
         pub stale-here : got < prev → At got prev ≡ staleOf 6144 6144 epoch (queueIn st n)
         stale-here l = sym (w .decide ∙ step ∙ rw (lt-ltb got prev l) refl)
@@ -154,19 +154,19 @@ place-told last at prev (a ∷ q) x e = go (ltb (a .layoutEpoch) prev) refl (pla
         absurd (omega arith)
     go false h k = k (e ∙ rw h refl)
 
-place-is : (n last at : ℕ) (l : List ℕ) → lastPlace last at (entriesOf (suc n) l) ≡ at + sizeEntries (entriesOf n l)
-unfolding entriesOf sizeEntries
+place-is : (n last at : ℕ) (l : List ℕ) → lastPlace last at (decodeEntries (suc n) l) ≡ at + sizeEntries (decodeEntries n l)
+unfolding decodeEntries sizeEntries
 place-is zero last at l = omega arith
 place-is (suc n) last at l =
     let m = drop (entryEnd l) l in
-    place-is n at (at + sizeEntry (assignmentOf (sheetIn l))) m ∙ omega arith
+    place-is n at (at + sizeEntry (decodeAssignment (sheetIn l))) m ∙ omega arith
 
 pub last-begins : (st : List ℕ) (epoch n x : ℕ) → Nowhere x ≡ staleOf 6144 6144 epoch (queueIn st n) → LastBegins st n x
 unfolding queueIn
 last-begins st epoch n x e h =
     let k : n ≡ suc (n - 1) = omega arith in
-    place-told 6144 6144 epoch (entriesOf n (drop 6144 st)) x e
-    ∙ ap (λ m. lastPlace 6144 6144 (entriesOf m (drop 6144 st))) k ∙ place-is (n - 1) 6144 6144 (drop 6144 st)
+    place-told 6144 6144 epoch (decodeEntries n (drop 6144 st)) x e
+    ∙ ap (λ m. lastPlace 6144 6144 (decodeEntries m (drop 6144 st))) k ∙ place-is (n - 1) 6144 6144 (drop 6144 st)
 
 -- ---- the last list
 
@@ -177,47 +177,47 @@ put-whole l vs e = ap (λ (t : List ℕ). vs ++ t) (drop-of-length-le l {i = 0 +
 
 -- a packed assignment with more behind it
 module _ (l r : List ℕ) (b : Bytes l) (h : startsAssignment l ≡ true) where
-  size-in : sizeAssignment (assignmentOf l) ≤ length l
+  size-in : sizeAssignment (decodeAssignment l) ≤ length l
   unfolding startsAssignment
-  size-in = leb-true _ _ (both-true (leb (sizeAssignment (assignmentOf l)) (length l)) _ h .0)
+  size-in = leb-true _ _ (both-true (leb (sizeAssignment (decodeAssignment l)) (length l)) _ h .0)
 
-  split : l ++ r ≡ encodeAssignment (assignmentOf l) ++ (drop (sizeAssignment (assignmentOf l)) l ++ r)
+  split : l ++ r ≡ encodeAssignment (decodeAssignment l) ++ (drop (sizeAssignment (decodeAssignment l)) l ++ r)
   split =
-      ap (_++ r) (sym (take-append-drop (sizeAssignment (assignmentOf l)) l))
-      ∙ append-assoc (take (sizeAssignment (assignmentOf l)) l) (drop (sizeAssignment (assignmentOf l)) l) r
-      ∙ ap (_++ (drop (sizeAssignment (assignmentOf l)) l ++ r)) (sym (write-assignment l size-in b))
+      ap (_++ r) (sym (take-append-drop (sizeAssignment (decodeAssignment l)) l))
+      ∙ append-assoc (take (sizeAssignment (decodeAssignment l)) l) (drop (sizeAssignment (decodeAssignment l)) l) r
+      ∙ ap (_++ (drop (sizeAssignment (decodeAssignment l)) l ++ r)) (sym (write-assignment l size-in b))
 
-  more-holds : assignmentOf (l ++ r) ≡ assignmentOf l
-  more-holds = ap assignmentOf split ∙ read-assignment (assignmentOf l) _ (fit-assignment l b)
+  more-holds : decodeAssignment (l ++ r) ≡ decodeAssignment l
+  more-holds = ap decodeAssignment split ∙ read-assignment (decodeAssignment l) _ (fit-assignment l b)
 
   more-starts : startsAssignment (l ++ r) ≡ true
   unfolding startsAssignment
   more-starts =
       ap startsAssignment split
-      ∙ starts-encode (assignmentOf l) _ (fit-assignment l b) (both-true (leb (sizeAssignment (assignmentOf l)) (length l)) _ h .1)
+      ∙ starts-encode (decodeAssignment l) _ (fit-assignment l b) (both-true (leb (sizeAssignment (decodeAssignment l)) (length l)) _ h .1)
 
-last-of : (b : ConsumerAssignment) (n : ℕ) (l : List ℕ) → lastList b (entriesOf (suc n) l) ≡ assignmentOf (sheetIn (drop (entriesEnd n l) l))
-unfolding lastList entriesOf entriesEnd
+last-of : (b : ConsumerAssignment) (n : ℕ) (l : List ℕ) → lastList b (decodeEntries (suc n) l) ≡ decodeAssignment (sheetIn (drop (entriesEnd n l) l))
+unfolding lastList decodeEntries entriesEnd
 last-of b zero l = refl
 last-of b (suc n) l =
-    last-of (assignmentOf (sheetIn l)) n (drop (entryEnd l) l)
-    ∙ ap (λ x. assignmentOf (sheetIn x)) (drop-drop (entriesEnd n (drop (entryEnd l) l)) (entryEnd l) l)
+    last-of (decodeAssignment (sheetIn l)) n (drop (entryEnd l) l)
+    ∙ ap (λ x. decodeAssignment (sheetIn x)) (drop-drop (entriesEnd n (drop (entryEnd l) l)) (entryEnd l) l)
 
 last-in : (b : ConsumerAssignment) (st : List ℕ) (n : ℕ) → 0 < n → lastList b (queueIn st n) ≡ entryIn st (n - 1)
 unfolding queueIn entryIn
 last-in b st n h =
     let e : n ≡ suc (n - 1) = omega arith in
-    ap (λ m. lastList b (entriesOf m (drop 6144 st))) e ∙ last-of b (n - 1) (drop 6144 st)
+    ap (λ m. lastList b (decodeEntries m (drop 6144 st))) e ∙ last-of b (n - 1) (drop 6144 st)
 
 pub last-none : (st b last last′ : List ℕ) (n size : ℕ) → n ≡ 0 → Scratch b size → length last ≡ 2048 → last′ ≡ put last 0 (take 2048 b)
     → LastIs st b n size last′
-unfolding lastList queueIn entriesOf
+unfolding lastList queueIn decodeEntries
 last-none st b last last′ n size e s l w =
     let v : last′ ≡ b =
     w ∙ ap (put last 0) (take-all 2048 b (omega (arith, s .long))) ∙ put-whole last b (l ∙ sym (s .long)) in
     record {
       scratch = subst (λ (x : List ℕ). Scratch x size) (sym v) s;
-      is-last = ap assignmentOf v ∙ ap (λ (m : ℕ). lastList (assignmentOf b) (queueIn st m)) (sym e);
+      is-last = ap decodeAssignment v ∙ ap (λ (m : ℕ). lastList (decodeAssignment b) (queueIn st m)) (sym e);
     }
 
 module _ (st b last last′ : List ℕ) (n at size : ℕ) (h : 0 < n) (bytes : Bytes st) (y : Lies st at size (entryIn st (n - 1)))
@@ -232,8 +232,8 @@ module _ (st b last last′ : List ℕ) (n at size : ℕ) (h : 0 < n) (bytes : B
   sheet-long : length (take size (drop at st)) ≡ size
   sheet-long = length-take-le size (drop at st) (omega (arith, y .inside, length-drop at st))
 
-  last-holds : assignmentOf last′ ≡ entryIn st (n - 1)
-  last-holds = ap assignmentOf copied ∙ more-holds (take size (drop at st)) _ sheet-bytes (y .starts) ∙ y .holds
+  last-holds : decodeAssignment last′ ≡ entryIn st (n - 1)
+  last-holds = ap decodeAssignment copied ∙ more-holds (take size (drop at st)) _ sheet-bytes (y .starts) ∙ y .holds
 
   last-starts : startsAssignment last′ ≡ true
   last-starts = ap startsAssignment copied ∙ more-starts (take size (drop at st)) _ sheet-bytes (y .starts)
@@ -249,14 +249,14 @@ module _ (st b last last′ : List ℕ) (n at size : ℕ) (h : 0 < n) (bytes : B
               starts = last-starts;
               size = z ∙ ap sizeAssignment (sym last-holds);
             };
-        is-last = last-holds ∙ sym (last-in (assignmentOf b) st n h);
+        is-last = last-holds ∙ sym (last-in (decodeAssignment b) st n h);
       }
 
 -- ---- the queue that is replayed
 
 module _ (r : SessionRecord) (st : List ℕ) where
   pub replayed-is : (n : ℕ) → n ≡ cond (r .registered) 0 (r .«queue_count») → replayable (view r st) ≡ queueIn st n
-  unfolding view queueIn entriesOf
+  unfolding view queueIn decodeEntries
   replayed-is n e = go (r .registered) ∙ ap (queueIn st) (sym e)
     where
       go : (t : Bool) → cond t [] (queueIn st (r .«queue_count»)) ≡ queueIn st (cond t 0 (r .«queue_count»))

@@ -13,7 +13,7 @@ use Rattle.refusal.specs.declared.Refusal.the-variants.{Broker, Empty, StaleEpo
 use Rattle.readers.specs.declared.ErrorCode.{ErrorCode}
 use Rattle.readers.specs.declared.ErrorCode.the-variants.{Given, Absent}
 use Rattle.readers.specs.Messages.{WireResponse}
-use Rattle.packed.specs.Assignment.{ConsumerAssignment, assignmentOf}
+use Rattle.packed.specs.Assignment.{ConsumerAssignment, decodeAssignment}
 use Rattle.packed_queue.specs.Entries.{sizeEntry}
 use Rattle.content.specs.Content.{Content, refused, contentOf}
 use Rattle.session.specs.Store.{queueIn, queueEnd}
@@ -40,7 +40,7 @@ LastBegins store n at = 0 < n → at ≡ queueEnd (queueIn store (n - 1))
 -- the last list of the replay of n queue entries over the assignment in b, in a buffer
 pub record LastIs (store b : List ℕ) (n size : ℕ) (last : List ℕ) : Type 0 where
   pub scratch : Scratch last size
-  pub is-last : assignmentOf last ≡ lastList (assignmentOf b) (queueIn store n)
+  pub is-last : decodeAssignment last ≡ lastList (decodeAssignment b) (queueIn store n)
 
 -- ---- the parts of specs/Response that a function each gives
 

@@ -11,10 +11,10 @@ ghost use Rattle.schema.specs.FirstFault.{firstFault};
 ghost use Rattle.readers.specs.Messages.{WireResponse, responseOf};
 ghost use Rattle.packed.specs.Assignment as packed-form;
 ghost use Rattle.session.specs.Store.{slot, queueIn, queueReads};
-ghost use Rattle.session.specs.Identity.{topicOf, isIdentity};
+ghost use Rattle.session.specs.Identity.{identityTopic, isIdentity};
 ghost use Rattle.session.specs.Session.{view, damaged};
 ghost use Rattle.session.specs.Tails.{responseAssignment, responseValid, responseChecked};
-ghost use Rattle.session.specs.Calls.{outcome, effectOf, responseOutcome};
+ghost use Rattle.session.specs.Calls.{callOutcome, effectOf, responseOutcome};
 ghost use Rattle.session_store.specs.Scratch.{Scratch};
 ghost use Rattle.session_intake.specs.Taken.{contentFrom, Ready, Answers};
 ghost use Rattle.session_response.specs.Replay.{staleOf, LastBegins, LastIs, deniedBy, responseSays, registeredBy, registered};
@@ -119,8 +119,8 @@ fn register(
     requires { ⌜ Scratch (now b) size ⌝ }
     requires { ⌜ count ≡ cond (r .registered) 0 (r .«queue_count») ⌝ }
     requires { ⌜ LastBegins (now store) count at ⌝ }
-    ensures { λ x. ⌜ ((out : List ℕ) → outcome (x .answer) (x .next) (now (store .exit)) out
-        ≡ effectOf (registered (view r (now (store .entry))) (packed-form.assignmentOf (now (b .entry)))) (now (store .entry)) out) ⌝ }
+    ensures { λ x. ⌜ ((out : List ℕ) → callOutcome (x .answer) (x .next) (now (store .exit)) out
+        ≡ effectOf (registered (view r (now (store .entry))) (packed-form.decodeAssignment (now (b .entry)))) (now (store .entry)) out) ⌝ }
 {
     let mut last = [0u8; 2048];
     let len = load_last(store, count, at, b, size, &mut last);
@@ -138,8 +138,8 @@ fn register(
 fn assigned(r: SessionRecord, store: &mut [u8], b: &[u8], size: usize) -> Changed
     requires { ⌜ (6144 ≤ length (now store)) × (damaged (view r (now store)) ≡ false) ⌝ }
     requires { ⌜ Scratch (now b) size ⌝ }
-    ensures { λ x. ⌜ ((out : List ℕ) → outcome (x .answer) (x .next) (now (store .exit)) out
-        ≡ effectOf (responseAssignment (view r (now (store .entry))) (packed-form.assignmentOf (now (b .entry)))) (now (store .entry)) out) ⌝ }
+    ensures { λ x. ⌜ ((out : List ℕ) → callOutcome (x .answer) (x .next) (now (store .exit)) out
+        ≡ effectOf (responseAssignment (view r (now (store .entry))) (packed-form.decodeAssignment (now (b .entry)))) (now (store .entry)) out) ⌝ }
 {
     let floor = r.epoch_floor;
     let epoch = packed_int::read_u64(b, 0);
@@ -174,7 +174,7 @@ fn denial(error: ErrorCode, request_id: u64) -> Refusal
 fn take_response(store: &[u8], message: &[u8], b: &mut [u8]) -> Intake
     requires { ⌜ (6144 ≤ length (now store)) × (isIdentity (slot (now store) 0) ≡ true) ⌝ }
     requires { ⌜ length (now b) ≡ 2048 ⌝ }
-    ensures { λ x. ⌜ Answers x (now (b .exit)) (responseSays (topicOf (slot (now (store .entry)) 0)) (responseOf (now (message .entry)))) ⌝ }
+    ensures { λ x. ⌜ Answers x (now (b .exit)) (responseSays (identityTopic (slot (now (store .entry)) 0)) (responseOf (now (message .entry)))) ⌝ }
 {
     let head = readers::read_response(message);
     let epoch = head.layout_epoch;
@@ -195,8 +195,8 @@ fn answered(
 ) -> Changed
     requires { ⌜ (6144 ≤ length (now store)) × (damaged (view r (now store)) ≡ false) ⌝ }
     requires { ⌜ Ready intake (now b) ⌝ }
-    ensures { λ x. ⌜ ((w : WireResponse) → responseSays (topicOf (slot (now (store .entry)) 0)) w ≡ contentFrom intake (now (b .entry))
-        → (out : List ℕ) → outcome (x .answer) (x .next) (now (store .exit)) out
+    ensures { λ x. ⌜ ((w : WireResponse) → responseSays (identityTopic (slot (now (store .entry)) 0)) w ≡ contentFrom intake (now (b .entry))
+        → (out : List ℕ) → callOutcome (x .answer) (x .next) (now (store .exit)) out
         ≡ effectOf (responseValid (view r (now (store .entry))) incarnation w) (now (store .entry)) out) ⌝ }
 {
     let expected = r.incarnation;
@@ -225,7 +225,7 @@ fn scanned(
 ) -> Changed
     requires { ⌜ (6144 ≤ length (now store)) × (damaged (view r (now store)) ≡ false) ⌝ }
     requires { ⌜ length (now b) ≡ 2048 ⌝ }
-    ensures { λ x. ⌜ ((out : List ℕ) → outcome (x .answer) (x .next) (now (store .exit)) out
+    ensures { λ x. ⌜ ((out : List ℕ) → callOutcome (x .answer) (x .next) (now (store .exit)) out
         ≡ effectOf (responseChecked (view r (now (store .entry))) incarnation (now (message .entry)) (firstFault MessageKind.CommandScalableTopicSubscribeResponse (now (message .entry)))) (now (store .entry)) out) ⌝ }
 {
     match messages::first_fault(MessageKind::CommandScalableTopicSubscribeResponse, message) {
@@ -254,7 +254,7 @@ pub fn responded(
     message: &[u8],
     incarnation: ControllerIncarnation,
 ) -> Changed
-    ensures { λ x. ⌜ ((out : List ℕ) → outcome (x .answer) (x .next) (now (store .exit)) out
+    ensures { λ x. ⌜ ((out : List ℕ) → callOutcome (x .answer) (x .next) (now (store .exit)) out
         ≡ responseOutcome r (now (store .entry)) (now (message .entry)) incarnation out) ⌝ }
 {
     if store.len() < session_store::MIN_STORE {

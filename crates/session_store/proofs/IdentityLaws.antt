@@ -15,7 +15,7 @@ use borrow.Author.Tests.{le-leb, lt-leb, leb-true, not-true, not-false}
 use Rattle.parts.specs.BoolLaws.{both-true}
 use Rattle.packed_int.specs.Be.{beAt}
 use Rattle.utf8.specs.Table.{isUtf8}
-use Rattle.session.specs.Identity.{topicLength, subscriptionLength, nameLength, topicOf, subscriptionOf, consumerNameOf, isIdentity}
+use Rattle.session.specs.Identity.{topicLength, subscriptionLength, nameLength, identityTopic, subscriptionOf, consumerNameOf, isIdentity}
 
 -- ---- the texts
 
@@ -26,8 +26,8 @@ pub record Lengths (l : List ℕ) (a b c : ℕ) : Type 0 where
   pub name-is : c ≡ beAt 2 l 4
 
 module _ (l : List ℕ) (a b c : ℕ) (q : Lengths l a b c) where
-  pub topic-part : take (7 + a - 7) (drop 7 l) ≡ topicOf l
-  unfolding topicOf
+  pub topic-part : take (7 + a - 7) (drop 7 l) ≡ identityTopic l
+  unfolding identityTopic
   topic-part = rw (add-sub-cancel-left 7 a, q .topic-is)
 
   pub subscription-part : take (7 + a + b - (7 + a)) (drop (7 + a) l) ≡ subscriptionOf l
@@ -50,12 +50,12 @@ module _ (l : List ℕ) (a b c : ℕ) (q : Lengths l a b c) (k : getD l 6 0 ≤ 
   texts-long h = simp (le-leb (getD l 6 0) 1 k, ← q .topic-is, ← q .subscription-is, ← q .name-is, lt-leb (a + b + c) 2041 h)
 
   module _ (h : a + b + c ≤ 2041) where
-    texts : isIdentity l ≡ (isUtf8 (topicOf l) && (isUtf8 (subscriptionOf l) && isUtf8 (consumerNameOf l)))
+    texts : isIdentity l ≡ (isUtf8 (identityTopic l) && (isUtf8 (subscriptionOf l) && isUtf8 (consumerNameOf l)))
     unfolding isIdentity
     texts = simp (le-leb (getD l 6 0) 1 k, ← q .topic-is, ← q .subscription-is, ← q .name-is, le-leb (a + b + c) 2041 h)
 
     module _ (x : Bool) (ex : x ≡ isUtf8 (take (7 + a - 7) (drop 7 l))) where
-      first : x ≡ isUtf8 (topicOf l)
+      first : x ≡ isUtf8 (identityTopic l)
       first = ex ∙ ap isUtf8 (topic-part l a b c q)
 
       pub topic-bad : not x ≡ true → false ≡ isIdentity l

@@ -17,7 +17,7 @@ use borrow.Author.Tests.{le-ltb, lt-ltb, ltb-false, leb-true, not-true, not-fals
 use Rattle.parts.specs.BoolLaws.{both-true}
 use Rattle.parts.proofs.PartLaws.{Bytes, rest}
 use Rattle.packed_int.specs.Be.{beAt, bytesOf}
-use Rattle.packed.specs.Assignment.{num, encodeAssignment, assignmentOf, sizeAssignment, okAssignment, startsAssignment, isAssignment}
+use Rattle.packed.specs.Assignment.{num, encodeAssignment, decodeAssignment, sizeAssignment, okAssignment, startsAssignment, isAssignment}
 use Rattle.packed.specs.Answers.{frontRead}
 use Rattle.packed.specs.declared.Packed.the-variants.{Assignment, Malformed}
 use Rattle.packed.proofs.RoundLaws.{write-assignment}
@@ -64,7 +64,7 @@ front-not l e = go (startsAssignment l) refl
     go : (t : Bool) → startsAssignment l ≡ t → false ≡ startsAssignment l
     go false h = sym h
     go true h =
-        let f : Malformed ≡ Assignment (sizeAssignment (assignmentOf l)) (length (assignmentOf l .segments)) = e ∙ rw h in
+        let f : Malformed ≡ Assignment (sizeAssignment (decodeAssignment l)) (length (decodeAssignment l .segments)) = e ∙ rw h in
         let z : _≡_ {A = ℕ} 0 1 = cc in
         absurd (omega arith)
 
@@ -191,7 +191,7 @@ module _ (r : SessionRecord) (st : List ℕ) (e : not (damaged (view r st)) ≡ 
 pub sheet-few : (l : List ℕ) → startsEntry l ≡ true → num 2 l ≤ 2048
 unfolding isAssignment startsAssignment
 sheet-few l h =
-    let a = assignmentOf (sheetIn l) in
+    let a = decodeAssignment (sheetIn l) in
     let s = both-true (startsAssignment (sheetIn l)) _ (entry-whole l h) .0 in
     let o = both-true (leb (sizeAssignment a) (length (sheetIn l))) _ s .1 in
     omega (arith, sheet-size l h, size-ok a o)
@@ -241,7 +241,7 @@ module _ (st : List ℕ) (n i : ℕ) (big : 6144 ≤ length st) (h : queueReads 
           inside = omega (arith, entry-fits, long);
           few = omega (arith, long, ap (num 2) (sym there), sheet-few x good);
           starts = ap startsAssignment sheet ∙ both-true (startsAssignment (sheetIn x)) _ (entry-whole x good) .0;
-          holds = ap assignmentOf sheet;
+          holds = ap decodeAssignment sheet;
         }
 
     -- a list fills its length
@@ -263,14 +263,14 @@ module _ (b : List ℕ) (n : ℕ) (s : Scratch b n) where
   pub scratch-fits : n ≤ 2048
   unfolding startsAssignment
   scratch-fits =
-      let z : ℕ = sizeAssignment (assignmentOf b) in
-      omega (arith, s .long, s .size, leb-true z (length b) (both-true (leb z (length b)) (okAssignment (assignmentOf b)) (s .starts) .0))
+      let z : ℕ = sizeAssignment (decodeAssignment b) in
+      omega (arith, s .long, s .size, leb-true z (length b) (both-true (leb z (length b)) (okAssignment (decodeAssignment b)) (s .starts) .0))
 
-  pub scratch-bytes : Bytes b → take n b ≡ encodeAssignment (assignmentOf b)
+  pub scratch-bytes : Bytes b → take n b ≡ encodeAssignment (decodeAssignment b)
   scratch-bytes h =
       ap (λ (m : ℕ). take m b) (s .size)
       ∙ sym (write-assignment b (omega (arith, scratch-fits, s .long, s .size)) h)
 
-  pub scratch-entry : Bytes b → bytesOf 2 n ++ take n b ≡ encodeEntry (assignmentOf b)
+  pub scratch-entry : Bytes b → bytesOf 2 n ++ take n b ≡ encodeEntry (decodeAssignment b)
   unfolding encodeEntry
   scratch-entry h = ap₂ _++_ (ap (bytesOf 2) (s .size)) (scratch-bytes h)

@@ -5,7 +5,7 @@ use mathlib.Core.Path.{_≡_}
 use mathlib.Core.Bool.{true}
 use mathlib.Core.List.{List}
 use lib.ListN.{length, take, drop}
-use Rattle.packed.specs.Assignment.{ConsumerAssignment, assignmentOf, startsAssignment}
+use Rattle.packed.specs.Assignment.{ConsumerAssignment, decodeAssignment, startsAssignment}
 use Rattle.packed_queue.specs.Entries.{sheetIn, entriesEnd}
 use Rattle.session.specs.Store.{baselineSlot, listIn, queueArea, queueIn, queueEnd}
 
@@ -19,11 +19,11 @@ pub record Lies (store : List ℕ) (at size : ℕ) (a : ConsumerAssignment) : Ty
   pub inside : at + size ≤ length store
   pub few : size ≤ 2048
   pub starts : startsAssignment (take size (drop at store)) ≡ true
-  pub holds : assignmentOf (take size (drop at store)) ≡ a
+  pub holds : decodeAssignment (take size (drop at store)) ≡ a
 
 -- the list of entry i of the queue
 unfoldable pub entryIn : List ℕ → ℕ → ConsumerAssignment
-entryIn store i = assignmentOf (sheetIn (drop (entriesEnd i (queueArea store)) (queueArea store)))
+entryIn store i = decodeAssignment (sheetIn (drop (entriesEnd i (queueArea store)) (queueArea store)))
 
 -- the list before it: the baseline for the first
 abbrev pub listBefore : List ℕ → ℕ → ConsumerAssignment

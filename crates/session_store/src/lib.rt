@@ -6,7 +6,7 @@ ghost use mathlib.Core.Bool.{true, not};
 ghost use Prim.Native.Nat.{_+_, _*_, _≤_, _<_};
 ghost use lib.ListN.{length};
 ghost use Rattle.packed_int.specs.Put.{put};
-ghost use Rattle.packed.specs.Assignment.{encodeAssignment, assignmentOf, startsAssignment};
+ghost use Rattle.packed.specs.Assignment.{encodeAssignment, decodeAssignment, startsAssignment};
 ghost use Rattle.packed_queue.specs.Entries.{encodeEntry};
 ghost use Rattle.session.specs.Store.{slot};
 ghost use Rattle.session.specs.Identity.{isIdentity};
@@ -141,7 +141,7 @@ pub fn is_sound(r: SessionRecord, store: &[u8]) -> bool
 pub fn write_slot(store: &mut [u8], k: usize, b: &[u8], n: usize)
     requires { ⌜ 2048 * k + 2048 ≤ length (now store) ⌝ }
     requires { ⌜ Scratch (now b) n ⌝ }
-    ensures { λ _. ⌜ now (store .exit) ≡ put (now (store .entry)) (2048 * k) (encodeAssignment (assignmentOf (now (b .entry)))) ⌝ }
+    ensures { λ _. ⌜ now (store .exit) ≡ put (now (store .entry)) (2048 * k) (encodeAssignment (decodeAssignment (now (b .entry)))) ⌝ }
 {
     packed_int::put_bytes(store, SLOT * k, &b[..n]);
 }
@@ -150,7 +150,7 @@ pub fn write_slot(store: &mut [u8], k: usize, b: &[u8], n: usize)
 pub fn push(store: &mut [u8], at: usize, b: &[u8], n: usize)
     requires { ⌜ at + (2 + n) ≤ length (now store) ⌝ }
     requires { ⌜ Scratch (now b) n ⌝ }
-    ensures { λ _. ⌜ now (store .exit) ≡ put (now (store .entry)) at (encodeEntry (assignmentOf (now (b .entry)))) ⌝ }
+    ensures { λ _. ⌜ now (store .exit) ≡ put (now (store .entry)) at (encodeEntry (decodeAssignment (now (b .entry)))) ⌝ }
 {
     packed_int::write_u16(store, at, n as u16);
     packed_int::put_bytes(store, at + LENGTH, &b[..n]);

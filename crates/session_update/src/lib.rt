@@ -13,11 +13,11 @@ ghost use Rattle.packed.specs.Assignment.{startsAssignment};
 ghost use Rattle.packed.specs.Assignment as packed-form;
 ghost use Rattle.content.specs.Content.{taken, contentOf};
 ghost use Rattle.session.specs.Store.{slot};
-ghost use Rattle.session.specs.Identity.{topicOf};
+ghost use Rattle.session.specs.Identity.{identityTopic};
 ghost use Rattle.session.specs.Session.{view};
 ghost use Rattle.session.specs.Update.{updateUnregistered, updateRegistered};
 ghost use Rattle.session.specs.Tails.{updateContent, updateValid, updateChecked};
-ghost use Rattle.session.specs.Calls.{outcome, effectOf, updateOutcome};
+ghost use Rattle.session.specs.Calls.{callOutcome, effectOf, updateOutcome};
 ghost use Rattle.session_store.specs.Scratch.{Scratch};
 ghost use Rattle.session_store.specs.Places.{QueueEnds};
 ghost use Rattle.session_store.specs.Tests.{StoreTested};
@@ -45,8 +45,8 @@ fn enqueued(r: SessionRecord, store: &mut [u8], end: usize, b: &[u8], n: usize) 
     requires { ⌜ r .«queue_count» ≤ 1024 ⌝ }
     requires { ⌜ QueueEnds (now store) (r .«queue_count») end ⌝ }
     requires { ⌜ Scratch (now b) n ⌝ }
-    ensures { λ x. ⌜ ((out : List ℕ) → outcome (x .answer) (x .next) (now (store .exit)) out
-        ≡ effectOf (updateUnregistered (view r (now (store .entry))) (packed-form.assignmentOf (now (b .entry)))) (now (store .entry)) out) ⌝ }
+    ensures { λ x. ⌜ ((out : List ℕ) → callOutcome (x .answer) (x .next) (now (store .exit)) out
+        ≡ effectOf (updateUnregistered (view r (now (store .entry))) (packed-form.decodeAssignment (now (b .entry)))) (now (store .entry)) out) ⌝ }
 {
     let floor = r.epoch_floor;
     let epoch = packed_int::read_u64(b, 0);
@@ -77,8 +77,8 @@ fn held(r: SessionRecord, store: &mut [u8], b: &[u8], n: usize, out: &mut [u8]) 
     requires { ⌜ (6144 ≤ length (now store)) × (3210 ≤ length (now out)) ⌝ }
     requires { ⌜ startsAssignment (slot (now store) 2) ≡ true ⌝ }
     requires { ⌜ Scratch (now b) n ⌝ }
-    ensures { λ x. ⌜ outcome (x .answer) (x .next) (now (store .exit)) (now (out .exit))
-        ≡ effectOf (updateRegistered (view r (now (store .entry))) (packed-form.assignmentOf (now (b .entry)))) (now (store .entry)) (now (out .entry)) ⌝ }
+    ensures { λ x. ⌜ callOutcome (x .answer) (x .next) (now (store .exit)) (now (out .exit))
+        ≡ effectOf (updateRegistered (view r (now (store .entry))) (packed-form.decodeAssignment (now (b .entry)))) (now (store .entry)) (now (out .entry)) ⌝ }
 {
     if records::same_assignment(&store[LIST..LIST + SLOT], b) {
         return session_record::unchanged(r);
@@ -139,7 +139,7 @@ fn received(
     requires { ⌜ (6144 ≤ length (now store)) × (3210 ≤ length (now out)) ⌝ }
     requires { ⌜ StoreTested r (now store) (Tested.Sound end) ⌝ }
     requires { ⌜ Ready intake (now b) ⌝ }
-    ensures { λ x. ⌜ outcome (x .answer) (x .next) (now (store .exit)) (now (out .exit))
+    ensures { λ x. ⌜ callOutcome (x .answer) (x .next) (now (store .exit)) (now (out .exit))
         ≡ effectOf (updateContent (view r (now (store .entry))) (contentFrom intake (now (b .entry)))) (now (store .entry)) (now (out .entry)) ⌝ }
 {
     match intake {
@@ -168,8 +168,8 @@ fn addressed(
     requires { ⌜ StoreTested r (now store) (Tested.Sound end) ⌝ }
     requires { ⌜ Scratch (now b) n ⌝ }
     ensures { λ x. ⌜ ((u : WireUpdate) → «consumer_id» ≡ u .consumerId
-        → contentOf (topicOf (slot (now (store .entry)) 0)) (u .assignment) ≡ taken (packed-form.assignmentOf (now (b .entry)))
-        → outcome (x .answer) (x .next) (now (store .exit)) (now (out .exit))
+        → contentOf (identityTopic (slot (now (store .entry)) 0)) (u .assignment) ≡ taken (packed-form.decodeAssignment (now (b .entry)))
+        → callOutcome (x .answer) (x .next) (now (store .exit)) (now (out .exit))
         ≡ effectOf (updateValid (view r (now (store .entry))) incarnation u) (now (store .entry)) (now (out .entry))) ⌝ }
 {
     match address_of(r, consumer_id, incarnation) {
@@ -191,7 +191,7 @@ fn scanned(
     requires { ⌜ (6144 ≤ length (now store)) × (3210 ≤ length (now out)) ⌝ }
     requires { ⌜ StoreTested r (now store) (Tested.Sound end) ⌝ }
     requires { ⌜ length (now b) ≡ 2048 ⌝ }
-    ensures { λ x. ⌜ outcome (x .answer) (x .next) (now (store .exit)) (now (out .exit))
+    ensures { λ x. ⌜ callOutcome (x .answer) (x .next) (now (store .exit)) (now (out .exit))
         ≡ effectOf (updateChecked (view r (now (store .entry))) incarnation (now (message .entry)) (firstFault MessageKind.CommandScalableTopicAssignmentUpdate (now (message .entry)))) (now (store .entry)) (now (out .entry)) ⌝ }
 {
     match messages::first_fault(MessageKind::CommandScalableTopicAssignmentUpdate, message) {
@@ -223,7 +223,7 @@ pub fn updated(
     incarnation: ControllerIncarnation,
     out: &mut [u8],
 ) -> Changed
-    ensures { λ x. ⌜ outcome (x .answer) (x .next) (now (store .exit)) (now (out .exit))
+    ensures { λ x. ⌜ callOutcome (x .answer) (x .next) (now (store .exit)) (now (out .exit))
         ≡ updateOutcome r (now (store .entry)) (now (message .entry)) incarnation (now (out .entry)) ⌝ }
 {
     if store.len() < session_store::MIN_STORE {

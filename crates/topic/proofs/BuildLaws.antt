@@ -22,7 +22,7 @@ use Rattle.utf8.specs.Table.{isUtf8}
 use Rattle.topic.specs.declared.NameAnswer.the-variants.{Written}
 use Rattle.parents.specs.Parents.{isParent, pathOf}
 use Rattle.topic.specs.Names.{segmentScheme, descriptor, segmentTopic}
-use Rattle.topic.specs.Build.{outcome, refuse, written, buildName, canonicalSegmentTopic}
+use Rattle.topic.specs.Build.{nameOutcome, refuse, written, buildName, canonicalSegmentTopic}
 use Rattle.topic.proofs.NameLaws.{segmentTopic-length}
 
 -- ---- a name put into an output
@@ -49,7 +49,7 @@ module _ (path : List ℕ) (range : KeyRange) (id : SegmentId) (o : List ℕ) wh
 
     pub name-written : n + length path ≤ length o
         → written (segmentTopic path range id) o
-        ≡ outcome (Written (n + length path)) (put (put (put o 0 segmentScheme) 10 path) (10 + length path) (descriptor range id))
+        ≡ nameOutcome (Written (n + length path)) (put (put (put o 0 segmentScheme) 10 path) (10 + length path) (descriptor range id))
     unfolding written
     name-written h =
         let k = segmentTopic-length range id path in

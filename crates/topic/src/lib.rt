@@ -6,7 +6,7 @@ mod descriptor;
 ghost use mathlib.Core.Path.{_≡_};
 ghost use Rattle.parts.specs.Same.{sameBytes};
 ghost use Rattle.topic.specs.Names.{segmentTopic};
-ghost use Rattle.topic.specs.Build.{outcome, written, canonicalSegmentTopic};
+ghost use Rattle.topic.specs.Build.{nameOutcome, written, canonicalSegmentTopic};
 pub use parents::is_parent;
 use refusal::Refusal;
 use types::KeyRange;
@@ -44,7 +44,7 @@ pub fn write_segment_topic(
     id: SegmentId,
     out: &mut [u8],
 ) -> NameAnswer
-    ensures { λ r. ⌜ outcome r (now (out .exit)) ≡ written (segmentTopic (now (path .entry)) range id) (now (out .entry)) ⌝ }
+    ensures { λ r. ⌜ nameOutcome r (now (out .exit)) ≡ written (segmentTopic (now (path .entry)) range id) (now (out .entry)) ⌝ }
 {
     let tail = descriptor::descriptor_of(range, id);
     let from = tail.from;
@@ -73,7 +73,7 @@ pub fn canonical_segment_topic(
     id: SegmentId,
     out: &mut [u8],
 ) -> NameAnswer
-    ensures { λ r. ⌜ outcome r (now (out .exit)) ≡ canonicalSegmentTopic (now (parent .entry)) start end id (now (out .entry)) ⌝ }
+    ensures { λ r. ⌜ nameOutcome r (now (out .exit)) ≡ canonicalSegmentTopic (now (parent .entry)) start end id (now (out .entry)) ⌝ }
 {
     if !utf8::is_utf8(parent) {
         return NameAnswer::Refused(Refusal::InvalidUtf8);

@@ -16,7 +16,7 @@ use Rattle.packed_int.proofs.PutLaws.{put-nil, put-after, take-put}
 use Rattle.topics.specs.declared.Order.the-variants.{Greater}
 use Rattle.topics.specs.declared.Place.{Place}
 use Rattle.topics.specs.Topics.{order, has, insertAll, rising}
-use Rattle.topics.specs.Packed.{encodeTopic, encodeTopics, sizeTopics, topicsOf, isWhole, placeOf}
+use Rattle.topics.specs.Packed.{encodeTopic, encodeTopics, sizeTopics, decodeTopics, isWhole, topicPlace}
 use Rattle.topics.proofs.OrderLaws.{less-flip}
 use Rattle.topics.proofs.SetLaws.{has-first, has-append, rising-tail, rising-next}
 use Rattle.topics.proofs.PackedLaws.{length-encode, length-encodeTopic, encode-append, size-append, size-parts, write-back}
@@ -57,8 +57,8 @@ pub record Merged (m new b : List ℕ) (used to from at : ℕ) : Type 0 where
   pub bytes : Bytes m
   pub out : List (List ℕ)
   pub j : ℕ
-  pub split : insertAll (topicsOf new) (topicsOf (raised m (length new) used))
-      ≡ out ++ insertAll (topicsOf (drop at new)) (topicsOf (drop j (raised m (length new) used)))
+  pub split : insertAll (decodeTopics new) (decodeTopics (raised m (length new) used))
+      ≡ out ++ insertAll (decodeTopics (drop at new)) (decodeTopics (drop j (raised m (length new) used)))
   pub wrote : b ≡ put m 0 (encodeTopics out)
   pub end : to ≡ sizeTopics out
   pub reads : from ≡ length new + j
@@ -69,7 +69,7 @@ pub record Merged (m new b : List ℕ) (used to from at : ℕ) : Type 0 where
   pub rises : Rises (drop j (raised m (length new) used))
   pub passed : at ≤ length new
   pub new-rises : Rises (drop at new)
-  pub apart : Apart (topicsOf (drop at new)) (topicsOf (drop j (raised m (length new) used)))
+  pub apart : Apart (decodeTopics (drop at new)) (decodeTopics (drop j (raised m (length new) used)))
 
 -- what the set's bytes are once they are moved up
 module _ (o m : List ℕ) (z used : ℕ) (k : used + z ≤ length o) (e : m ≡ put o (0 + z) (take (used - 0) (drop 0 o))) where
@@ -90,7 +90,7 @@ module _ (o m : List ℕ) (z used : ℕ) (k : used + z ≤ length o) (e : m ≡ 
 
 -- the set's bytes are moved up, and nothing is written
 pub merge-begin : (m new s : List ℕ) (used : ℕ) → raised m (length new) used ≡ s → used + length new ≤ length m → Bytes m → Rises s → Rises new
-    → Apart (topicsOf new) (topicsOf s) → Merged m new m used 0 (length new) 0
+    → Apart (decodeTopics new) (decodeTopics s) → Merged m new m used 0 (length new) 0
 unfolding encodeTopics sizeTopics
 merge-begin m new s used f k bm rs rn ap′ =
     record {
@@ -108,11 +108,11 @@ merge-begin m new s used f k bm rs rn ap′ =
       rises = subst Rises (sym f) rs;
       passed = omega arith;
       new-rises = rn;
-      apart = subst (λ (x : List ℕ). Apart (topicsOf new) (topicsOf x)) (sym f) ap′;
+      apart = subst (λ (x : List ℕ). Apart (decodeTopics new) (decodeTopics x)) (sym f) ap′;
     }
 
 pub merge-start : (o m new : List ℕ) (used : ℕ) → used + length new ≤ length o → m ≡ put o (0 + length new) (take (used - 0) (drop 0 o))
-    → length m ≡ length o → Bytes m → Rises (take used o) → Rises new → Apart (topicsOf new) (topicsOf (take used o))
+    → length m ≡ length o → Bytes m → Rises (take used o) → Rises new → Apart (decodeTopics new) (decodeTopics (take used o))
     → Merged m new m used 0 (length new) 0
 merge-start o m new used k e l bm ro rn ap′ =
     merge-begin m new (take used o) used (raised-is o m (length new) used k e) (omega arith) bm ro rn ap′
@@ -171,12 +171,12 @@ module _ {m new b : List ℕ} {used to from at : ℕ} (v : Merged m new b used t
     topic = take n (drop (at + 2) new)
 
     abbrev news : List (List ℕ)
-    news = topicsOf (drop (at + 2 + n) new)
+    news = decodeTopics (drop (at + 2 + n) new)
 
     abbrev olds : List (List ℕ)
-    olds = topicsOf rest
+    olds = decodeTopics rest
 
-    new-next : topicsOf (drop at new) ≡ topic ∷ news
+    new-next : decodeTopics (drop at new) ≡ topic ∷ news
     new-next = entry-topics new at n h e
 
     new-rising : rising (topic ∷ news) ≡ true
@@ -195,11 +195,11 @@ module _ {m new b : List ℕ} {used to from at : ℕ} (v : Merged m new b used t
     piece-length nb = ap length (piece nb) ∙ length-encodeTopic topic ∙ ap (λ (i : ℕ). 2 + i) (entry-length new at n h e new-fits)
 
     module _ (p : Place)
-        (q : p ≡ placeOf (take (at + 2 + n - (at + 2)) (drop (at + 2) new)) 0 (topicsOf (take (used + length new - from) (drop from b)))) where
+        (q : p ≡ topicPlace (take (at + 2 + n - (at + 2)) (drop (at + 2) new)) 0 (decodeTopics (take (used + length new - from) (drop from b)))) where
       is-at : p .at ≡ sizeTopics (lower topic olds)
       is-at =
-          let f : p ≡ placeOf topic 0 olds = q ∙ ap₂ (λ (x y : List ℕ). placeOf x 0 (topicsOf y)) (part-is new (at + 2) n) part-rest in
-          let g : placeOf topic 0 olds .at ≡ 0 + sizeTopics (lower topic olds) = place-at topic 0 olds in
+          let f : p ≡ topicPlace topic 0 olds = q ∙ ap₂ (λ (x y : List ℕ). topicPlace x 0 (decodeTopics y)) (part-is new (at + 2) n) part-rest in
+          let g : topicPlace topic 0 olds .at ≡ 0 + sizeTopics (lower topic olds) = place-at topic 0 olds in
           ap (λ (x : Place). x .at) f ∙ g ∙ omega arith
 
       -- the bytes before the topic's place are of the set
@@ -227,13 +227,13 @@ module _ {m new b : List ℕ} {used to from at : ℕ} (v : Merged m new b used t
       next-bytes : drop (v .j + p .at) (raised m (length new) used) ≡ drop (sizeTopics (lower topic olds)) rest
       next-bytes = sym (drop-drop (p .at) (v .j) (raised m (length new) used)) ∙ ap (λ (i : ℕ). drop i rest) is-at
 
-      next-topics : topicsOf (drop (v .j + p .at) (raised m (length new) used)) ≡ upper topic olds
-      next-topics = ap topicsOf next-bytes ∙ upper-topics rest rest-bytes (v .rises .whole) topic
+      next-topics : decodeTopics (drop (v .j + p .at) (raised m (length new) used)) ≡ upper topic olds
+      next-topics = ap decodeTopics next-bytes ∙ upper-topics rest rest-bytes (v .rises .whole) topic
 
       next-whole : isWhole (drop (v .j + p .at) (raised m (length new) used)) ≡ true
       next-whole = ap isWhole next-bytes ∙ upper-whole rest rest-bytes (v .rises .whole) topic
 
-      next-apart : Apart news (topicsOf (drop (v .j + p .at) (raised m (length new) used)))
+      next-apart : Apart news (decodeTopics (drop (v .j + p .at) (raised m (length new) used)))
       unfolding has
       next-apart u k =
           let f : has u (topic ∷ news) ≡ true = ap (λ (x : Bool). sameBytes u topic || x) k ∙ or-true (sameBytes u topic) in
@@ -300,13 +300,13 @@ module _ {m new b : List ℕ} {used to from at : ℕ} (v : Merged m new b used t
   -- what is left is in place already
   module _ (h : length new ≤ at) where
     abbrev all : List (List ℕ)
-    all = insertAll (topicsOf new) (topicsOf (raised m (length new) used))
+    all = insertAll (decodeTopics new) (decodeTopics (raised m (length new) used))
 
     all-bytes : encodeTopics all ≡ encodeTopics (v .out) ++ rest
     unfolding insertAll
     all-bytes =
-        ap encodeTopics (v .split ∙ ap (λ (x : List (List ℕ)). v .out ++ insertAll x (topicsOf rest)) (topics-end new at h))
-        ∙ encode-append (v .out) (topicsOf rest)
+        ap encodeTopics (v .split ∙ ap (λ (x : List (List ℕ)). v .out ++ insertAll x (decodeTopics rest)) (topics-end new at h))
+        ∙ encode-append (v .out) (decodeTopics rest)
         ∙ ap (λ (x : List ℕ). encodeTopics (v .out) ++ x) (write-back rest rest-bytes (v .rises .whole))
 
     pub merge-long : length (encodeTopics all) ≡ used + length new
@@ -327,9 +327,9 @@ module _ {m new b : List ℕ} {used to from at : ℕ} (v : Merged m new b used t
         ∙ ap (put m 0) (sym all-bytes)
 
     pub merge-end : (o : List ℕ) → used + length new ≤ length o → m ≡ put o (0 + length new) (take (used - 0) (drop 0 o))
-        → b ≡ put o 0 (encodeTopics (insertAll (topicsOf new) (topicsOf (take used o))))
+        → b ≡ put o 0 (encodeTopics (insertAll (decodeTopics new) (decodeTopics (take used o))))
     merge-end o k e =
         merge-stays
         ∙ ap (λ (x : List ℕ). put x 0 (encodeTopics all)) (moved-is o m (length new) used k e)
         ∙ put-over o (length new) (take used o) (encodeTopics all) (omega (arith, merge-long, length-used o m (length new) used k e)) (omega arith)
-        ∙ ap (λ (x : List ℕ). put o 0 (encodeTopics (insertAll (topicsOf new) (topicsOf x)))) (raised-is o m (length new) used k e)
+        ∙ ap (λ (x : List ℕ). put o 0 (encodeTopics (insertAll (decodeTopics new) (decodeTopics x)))) (raised-is o m (length new) used k e)

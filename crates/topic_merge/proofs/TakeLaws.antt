@@ -19,7 +19,7 @@ use Rattle.topics.specs.declared.Order.{Order}
 use Rattle.topics.specs.declared.Order.the-variants.{Less, Equal, Greater}
 use Rattle.topics.specs.declared.Place.{Place}
 use Rattle.topics.specs.Topics.{order, byOrder, has, rising}
-use Rattle.topics.specs.Packed.{encodeTopics, sizeTopics, topicsOf, isWhole, placeOf}
+use Rattle.topics.specs.Packed.{encodeTopics, sizeTopics, decodeTopics, isWhole, topicPlace}
 use Rattle.topics.proofs.OrderLaws.{order-equal, order-trans, less-flip, greater-flip, same-greater, is-before}
 use Rattle.topics.proofs.SetLaws.{has-before, has-first, has-cases, rising-tail, first-before, filter-alike, filter-append}
 use Rattle.topics.proofs.PackedLaws.{length-encode, encode-append, size-append, size-topics, size-parts}
@@ -134,7 +134,7 @@ pub record Left (o g b : List ℕ) (to from at : ℕ) : Type 0 where
   pub bytes : Bytes o
   pub gone-bytes : Bytes g
   pub kept : List (List ℕ)
-  pub split : without (topicsOf o) (topicsOf g) ≡ kept ++ without (topicsOf (drop from o)) (topicsOf (drop at g))
+  pub split : without (decodeTopics o) (decodeTopics g) ≡ kept ++ without (decodeTopics (drop from o)) (decodeTopics (drop at g))
   pub wrote : b ≡ put o 0 (encodeTopics kept)
   pub end : to ≡ sizeTopics kept
   pub down : to ≤ from
@@ -203,22 +203,22 @@ module _ {o g b : List ℕ} {to from at : ℕ} (v : Left o g b to from at) where
     topic = take n (drop (at + 2) g)
 
     abbrev behind : List (List ℕ)
-    behind = topicsOf (drop from o)
+    behind = decodeTopics (drop from o)
 
     abbrev gone : List (List ℕ)
-    gone = topicsOf (drop (at + 2 + n) g)
+    gone = decodeTopics (drop (at + 2 + n) g)
 
     gone-next : rising (topic ∷ gone) ≡ true
     gone-next = ap rising (sym (entry-topics g at n h e)) ∙ v .gone-rises .rises
 
     module _ (p : Place)
-        (q : p ≡ placeOf (take (at + 2 + n - (at + 2)) (drop (at + 2) g)) 0 (topicsOf (take (length b - from) (drop from b)))) where
-      is-place : p ≡ placeOf topic 0 behind
-      is-place = q ∙ ap₂ (λ (x : List ℕ) (y : List ℕ). placeOf x 0 (topicsOf y)) (part-is g (at + 2) n) part-rest
+        (q : p ≡ topicPlace (take (at + 2 + n - (at + 2)) (drop (at + 2) g)) 0 (decodeTopics (take (length b - from) (drop from b)))) where
+      is-place : p ≡ topicPlace topic 0 behind
+      is-place = q ∙ ap₂ (λ (x : List ℕ) (y : List ℕ). topicPlace x 0 (decodeTopics y)) (part-is g (at + 2) n) part-rest
 
       is-at : p .at ≡ sizeTopics (lower topic behind)
       is-at =
-          let f : placeOf topic 0 behind .at ≡ 0 + sizeTopics (lower topic behind) = place-at topic 0 behind in
+          let f : topicPlace topic 0 behind .at ≡ 0 + sizeTopics (lower topic behind) = place-at topic 0 behind in
           ap (λ (x : Place). x .at) is-place ∙ f ∙ omega arith
 
       is-present : p .present ≡ has topic behind
@@ -257,9 +257,9 @@ module _ {o g b : List ℕ} {to from at : ℕ} (v : Left o g b to from at) where
             let k : from + (p .at + s) ≡ from + p .at + s = omega arith in
             sym (ap (λ (i : ℕ). drop i (drop from o)) front-size ∙ drop-drop (p .at + s) from o ∙ ap (λ (i : ℕ). drop i o) k)
 
-        next-topics : topicsOf (drop (from + p .at + s) o) ≡ past topic behind
+        next-topics : decodeTopics (drop (from + p .at + s) o) ≡ past topic behind
         next-topics =
-            ap topicsOf next-bytes ∙ rest-topics (drop from o) rest-good (v .rises .whole) front (past topic behind) in-front
+            ap decodeTopics next-bytes ∙ rest-topics (drop from o) rest-good (v .rises .whole) front (past topic behind) in-front
 
         next-whole : isWhole (drop (from + p .at + s) o) ≡ true
         next-whole =
@@ -301,11 +301,11 @@ module _ {o g b : List ℕ} {to from at : ℕ} (v : Left o g b to from at) where
       place-room = omega (arith, take-room (cond (p .present) (2 + n) 0) refl)
 
   pub take-end : length g ≤ at → (b′ : List ℕ) → b′ ≡ put b to (take (length b - from) (drop from b))
-      → (to + (length b - from) ≡ sizeTopics (without (topicsOf o) (topicsOf g)))
-      × (b′ ≡ put o 0 (encodeTopics (without (topicsOf o) (topicsOf g))))
+      → (to + (length b - from) ≡ sizeTopics (without (decodeTopics o) (decodeTopics g)))
+      × (b′ ≡ put o 0 (encodeTopics (without (decodeTopics o) (decodeTopics g))))
   take-end h b′ w =
-      let r : List (List ℕ) = topicsOf (drop from o) in
-      let all : without (topicsOf o) (topicsOf g) ≡ v .kept ++ r =
+      let r : List (List ℕ) = decodeTopics (drop from o) in
+      let all : without (decodeTopics o) (decodeTopics g) ≡ v .kept ++ r =
       v .split ∙ ap (λ (x : List (List ℕ)). v .kept ++ x) (ap (without r) (topics-end g at h) ∙ without-none r) in
       let z : sizeTopics r ≡ length (drop from o) = size-topics (drop from o) rest-good (v .rises .whole) in
       let ld : length (drop from o) ≡ length o - from = length-drop from o in

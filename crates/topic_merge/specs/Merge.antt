@@ -8,7 +8,7 @@ use mathlib.Core.Bool.{true, false, not}
 use mathlib.Core.List.{List}
 use Rattle.keyed.specs.Keyed.{filter}
 use Rattle.topics.specs.Topics.{has, rising}
-use Rattle.topics.specs.Packed.{topicsOf, isWhole}
+use Rattle.topics.specs.Packed.{decodeTopics, isWhole}
 
 -- the topics of the first list that are not of the second
 unfoldable pub without : List (List ℕ) → List (List ℕ) → List (List ℕ)
@@ -21,4 +21,4 @@ Apart a b = (t : List ℕ) → has t a ≡ true → has t b ≡ false
 -- the bytes are a packed list whose topics rise
 pub record Rises (l : List ℕ) : Type 0 where
   pub whole : isWhole l ≡ true
-  pub rises : rising (topicsOf l) ≡ true
+  pub rises : rising (decodeTopics l) ≡ true

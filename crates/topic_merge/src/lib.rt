@@ -5,7 +5,7 @@ ghost use Prim.Native.Nat.{_+_, _≤_};
 ghost use lib.ListN.{length, take};
 ghost use Rattle.packed_int.specs.Put.{put};
 ghost use Rattle.topics.specs.Topics.{insertAll};
-ghost use Rattle.topics.specs.Packed.{topicsOf, encodeTopics, sizeTopics};
+ghost use Rattle.topics.specs.Packed.{decodeTopics, encodeTopics, sizeTopics};
 ghost use Rattle.topic_merge.specs.Merge.{without, Apart, Rises};
 
 // z bytes are passed over where the topic is present.
@@ -18,8 +18,8 @@ fn skip(present: bool, z: usize) -> usize
 // The set b without the topics of a packed list. Answers its length.
 pub fn take_out(b: &mut [u8], gone: &[u8]) -> usize
     requires { ⌜ Rises (now b) × Rises (now gone) ⌝ }
-    ensures { λ r. ⌜ (r ≡ sizeTopics (without (topicsOf (now (b .entry))) (topicsOf (now (gone .entry)))))
-        × (now (b .exit) ≡ put (now (b .entry)) 0 (encodeTopics (without (topicsOf (now (b .entry))) (topicsOf (now (gone .entry)))))) ⌝ }
+    ensures { λ r. ⌜ (r ≡ sizeTopics (without (decodeTopics (now (b .entry))) (decodeTopics (now (gone .entry)))))
+        × (now (b .exit) ≡ put (now (b .entry)) 0 (encodeTopics (without (decodeTopics (now (b .entry))) (decodeTopics (now (gone .entry)))))) ⌝ }
 {
     let mut to: usize = 0;
     let mut from: usize = 0;
@@ -42,9 +42,9 @@ pub fn take_out(b: &mut [u8], gone: &[u8]) -> usize
 pub fn merge(b: &mut [u8], used: usize, new: &[u8]) -> usize
     requires { ⌜ used + length (now new) ≤ length (now b) ⌝ }
     requires { ⌜ Rises (take used (now b)) × Rises (now new) ⌝ }
-    requires { ⌜ Apart (topicsOf (now new)) (topicsOf (take used (now b))) ⌝ }
+    requires { ⌜ Apart (decodeTopics (now new)) (decodeTopics (take used (now b))) ⌝ }
     ensures { λ r. ⌜ (r ≡ used + length (now (new .entry)))
-        × (now (b .exit) ≡ put (now (b .entry)) 0 (encodeTopics (insertAll (topicsOf (now (new .entry))) (topicsOf (take used (now (b .entry))))))) ⌝ }
+        × (now (b .exit) ≡ put (now (b .entry)) 0 (encodeTopics (insertAll (decodeTopics (now (new .entry))) (decodeTopics (take used (now (b .entry))))))) ⌝ }
 {
     let z = new.len();
     let end = used + z;

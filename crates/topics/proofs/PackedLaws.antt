@@ -17,7 +17,7 @@ use Rattle.parts.proofs.PartLaws.{Bytes, Bytes-take, Bytes-drop}
 use Rattle.packed_int.specs.Be.{be, bytesOf}
 use Rattle.packed_int.proofs.BeLaws.{length-bytesOf, be-front, drop-front, bytesOf-front, be-below}
 use Rattle.topics.specs.Topics.{maxTopic, allShort}
-use Rattle.topics.specs.Packed.{encodeTopic, encodeTopics, sizeTopics, lengthAt, topicsAfter, topicsOf, wholeAfter, isWhole}
+use Rattle.topics.specs.Packed.{encodeTopic, encodeTopics, sizeTopics, lengthAt, topicsAfter, decodeTopics, wholeAfter, isWhole}
 use Rattle.topics.proofs.EachLaws.{short-parts}
 
 -- ---- sizes
@@ -44,8 +44,8 @@ size-append (t ∷ a) b = let h : sizeTopics (a ++ b) ≡ sizeTopics a + sizeTop
 
 -- ---- reading at the front
 
-topics-skip : (n : ℕ) (l : List ℕ) → topicsAfter n l ≡ topicsOf (drop n l)
-unfolding topicsOf topicsAfter
+topics-skip : (n : ℕ) (l : List ℕ) → topicsAfter n l ≡ decodeTopics (drop n l)
+unfolding decodeTopics topicsAfter
 topics-skip zero l = refl
 topics-skip (suc n) [] = refl
 topics-skip (suc n) (b ∷ l) = topics-skip n l
@@ -62,22 +62,22 @@ whole-over zero l h = absurd (not-suc-le-zero h)
 whole-over (suc n) [] h = refl
 whole-over (suc n) (b ∷ l) h = whole-over n l (omega arith)
 
-pub topics-nil : topicsOf [] ≡ []
-unfolding topicsOf topicsAfter
+pub topics-nil : decodeTopics [] ≡ []
+unfolding decodeTopics topicsAfter
 topics-nil = refl
 
 pub whole-nil : isWhole [] ≡ true
 unfolding isWhole wholeAfter
 whole-nil = refl
 
-pub topics-cons : (l : List ℕ) → 0 < length l → topicsOf l ≡ take (lengthAt l) (drop 2 l) ∷ topicsOf (drop (2 + lengthAt l) l)
-unfolding topicsOf topicsAfter
+pub topics-cons : (l : List ℕ) → 0 < length l → decodeTopics l ≡ take (lengthAt l) (drop 2 l) ∷ decodeTopics (drop (2 + lengthAt l) l)
+unfolding decodeTopics topicsAfter
 topics-cons [] h = absurd (not-suc-le-zero h)
 topics-cons (b ∷ l) h =
     let n : ℕ = lengthAt (b ∷ l) in
     let e : suc (suc n) ≡ 2 + n = omega arith in
     ap (λ (ts : List (List ℕ)). take n (drop 1 l) ∷ ts) (topics-skip (suc n) l)
-    ∙ ap (λ (m : ℕ). take n (drop 1 l) ∷ topicsOf (drop m (b ∷ l))) e
+    ∙ ap (λ (m : ℕ). take n (drop 1 l) ∷ decodeTopics (drop m (b ∷ l))) e
 
 pub whole-cons : (l : List ℕ) → 0 < length l → 2 + lengthAt l ≤ length l → isWhole l ≡ isWhole (drop (2 + lengthAt l) l)
 unfolding isWhole wholeAfter
@@ -129,7 +129,7 @@ module _ (t : List ℕ) (r : List ℕ) (h : length t ≤ maxTopic) where
   some : 0 < length ahead
   some = omega (arith, long)
 
-  pub read-front : topicsOf ahead ≡ t ∷ topicsOf r
+  pub read-front : decodeTopics ahead ≡ t ∷ decodeTopics r
   read-front = topics-cons ahead some ∙ rw (length-front, text-front, rest-front)
 
   pub whole-front : isWhole ahead ≡ isWhole r
@@ -147,11 +147,11 @@ pub short-cons : (t : List ℕ) (ts : List (List ℕ)) → length t ≤ maxTopic
 unfolding allShort
 short-cons t ts h e = both (leb (length t) maxTopic) (allShort ts) (le-leb (length t) maxTopic h) e
 
-pub read-ahead : (ts : List (List ℕ)) (r : List ℕ) → allShort ts ≡ true → topicsOf (encodeTopics ts ++ r) ≡ ts ++ topicsOf r
+pub read-ahead : (ts : List (List ℕ)) (r : List ℕ) → allShort ts ≡ true → decodeTopics (encodeTopics ts ++ r) ≡ ts ++ decodeTopics r
 unfolding encodeTopics
 read-ahead [] r e = refl
 read-ahead (t ∷ ts) r e =
-    ap topicsOf (append-assoc (encodeTopic t) (encodeTopics ts) r)
+    ap decodeTopics (append-assoc (encodeTopic t) (encodeTopics ts) r)
     ∙ read-front t (encodeTopics ts ++ r) (short-head t ts e)
     ∙ ap (λ (l : List (List ℕ)). t ∷ l) (read-ahead ts r (short-tail t ts e))
 
@@ -163,7 +163,7 @@ whole-ahead (t ∷ ts) r e =
     ∙ whole-front t (encodeTopics ts ++ r) (short-head t ts e)
     ∙ whole-ahead ts r (short-tail t ts e)
 
-pub read-back : (ts : List (List ℕ)) → allShort ts ≡ true → topicsOf (encodeTopics ts) ≡ ts
+pub read-back : (ts : List (List ℕ)) → allShort ts ≡ true → decodeTopics (encodeTopics ts) ≡ ts
 unfolding encodeTopics
 read-back [] e = topics-nil
 read-back (t ∷ ts) e =
@@ -193,8 +193,8 @@ lengthAt-below l b =
     omega arith
 
 record Written (l : List ℕ) : Type 0 where
-  bytes : encodeTopics (topicsOf l) ≡ l
-  short : allShort (topicsOf l) ≡ true
+  bytes : encodeTopics (decodeTopics l) ≡ l
+  short : allShort (decodeTopics l) ≡ true
 
 written-nil : Written []
 unfolding encodeTopics allShort
@@ -208,13 +208,13 @@ written-cons s p b w i =
     let t : List ℕ = take (lengthAt s) (drop 2 s) in
     let e : length t ≡ lengthAt s = length-take-le (lengthAt s) (drop 2 s) (omega (arith, length-drop 2 s)) in
     let m : length t ≤ maxTopic = omega (arith, lengthAt-below s b) in
-    let c : topicsOf s ≡ t ∷ topicsOf r = topics-cons s p in
+    let c : decodeTopics s ≡ t ∷ decodeTopics r = topics-cons s p in
     record {
       bytes =
           ap encodeTopics c
           ∙ ap₂ (λ (a d : List ℕ). a ++ d) (write-front s k b) (i .bytes)
           ∙ take-append-drop (2 + lengthAt s) s;
-      short = ap allShort c ∙ short-cons t (topicsOf r) m (i .short);
+      short = ap allShort c ∙ short-cons t (decodeTopics r) m (i .short);
     }
 
 written : (n : ℕ) (l : List ℕ) → length l ≤ n → Bytes l → isWhole l ≡ true → Written l
@@ -229,19 +229,19 @@ written (suc n) l h b w = go (λ m k c d. written n m k c d) (decLe 1 (length l)
     go ih (no p) = subst Written (sym (drop-of-length-le l {i = 0} (omega arith))) written-nil
 
 module _ (l : List ℕ) (b : Bytes l) (w : isWhole l ≡ true) where
-  pub write-back : encodeTopics (topicsOf l) ≡ l
+  pub write-back : encodeTopics (decodeTopics l) ≡ l
   write-back = written (length l) l (omega arith) b w .bytes
 
-  pub read-short : allShort (topicsOf l) ≡ true
+  pub read-short : allShort (decodeTopics l) ≡ true
   read-short = written (length l) l (omega arith) b w .short
 
-  pub size-topics : sizeTopics (topicsOf l) ≡ length l
-  size-topics = sym (length-encode (topicsOf l)) ∙ ap length write-back
+  pub size-topics : sizeTopics (decodeTopics l) ≡ length l
+  size-topics = sym (length-encode (decodeTopics l)) ∙ ap length write-back
 
 -- ---- the first topics of a list, and what is behind them
 
 -- bytes whose topics are those of a and then those of c
-module _ (l : List ℕ) (b : Bytes l) (w : isWhole l ≡ true) (a c : List (List ℕ)) (e : topicsOf l ≡ a ++ c) where
+module _ (l : List ℕ) (b : Bytes l) (w : isWhole l ≡ true) (a c : List (List ℕ)) (e : decodeTopics l ≡ a ++ c) where
   short-both : (allShort a ≡ true) × (allShort c ≡ true)
   short-both = short-parts a c (ap allShort (sym e) ∙ read-short l b w)
 
@@ -257,11 +257,11 @@ module _ (l : List ℕ) (b : Bytes l) (w : isWhole l ≡ true) (a c : List (List
   pub rest-bytes : drop (sizeTopics a) l ≡ encodeTopics c
   rest-bytes = ap (drop (sizeTopics a)) in-parts ∙ drop-at (encodeTopics a) (encodeTopics c) (sizeTopics a) (length-encode a)
 
-  pub front-topics : topicsOf (take (sizeTopics a) l) ≡ a
-  front-topics = ap topicsOf front-bytes ∙ read-back a (short-both .0)
+  pub front-topics : decodeTopics (take (sizeTopics a) l) ≡ a
+  front-topics = ap decodeTopics front-bytes ∙ read-back a (short-both .0)
 
-  pub rest-topics : topicsOf (drop (sizeTopics a) l) ≡ c
-  rest-topics = ap topicsOf rest-bytes ∙ read-back c (short-both .1)
+  pub rest-topics : decodeTopics (drop (sizeTopics a) l) ≡ c
+  rest-topics = ap decodeTopics rest-bytes ∙ read-back c (short-both .1)
 
   pub rest-whole : isWhole (drop (sizeTopics a) l) ≡ true
   rest-whole = ap isWhole rest-bytes ∙ whole-back c (short-both .1)

@@ -1,4 +1,4 @@
--- Where a topic stands in a rising list: behind the topics before it (`lower`), in front of the others (`upper`). `placeOf` answers the size
+-- Where a topic stands in a rising list: behind the topics before it (`lower`), in front of the others (`upper`). `topicPlace` answers the size
 -- of `lower` (`place-at`) and whether the topic is there (`place-has`); insertions by the two parts (`insert-absent`, `insertAll-behind`).
 -- Assumes nothing.
 use Prim.Native.Nat.{ℕ, _+_, _≤_}
@@ -14,7 +14,7 @@ use Rattle.topics.specs.declared.Order.{Order}
 use Rattle.topics.specs.declared.Order.the-variants.{Less, Equal, Greater}
 use Rattle.topics.specs.declared.Place.{Place}
 use Rattle.topics.specs.Topics.{order, byOrder, has, insert, insertAll, leads, rising}
-use Rattle.topics.specs.Packed.{encodeTopics, sizeTopics, topicsOf, isWhole, placeOf}
+use Rattle.topics.specs.Packed.{encodeTopics, sizeTopics, decodeTopics, isWhole, topicPlace}
 use Rattle.topics.proofs.OrderLaws.{greater-equal, order-equal, order-refl, less-flip, greater-trans, same-greater, is-before}
 use Rattle.topics.proofs.SetLaws.{has-before, has-first, has-cases, rising-tail, rising-next, insert-greater}
 use Rattle.topics.proofs.PackedLaws.{size-parts, front-bytes, rest-topics, rest-whole}
@@ -39,12 +39,12 @@ lower-upper t (u ∷ us) = go (order t u) refl (lower-upper t us)
     go Equal e h = rw e
     go Greater e h = rw e (ap (λ (l : List (List ℕ)). u ∷ l) h)
 
--- ---- what `placeOf` answers
+-- ---- what `topicPlace` answers
 
-pub place-at : (t : List ℕ) (at : ℕ) (l : List (List ℕ)) → placeOf t at l .at ≡ at + sizeTopics (lower t l)
-unfolding placeOf lower sizeTopics
+pub place-at : (t : List ℕ) (at : ℕ) (l : List (List ℕ)) → topicPlace t at l .at ≡ at + sizeTopics (lower t l)
+unfolding topicPlace lower sizeTopics
 place-at t at [] = omega arith
-place-at t at (u ∷ us) = go (order t u) refl (placeOf t (at + (2 + length u)) us) (place-at t (at + (2 + length u)) us)
+place-at t at (u ∷ us) = go (order t u) refl (topicPlace t (at + (2 + length u)) us) (place-at t (at + (2 + length u)) us)
   where
     go : (o : Order) → order t u ≡ o → (q : Place) → q .at ≡ at + (2 + length u) + sizeTopics (lower t us)
         → byOrder (order t u) (record { at = at; present = false }) (record { at = at; present = true }) q .at
@@ -53,11 +53,11 @@ place-at t at (u ∷ us) = go (order t u) refl (placeOf t (at + (2 + length u)) 
     go Equal e q h = rw e (omega arith)
     go Greater e q h = rw e (omega arith)
 
-pub place-has : (t : List ℕ) (at : ℕ) (l : List (List ℕ)) → rising l ≡ true → placeOf t at l .present ≡ has t l
-unfolding placeOf has
+pub place-has : (t : List ℕ) (at : ℕ) (l : List (List ℕ)) → rising l ≡ true → topicPlace t at l .present ≡ has t l
+unfolding topicPlace has
 place-has t at [] r = refl
 place-has t at (u ∷ us) r =
-    go (order t u) refl (placeOf t (at + (2 + length u)) us) (place-has t (at + (2 + length u)) us (rising-tail u us r))
+    go (order t u) refl (topicPlace t (at + (2 + length u)) us) (place-has t (at + (2 + length u)) us (rising-tail u us r))
   where
     go : (o : Order) → order t u ≡ o → (q : Place) → q .present ≡ has t us
         → byOrder (order t u) (record { at = at; present = false }) (record { at = at; present = true }) q .present
@@ -200,16 +200,16 @@ insertAll-behind (t ∷ ts) a c r b =
 
 module _ (s : List ℕ) (b : Bytes s) (w : isWhole s ≡ true) (t : List ℕ) where
   abbrev place : ℕ
-  place = sizeTopics (lower t (topicsOf s))
+  place = sizeTopics (lower t (decodeTopics s))
 
   pub lower-within : place ≤ length s
-  lower-within = omega (arith, size-parts s b w (lower t (topicsOf s)) (upper t (topicsOf s)) (lower-upper t (topicsOf s)))
+  lower-within = omega (arith, size-parts s b w (lower t (decodeTopics s)) (upper t (decodeTopics s)) (lower-upper t (decodeTopics s)))
 
-  pub lower-bytes : take place s ≡ encodeTopics (lower t (topicsOf s))
-  lower-bytes = front-bytes s b w (lower t (topicsOf s)) (upper t (topicsOf s)) (lower-upper t (topicsOf s))
+  pub lower-bytes : take place s ≡ encodeTopics (lower t (decodeTopics s))
+  lower-bytes = front-bytes s b w (lower t (decodeTopics s)) (upper t (decodeTopics s)) (lower-upper t (decodeTopics s))
 
-  pub upper-topics : topicsOf (drop place s) ≡ upper t (topicsOf s)
-  upper-topics = rest-topics s b w (lower t (topicsOf s)) (upper t (topicsOf s)) (lower-upper t (topicsOf s))
+  pub upper-topics : decodeTopics (drop place s) ≡ upper t (decodeTopics s)
+  upper-topics = rest-topics s b w (lower t (decodeTopics s)) (upper t (decodeTopics s)) (lower-upper t (decodeTopics s))
 
   pub upper-whole : isWhole (drop place s) ≡ true
-  upper-whole = rest-whole s b w (lower t (topicsOf s)) (upper t (topicsOf s)) (lower-upper t (topicsOf s))
+  upper-whole = rest-whole s b w (lower t (decodeTopics s)) (upper t (decodeTopics s)) (lower-upper t (decodeTopics s))

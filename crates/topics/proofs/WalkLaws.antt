@@ -14,7 +14,7 @@ use Rattle.packed_int.specs.Be.{beAt}
 use Rattle.utf8.specs.Table.{isUtf8}
 use Rattle.topics.specs.declared.Order.{Order}
 use Rattle.topics.specs.Topics.{order, byOrder, before, leads, rising, maxTopic}
-use Rattle.topics.specs.Packed.{encodeTopic, lengthAt, topicsOf, isWhole, allUtf8, isSet, placeOf}
+use Rattle.topics.specs.Packed.{encodeTopic, lengthAt, decodeTopics, isWhole, allUtf8, isSet, topicPlace}
 use Rattle.topics.proofs.PackedLaws.{topics-nil, topics-cons, whole-nil, whole-cons, whole-short, whole-fits}
 use Rattle.topics.proofs.PackedLaws.{write-front, lengthAt-below}
 
@@ -32,7 +32,7 @@ module _ (s : List ℕ) (at n : ℕ) (h : at < length s) (e : n ≡ beAt 2 s at)
   unfolding beAt
   is-length = sym e
 
-  pub entry-topics : topicsOf (drop at s) ≡ take n (drop (at + 2) s) ∷ topicsOf (drop (at + 2 + n) s)
+  pub entry-topics : decodeTopics (drop at s) ≡ take n (drop (at + 2) s) ∷ decodeTopics (drop (at + 2 + n) s)
   entry-topics =
       let a : at + (2 + n) ≡ at + 2 + n = omega arith in
       topics-cons (drop at s) some ∙ rw (is-length, drop-drop 2 at s, drop-drop (2 + n) at s, a)
@@ -71,8 +71,8 @@ entry-one s at h k = whole-short (drop at s) (omega (arith, length-drop at s)) (
 pub entry-two : (s : List ℕ) (at : ℕ) → at < length s → isWhole (drop at s) ≡ true → at + 2 ≤ length s
 entry-two s at h w = omega (arith, entry-fits s at (beAt 2 s at) h refl w)
 
-pub topics-end : (s : List ℕ) (at : ℕ) → length s ≤ at → topicsOf (drop at s) ≡ []
-topics-end s at h = ap topicsOf (drop-of-length-le s {i = at} h) ∙ topics-nil
+pub topics-end : (s : List ℕ) (at : ℕ) → length s ≤ at → decodeTopics (drop at s) ≡ []
+topics-end s at h = ap decodeTopics (drop-of-length-le s {i = at} h) ∙ topics-nil
 
 pub whole-end : (s : List ℕ) (at : ℕ) → length s ≤ at → isWhole (drop at s) ≡ true
 whole-end s at h = ap isWhole (drop-of-length-le s {i = at} h) ∙ whole-nil
@@ -80,7 +80,7 @@ whole-end s at h = ap isWhole (drop-of-length-le s {i = at} h) ∙ whole-nil
 -- ---- `is_list`
 
 abbrev pub isList : List ℕ → Bool
-isList s = isWhole s && allUtf8 (topicsOf s)
+isList s = isWhole s && allUtf8 (decodeTopics s)
 
 pub list-broken : (s : List ℕ) → isWhole s ≡ false → isList s ≡ false
 list-broken s e = rw e
@@ -91,7 +91,7 @@ list-end s at h = rw (whole-end s at h, topics-end s at h)
 
 module _ (s : List ℕ) (at n : ℕ) (h : at < length s) (e : n ≡ beAt 2 s at) (k : at + 2 + n ≤ length s)
     (b : Bool) (f : b ≡ isUtf8 (take (at + 2 + n - (at + 2)) (drop (at + 2) s))) where
-  list-at : isList (drop at s) ≡ (isWhole (drop (at + 2 + n) s) && (b && allUtf8 (topicsOf (drop (at + 2 + n) s))))
+  list-at : isList (drop at s) ≡ (isWhole (drop (at + 2 + n) s) && (b && allUtf8 (decodeTopics (drop (at + 2 + n) s))))
   unfolding allUtf8
   list-at =
       let g : isUtf8 (take n (drop (at + 2) s)) ≡ b = sym (f ∙ ap isUtf8 (part-is s (at + 2) n)) in
@@ -105,65 +105,65 @@ module _ (s : List ℕ) (at n : ℕ) (h : at < length s) (e : n ≡ beAt 2 s at)
 
 -- ---- `is_rising`
 
-pub rising-end : (s : List ℕ) (at : ℕ) → length s ≤ at → rising (topicsOf (drop at s)) ≡ true
+pub rising-end : (s : List ℕ) (at : ℕ) → length s ≤ at → rising (decodeTopics (drop at s)) ≡ true
 unfolding rising
 rising-end s at h = rw (topics-end s at h)
 
 module _ (s : List ℕ) (at n : ℕ) (h : at < length s) (e : n ≡ beAt 2 s at) where
-  rising-at : rising (topicsOf (drop at s))
-      ≡ (leads (take n (drop (at + 2) s)) (topicsOf (drop (at + 2 + n) s)) && rising (topicsOf (drop (at + 2 + n) s)))
+  rising-at : rising (decodeTopics (drop at s))
+      ≡ (leads (take n (drop (at + 2) s)) (decodeTopics (drop (at + 2 + n) s)) && rising (decodeTopics (drop (at + 2 + n) s)))
   unfolding rising
   rising-at = rw (entry-topics s at n h e)
 
-  pub rising-last : length s ≤ at + 2 + n → rising (topicsOf (drop at s)) ≡ rising (topicsOf (drop (at + 2 + n) s))
+  pub rising-last : length s ≤ at + 2 + n → rising (decodeTopics (drop at s)) ≡ rising (decodeTopics (drop (at + 2 + n) s))
   rising-last k = rising-at ∙ rw (topics-end s (at + 2 + n) k)
 
   module _ (m : ℕ) (k : at + 2 + n < length s) (em : m ≡ beAt 2 s (at + 2 + n)) (c : Bool)
       (f : c ≡ before (take (at + 2 + n - (at + 2)) (drop (at + 2) s))
       (take (at + 2 + n + 2 + m - (at + 2 + n + 2)) (drop (at + 2 + n + 2) s))) where
-    leads-is : leads (take n (drop (at + 2) s)) (topicsOf (drop (at + 2 + n) s)) ≡ c
+    leads-is : leads (take n (drop (at + 2) s)) (decodeTopics (drop (at + 2 + n) s)) ≡ c
     leads-is =
         rw (entry-topics s (at + 2 + n) m k em)
         (sym (f ∙ rw (part-is s (at + 2) n, part-is s (at + 2 + n + 2) m)))
 
-    pub rising-not : c ≡ false → rising (topicsOf (drop at s)) ≡ false
+    pub rising-not : c ≡ false → rising (decodeTopics (drop at s)) ≡ false
     rising-not g = rising-at ∙ rw (leads-is, g)
 
-    pub rising-on : c ≡ true → rising (topicsOf (drop at s)) ≡ rising (topicsOf (drop (at + 2 + n) s))
+    pub rising-on : c ≡ true → rising (decodeTopics (drop at s)) ≡ rising (decodeTopics (drop (at + 2 + n) s))
     rising-on g = rising-at ∙ rw (leads-is, g)
 
 -- ---- `is_set`
 
-pub set-list : (s : List ℕ) → isList s ≡ true → rising (topicsOf s) ≡ isSet s
+pub set-list : (s : List ℕ) → isList s ≡ true → rising (decodeTopics s) ≡ isSet s
 unfolding isSet
-set-list s e = go (isWhole s) (allUtf8 (topicsOf s)) e
+set-list s e = go (isWhole s) (allUtf8 (decodeTopics s)) e
   where
-    go : (a b : Bool) → (a && b) ≡ true → rising (topicsOf s) ≡ (a && (b && rising (topicsOf s)))
+    go : (a b : Bool) → (a && b) ≡ true → rising (decodeTopics s) ≡ (a && (b && rising (decodeTopics s)))
     go true true e = refl
     go true false e = absurd (false≢true e)
     go false b e = absurd (false≢true e)
 
 pub set-none : (s : List ℕ) → isList s ≡ false → false ≡ isSet s
 unfolding isSet
-set-none s e = go (isWhole s) (allUtf8 (topicsOf s)) e
+set-none s e = go (isWhole s) (allUtf8 (decodeTopics s)) e
   where
-    go : (a b : Bool) → (a && b) ≡ false → false ≡ (a && (b && rising (topicsOf s)))
+    go : (a b : Bool) → (a && b) ≡ false → false ≡ (a && (b && rising (decodeTopics s)))
     go true true e = absurd (true≢false e)
     go true false e = refl
     go false b e = refl
 
 -- ---- `find`
 
-pub place-end : (s t : List ℕ) (at : ℕ) → length s ≤ at → placeOf t at (topicsOf (drop at s)) ≡ record { at = at; present = false }
-unfolding placeOf
+pub place-end : (s t : List ℕ) (at : ℕ) → length s ≤ at → topicPlace t at (decodeTopics (drop at s)) ≡ record { at = at; present = false }
+unfolding topicPlace
 place-end s t at h = rw (topics-end s at h)
 
 pub place-next : (s : List ℕ) (at n : ℕ) → at < length s → n ≡ beAt 2 s at → at + 2 + n ≤ length s
     → (t : List ℕ) (o : Order) → o ≡ order t (take (at + 2 + n - (at + 2)) (drop (at + 2) s))
-    → placeOf t at (topicsOf (drop at s))
+    → topicPlace t at (decodeTopics (drop at s))
     ≡ byOrder o (record { at = at; present = false }) (record { at = at; present = true })
-    (placeOf t (at + 2 + n) (topicsOf (drop (at + 2 + n) s)))
-unfolding placeOf
+    (topicPlace t (at + 2 + n) (decodeTopics (drop (at + 2 + n) s)))
+unfolding topicPlace
 place-next s at n h e k t o f =
     let g : order t (take n (drop (at + 2) s)) ≡ o = sym (f ∙ ap (order t) (part-is s (at + 2) n)) in
     let a : at + (2 + n) ≡ at + 2 + n = omega arith in

@@ -32,8 +32,8 @@ topicsAfter n [] = []
 topicsAfter (suc n) (b ∷ l) = topicsAfter n l
 topicsAfter zero (b ∷ l) = take (lengthAt (b ∷ l)) (drop 1 l) ∷ topicsAfter (suc (lengthAt (b ∷ l))) l
 
-unfoldable pub topicsOf : List ℕ → List (List ℕ)
-topicsOf l = topicsAfter 0 l
+unfoldable pub decodeTopics : List ℕ → List (List ℕ)
+decodeTopics l = topicsAfter 0 l
 
 -- the lengths lead to the end of the bytes
 unfoldable pub wholeAfter : ℕ → List ℕ → Bool
@@ -51,10 +51,10 @@ allUtf8 (t ∷ ts) = isUtf8 t && allUtf8 ts
 
 -- the bytes are a set: "each topic a 16-bit length and UTF-8 bytes, rising in byte order, distinct"
 unfoldable pub isSet : List ℕ → Bool
-isSet l = isWhole l && (allUtf8 (topicsOf l) && rising (topicsOf l))
+isSet l = isWhole l && (allUtf8 (decodeTopics l) && rising (decodeTopics l))
 
 -- ---- where a topic stands, or would stand, in a rising list whose bytes start at a place
-unfoldable pub placeOf : List ℕ → ℕ → List (List ℕ) → Place
-placeOf t at [] = record { at = at; present = false }
-placeOf t at (u ∷ us) =
-    byOrder (order t u) (record { at = at; present = false }) (record { at = at; present = true }) (placeOf t (at + (2 + length u)) us)
+unfoldable pub topicPlace : List ℕ → ℕ → List (List ℕ) → Place
+topicPlace t at [] = record { at = at; present = false }
+topicPlace t at (u ∷ us) =
+    byOrder (order t u) (record { at = at; present = false }) (record { at = at; present = true }) (topicPlace t (at + (2 + length u)) us)

@@ -5,7 +5,7 @@ ghost use Prim.Native.Nat.{_-_, _≤_};
 ghost use lib.ListN.{length, take};
 ghost use Rattle.topics.specs.Topics.{order, before, rising};
 ghost use Rattle.topics.specs.Alike.{Shorter};
-ghost use Rattle.topics.specs.Packed.{topicsOf, isWhole, allUtf8, isSet, placeOf};
+ghost use Rattle.topics.specs.Packed.{decodeTopics, isWhole, allUtf8, isSet, topicPlace};
 
 // How one topic stands to another.
 pub enum Order {
@@ -113,7 +113,7 @@ pub fn is_before(a: &[u8], b: &[u8]) -> bool
 
 // The lengths lead to the end of the slice, and each topic is UTF-8.
 fn is_list(s: &[u8]) -> bool
-    ensures { λ r. ⌜ r ≡ (isWhole (now (s .entry)) && allUtf8 (topicsOf (now (s .entry)))) ⌝ }
+    ensures { λ r. ⌜ r ≡ (isWhole (now (s .entry)) && allUtf8 (decodeTopics (now (s .entry)))) ⌝ }
 {
     let mut at: usize = 0;
     while at < s.len() {
@@ -137,7 +137,7 @@ fn is_list(s: &[u8]) -> bool
 // Each topic of a packed list stands before the next.
 fn is_rising(s: &[u8]) -> bool
     requires { ⌜ isWhole (now s) ≡ true ⌝ }
-    ensures { λ r. ⌜ r ≡ rising (topicsOf (now (s .entry))) ⌝ }
+    ensures { λ r. ⌜ r ≡ rising (decodeTopics (now (s .entry))) ⌝ }
 {
     let mut at: usize = 0;
     while at < s.len() {
@@ -166,7 +166,7 @@ pub fn is_set(s: &[u8]) -> bool
 // Where a topic stands in a packed set.
 pub fn find(s: &[u8], t: &[u8]) -> Place
     requires { ⌜ isWhole (now s) ≡ true ⌝ }
-    ensures { λ r. ⌜ r ≡ placeOf (now (t .entry)) 0 (topicsOf (now (s .entry))) ⌝ }
+    ensures { λ r. ⌜ r ≡ topicPlace (now (t .entry)) 0 (decodeTopics (now (s .entry))) ⌝ }
 {
     let mut at: usize = 0;
     while at < s.len() {

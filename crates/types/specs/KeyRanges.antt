@@ -1,6 +1,6 @@
 -- Public: ranges of the 16-bit key space (01, Ranges), and why two numbers are none.
 --
--- `newKeyRange` is the Rust's `KeyRange::new`. `kindOf` and `numbersOf` give what a refusal attaches: the kind, 1 to 3, and that kind's own
+-- `newKeyRange` is the Rust's `KeyRange::new`. `errorKind` and `errorNumbers` give what a refusal attaches: the kind, 1 to 3, and that kind's own
 -- numbers in the order of the Rust's fields.
 -- Assumes nothing.
 use Prim.Native.Nat.{ℕ}
@@ -29,13 +29,13 @@ newKeyRange start end =
     (cond (ltb end start) (Invalid (Reversed start end)) (Valid (keyRange start end))))
 
 -- "kinds 1, 2, 3"
-unfoldable pub kindOf : KeyRangeError → ℕ
-kindOf (StartOutOfBounds s) = 1
-kindOf (EndOutOfBounds e) = 2
-kindOf (Reversed s e) = 3
+unfoldable pub errorKind : KeyRangeError → ℕ
+errorKind (StartOutOfBounds s) = 1
+errorKind (EndOutOfBounds e) = 2
+errorKind (Reversed s e) = 3
 
 -- a kind's own numbers
-unfoldable pub numbersOf : KeyRangeError → List ℕ
-numbersOf (StartOutOfBounds s) = s ∷ []
-numbersOf (EndOutOfBounds e) = e ∷ []
-numbersOf (Reversed s e) = s ∷ e ∷ []
+unfoldable pub errorNumbers : KeyRangeError → List ℕ
+errorNumbers (StartOutOfBounds s) = s ∷ []
+errorNumbers (EndOutOfBounds e) = e ∷ []
+errorNumbers (Reversed s e) = s ∷ e ∷ []

@@ -1,4 +1,4 @@
--- Laws of where the parts of a field stand: `placesFrom`, `placeOf`, `PlaceIs`.
+-- Laws of where the parts of a field stand: `placesFrom`, `textPlace`, `PlaceIs`.
 --
 -- In order: the walk's step at a front (`places-at`; `place-same`, `place-other`) and its end (`places-end`); the places lie in the message
 -- and hold the parts of the row of fields (`placed`), so with no part there is no place (`places-none`), and at the last place stands the
@@ -22,7 +22,7 @@ use Rattle.values.specs.declared.Front.the-variants as front
 use Rattle.values.specs.declared.PartStep.the-variants as step
 use Rattle.values.specs.declared.Span.{Span}
 use Rattle.values.specs.Values.{partsOf, lastPartAfter, lastPart}
-use Rattle.values.specs.Places.{frontOf, span, frontSize, placesBy, placesAfter, placesFrom, lastPlace, placeOf, PartIs, PlaceIs, NextPart}
+use Rattle.values.specs.Places.{frontOf, span, frontSize, placesBy, placesAfter, placesFrom, lastPlace, textPlace, PartIs, PlaceIs, NextPart}
 use Rattle.values.proofs.FrontLaws.{partsFrom, FrontAt, front-at, parts-end}
 
 -- ---- the walk
@@ -162,7 +162,7 @@ module _ (s : List ℕ) (start len : ℕ) where
   from-places (p ∷ ps) i q = from-place p ps _ i q refl
 
 -- at the last place stands the last part, and where there is no place an empty part
-pub text-there : (n : ℕ) (s : List ℕ) (start len : ℕ) → PlaceIs s (placeOf n s) start len
+pub text-there : (n : ℕ) (s : List ℕ) (start len : ℕ) → PlaceIs s (textPlace n s) start len
     → PartIs s (lastPart (partsOf n (fieldsOf s))) start len
 text-there n s start len q =
     let p = placed n s 0 in
@@ -174,7 +174,7 @@ text-there n s start len q =
 pub record Sought (n : ℕ) (s : List ℕ) (at start len : ℕ) : Type 0 where
   pub so-far : Option Span
   pub there : PlaceIs s so-far start len
-  pub is : placeOf n s ≡ lastPlace so-far (placesFrom n s at)
+  pub is : textPlace n s ≡ lastPlace so-far (placesFrom n s at)
 
 pub sought-start : (n : ℕ) (s : List ℕ) → Sought n s 0 0 0
 sought-start n s = record { so-far = none; there = record { inside = omega arith; is-text = refl }; is = refl }
@@ -184,6 +184,6 @@ module _ {n : ℕ} {s : List ℕ} {at start len : ℕ} (h : Sought n s at start 
   sought-next start′ len′ next q =
       record { so-far = some (span start′ len′); there = (refl, refl); is = h .is ∙ ap (lastPlace (h .so-far)) (q .4) }
 
-  pub sought-done : NextPart n s at step.Absent → PlaceIs s (placeOf n s) start len
+  pub sought-done : NextPart n s at step.Absent → PlaceIs s (textPlace n s) start len
   sought-done q =
       subst (λ x. PlaceIs s x start len) (sym (h .is ∙ ap (lastPlace (h .so-far)) (places-none n s at q))) (h .there)

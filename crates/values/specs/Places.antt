@@ -74,8 +74,8 @@ lastPlace x [] = x
 lastPlace x (p ∷ ps) = lastPlace (some p) ps
 
 -- the place of the last part of field n in a message. The parts at the places are those of the row of fields: `placed` of proofs/TextLaws
-abbrev pub placeOf : ℕ → List ℕ → Option Span
-placeOf n s = lastPlace none (placesFrom n s 0)
+abbrev pub textPlace : ℕ → List ℕ → Option Span
+textPlace n s = lastPlace none (placesFrom n s 0)
 
 -- the text is the part of the message that starts at a place and has this length
 pub record PartIs (message text : List ℕ) (start len : ℕ) : Type 0 where

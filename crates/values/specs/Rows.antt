@@ -6,8 +6,8 @@ use mathlib.Core.Path.{_≡_, refl}
 use mathlib.Core.List.{List, [], _∷_}
 use mathlib.Core.Option.{some, none}
 use Rattle.wire.specs.Varints.{varintOf}
-use Rattle.wire.specs.Field.{keyOf, fixedOf, numberOf, partOf}
-use Rattle.values.specs.Places.{frontOf, span, placesFrom, placeOf, PlaceIs}
+use Rattle.wire.specs.Field.{keyOf, fixedOf, numberBody, partOf}
+use Rattle.values.specs.Places.{frontOf, span, placesFrom, textPlace, PlaceIs}
 
 -- field 3 twice, with the same text `a`
 abbrev pub twice : List ℕ
@@ -15,13 +15,13 @@ twice = 0x1a ∷ 0x01 ∷ 0x61 ∷ 0x1a ∷ 0x01 ∷ 0x61 ∷ []
 
 pub record Rows : Type 0 where
   -- the last counts, and its place alone
-  pub last-place : placeOf 3 twice ≡ some (span 5 1)
-  pub no-other : PlaceIs twice (placeOf 3 twice) 2 1 → ⊥
+  pub last-place : textPlace 3 twice ≡ some (span 5 1)
+  pub no-other : PlaceIs twice (textPlace 3 twice) 2 1 → ⊥
   -- behind a number and another field's part
-  pub behind : placeOf 3 (0x08 ∷ 0x07 ∷ 0x22 ∷ 0x01 ∷ 0x61 ∷ 0x1a ∷ 0x00 ∷ []) ≡ some (span 7 0)
+  pub behind : textPlace 3 (0x08 ∷ 0x07 ∷ 0x22 ∷ 0x01 ∷ 0x61 ∷ 0x1a ∷ 0x00 ∷ []) ≡ some (span 7 0)
   -- none is there: a number under the text's number, and a part that ends early
-  pub absent : placeOf 3 (0x18 ∷ 0x01 ∷ 0x1a ∷ 0x02 ∷ 0x61 ∷ []) ≡ none
+  pub absent : textPlace 3 (0x18 ∷ 0x01 ∷ 0x1a ∷ 0x02 ∷ 0x61 ∷ []) ≡ none
 
 pub rows : Rows
-unfolding placesFrom frontOf varintOf keyOf fixedOf numberOf partOf
+unfolding placesFrom frontOf varintOf keyOf fixedOf numberBody partOf
 rows = record { last-place = refl; no-other = λ q. omega (arith, q .0); behind = refl; absent = refl }

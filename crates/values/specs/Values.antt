@@ -8,7 +8,7 @@ use Prim.Native.Nat.{ℕ}
 use mathlib.Core.Bool.{Bool, true, false, cond}
 use mathlib.Core.List.{List, [], _∷_, _++_}
 use lib.Dec.{eqb}
-use Rattle.wire.specs.Fields.{Content, number, bytes, fixed, cut, Field, badKey, field, fieldsOf}
+use Rattle.wire.specs.Fields.{Payload, number, bytes, fixed, cut, Field, badKey, field, fieldsOf}
 use Rattle.values.specs.declared.Last.{Last}
 use Rattle.values.specs.declared.Last.the-variants as last
 

@@ -6,7 +6,7 @@ ghost use mathlib.Core.Path.{_≡_};
 ghost use lib.ListN.{drop};
 ghost use Rattle.wire.specs.Fields.{fieldsOf};
 ghost use Rattle.values.specs.Integers.{uint32Of, int32Of};
-ghost use Rattle.values.specs.Places.{frontOf, placeOf, NextPart, PlaceIs, Inside, innerFrom, NextInner};
+ghost use Rattle.values.specs.Places.{frontOf, textPlace, NextPart, PlaceIs, Inside, innerFrom, NextInner};
 ghost use Rattle.values.specs.Values.{numbersOf, partsOf, present, lastAfter, lastOf, lastPart, mergedFields, orZero, numberIn};
 use wire::Body;
 use wire::Key;
@@ -148,7 +148,7 @@ pub struct Span {
 
 // Where the last part of field n stands; an empty part where there is none.
 pub fn last_part(s: &[u8], n: u64) -> Span
-    ensures { λ r. ⌜ PlaceIs (now (s .entry)) (placeOf n (now (s .entry))) (r .start) (r .length) ⌝ }
+    ensures { λ r. ⌜ PlaceIs (now (s .entry)) (textPlace n (now (s .entry))) (r .start) (r .length) ⌝ }
 {
     let mut at: usize = 0;
     let mut start: usize = 0;

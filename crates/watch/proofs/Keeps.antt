@@ -19,7 +19,7 @@ use Rattle.refusal.specs.declared.Refusal.the-variants.{MalformedSet, WatchMism
 use Rattle.packed_int.specs.Put.{put}
 use Rattle.utf8.specs.Table.{isUtf8}
 use Rattle.wire.specs.declared.WireType.{WireType}
-use Rattle.wire.specs.Fields.{Content, number, bytes, fixed, cut, Field, badKey, field, fieldsOf}
+use Rattle.wire.specs.Fields.{Payload, number, bytes, fixed, cut, Field, badKey, field, fieldsOf}
 use Rattle.schema.specs.declared.MessageKind.{MessageKind}
 use Rattle.schema.specs.declared.MessageKind.the-variants.{CommandWatchScalableTopicsUpdate, ScalableTopicsSnapshot, ScalableTopicsDiff}
 use Rattle.schema.specs.declared.ValueKind.{ValueKind}
@@ -29,16 +29,16 @@ use Rattle.schema.specs.declared.Checked.the-variants.{Valid, Refused}
 use Rattle.schema.specs.Schema.{valueFor, fitsWire}
 use Rattle.schema.specs.FirstFault.{first, checkValue, checkField, checkFields, faultWithin, firstFault}
 use Rattle.values.specs.Values.{partsOf, Member, absent, holds, memberBehind, isMember, memberBy, memberAfter, memberOf}
-use Rattle.readers.specs.Messages.{WireEvent, none, snapshot, diff, eventFields, eventBy, eventOf, WireWatchUpdate, watchUpdateOf}
+use Rattle.readers.specs.Messages.{WireEvent, none, snapshot, diff, eventFields, eventBy, readEvent, WireWatchUpdate, watchUpdateOf}
 use Rattle.keyed.proofs.KeyedLaws.{choose}
 use Rattle.topics.specs.Topics.{has, rising, allShort}
-use Rattle.topics.specs.Packed.{topicsOf, isWhole, allUtf8, encodeTopics, sizeTopics, isSet}
+use Rattle.topics.specs.Packed.{decodeTopics, isWhole, allUtf8, encodeTopics, sizeTopics, isSet}
 use Rattle.topics.proofs.SetLaws.{rising-insertAll, rising-sorted}
 use Rattle.topics.proofs.EachLaws.{short-insertAll, short-parts, utf8-insertAll, utf8-filter}
 use Rattle.topics.proofs.PackedLaws.{length-encode, read-back, whole-back, read-short}
 use Rattle.topic_window.specs.Lists.{kept}
 use Rattle.watch.specs.declared.WatchAnswer.the-variants as answer
-use Rattle.watch.specs.Watch.{Change, Outcome, snapshotChange, snapshotBy, diffChange, diffBy, noEvent, refuse}
+use Rattle.watch.specs.Watch.{Change, WatchOutcome, snapshotChange, snapshotBy, diffChange, diffBy, noEvent, refuse}
 use Rattle.watch.specs.Watch.{settle, byEvent, forWatch, whenChecked, handleUpdate}
 use Rattle.watch.proofs.ListLaws.{rising-kept, short-kept}
 use Rattle.watch.proofs.SettleLaws.{set-whole}
@@ -50,10 +50,10 @@ set-of : (l : List (List ℕ)) → rising l ≡ true → allUtf8 l ≡ true → 
 unfolding isSet
 set-of l r u s = rw (whole-back l s, read-back l s) (both (allUtf8 l) (rising l) u r)
 
-set-utf8 : (l : List ℕ) → isSet l ≡ true → allUtf8 (topicsOf l) ≡ true
+set-utf8 : (l : List ℕ) → isSet l ≡ true → allUtf8 (decodeTopics l) ≡ true
 unfolding isSet
 set-utf8 l g =
-    both-true (allUtf8 (topicsOf l)) (rising (topicsOf l)) (both-true (isWhole l) (allUtf8 (topicsOf l) && rising (topicsOf l)) g .1) .0
+    both-true (allUtf8 (decodeTopics l)) (rising (decodeTopics l)) (both-true (isWhole l) (allUtf8 (decodeTopics l) && rising (decodeTopics l)) g .1) .0
 
 utf8-kept : (old removed : List (List ℕ)) → allUtf8 old ≡ true → allUtf8 (kept old removed) ≡ true
 unfolding kept
@@ -76,7 +76,7 @@ first-right Valid b e = e
 first-right (Refused x) b e = absurd (refused-valid x e)
 
 module _ (inner : MessageKind → List ℕ → Checked) where
-  value-valid : (v : ValueKind) (w : WireType) (c : Content) → checkField inner v w c ≡ Valid → checkValue inner v c ≡ Valid
+  value-valid : (v : ValueKind) (w : WireType) (c : Payload) → checkField inner v w c ≡ Valid → checkValue inner v c ≡ Valid
   value-valid v w c e = go (fitsWire v w) e
     where
       go : (a : Bool) → cond a (checkValue inner v c) (Refused WrongWireType) ≡ Valid → checkValue inner v c ≡ Valid
@@ -92,11 +92,11 @@ module _ (inner : MessageKind → List ℕ → Checked) where
 
   module _ (k : MessageKind) where
     -- the field at the front has no fault, and neither have those behind it
-    head-valid : (f : ℕ) (w : WireType) (c : Content) (fs : List Field)
+    head-valid : (f : ℕ) (w : WireType) (c : Payload) (fs : List Field)
         → checkFields inner k (field f w c ∷ fs) ≡ Valid → checkValue inner (valueFor k f) c ≡ Valid
     head-valid f w c fs e = value-valid (valueFor k f) w c (first-left (checkField inner (valueFor k f) w c) _ e)
 
-    tail-valid : (f : ℕ) (w : WireType) (c : Content) (fs : List Field)
+    tail-valid : (f : ℕ) (w : WireType) (c : Payload) (fs : List Field)
         → checkFields inner k (field f w c ∷ fs) ≡ Valid → checkFields inner k fs ≡ Valid
     tail-valid f w c fs e = first-right (checkField inner (valueFor k f) w c) _ e
 
@@ -195,7 +195,7 @@ diff-utf8 fs e = parts-utf8 (faultWithin 0) ScalableTopicsDiff 1 refl fs e
 -- ---- the law
 
 -- where the outcome is a change, the new set's bytes are a set
-abbrev Leaves : Outcome → Type 0
+abbrev Leaves : WatchOutcome → Type 0
 Leaves o = (a b : ℕ) → o .answer ≡ answer.Changed a b → isSet (take a (o .buffer)) ≡ true
 
 module _ (buffer out : List ℕ) where
@@ -224,9 +224,9 @@ module _ (buffer out : List ℕ) where
       let ts = partsOf 1 p in
       settled (snapshotBy p) (rising-sorted ts) (utf8-insertAll ts [] (snapshot-utf8 p e) refl) (λ s. short-insertAll ts [] s refl)
 
-  module _ (used : ℕ) (t : allShort (topicsOf (take used buffer)) ≡ true) (g : isSet (take used buffer) ≡ true) where
+  module _ (used : ℕ) (t : allShort (decodeTopics (take used buffer)) ≡ true) (g : isSet (take used buffer) ≡ true) where
     abbrev old : List (List ℕ)
-    old = topicsOf (take used buffer)
+    old = decodeTopics (take used buffer)
 
     diff-leaves : (p : List Field) → EventValid (diff p) → Leaves (settle buffer out (diffBy old p))
     unfolding diffChange
@@ -246,7 +246,7 @@ module _ (buffer out : List ℕ) where
     event-leaves u none h = refused (noEvent (u .watchId) (u .error))
 
     valid-leaves : (id : ℕ) (m : List ℕ) → firstFault update m ≡ Valid → Leaves (forWatch buffer out id old (watchUpdateOf m))
-    unfolding firstFault forWatch watchUpdateOf eventOf
+    unfolding firstFault forWatch watchUpdateOf readEvent
     valid-leaves id m e =
         let u = watchUpdateOf m in
         choose Leaves (not (eqb (u .watchId) id)) (λ _. refused (WatchMismatch (u .watchId) id))
@@ -258,7 +258,7 @@ module _ (buffer out : List ℕ) where
     checked-leaves id m Valid e = valid-leaves id m e
 
   -- an accepted update leaves a set, where the topics before it have 16-bit lengths
-  pub leaves-of-short : (id used : ℕ) (message : List ℕ) → (isSet (take used buffer) ≡ true → allShort (topicsOf (take used buffer)) ≡ true)
+  pub leaves-of-short : (id used : ℕ) (message : List ℕ) → (isSet (take used buffer) ≡ true → allShort (decodeTopics (take used buffer)) ≡ true)
       → (a b : ℕ) → handleUpdate buffer out id used message .answer ≡ answer.Changed a b
       → isSet (take a (handleUpdate buffer out id used message .buffer)) ≡ true
   unfolding handleUpdate forWatch byEvent settle

@@ -8,7 +8,7 @@ use mathlib.Core.Bool.{false, _&&_}
 use mathlib.Core.List.{List}
 use lib.ListN.{take}
 use lib.Dec.{leb, ltb}
-use Rattle.topics.specs.Packed.{topicsOf, sizeTopics}
+use Rattle.topics.specs.Packed.{decodeTopics, sizeTopics}
 use Rattle.topic_window.specs.Lists.{namedIn, addedOf, removedOf}
 use Rattle.topic_merge.specs.Merge.{without}
 use Rattle.watch.specs.declared.Room.{Room}
@@ -17,7 +17,7 @@ use Rattle.watch.specs.Watch.{diffIn}
 
 -- what is left of the set at the front of a buffer without the topics of a packed list
 abbrev pub rest : (buffer : List ℕ) (used : ℕ) (removed : List ℕ) → List (List ℕ)
-rest buffer used removed = without (topicsOf (take used buffer)) (topicsOf removed)
+rest buffer used removed = without (decodeTopics (take used buffer)) (decodeTopics removed)
 
 -- the lists of the diff that is field 3 of p, against the set old
 abbrev pub addedIn : List (List ℕ) → List ℕ → List (List ℕ)

@@ -23,7 +23,7 @@ use Rattle.readers.specs.declared.ErrorCode.{ErrorCode}
 use Rattle.readers.specs.declared.ErrorCode.the-variants.{Given, Absent}
 use Rattle.readers.specs.Messages.{WireEvent, none, snapshot, diff, WireWatchUpdate, watchUpdateOf}
 use Rattle.topics.specs.Topics.{insertAll, sorted, allShort}
-use Rattle.topics.specs.Packed.{topicsOf, encodeTopics, sizeTopics, isSet}
+use Rattle.topics.specs.Packed.{decodeTopics, encodeTopics, sizeTopics, isSet}
 use Rattle.topic_window.specs.Lists.{kept, addedOf, removedOf}
 use Rattle.watch.specs.declared.WatchAnswer.{WatchAnswer}
 use Rattle.watch.specs.declared.WatchAnswer.the-variants as answer
@@ -72,12 +72,12 @@ diffIn old p = diffBy old (mergedFields 3 (fieldsOf p))
 -- ---- the call
 
 -- the answer, and the bytes of the set's buffer and of the output behind it
-pub record Outcome : Type 0 where
+pub record WatchOutcome : Type 0 where
   pub answer : WatchAnswer
   pub buffer : List ℕ
   pub out : List ℕ
 
-abbrev pub outcome : WatchAnswer → (buffer out : List ℕ) → Outcome
+abbrev pub outcome : WatchAnswer → (buffer out : List ℕ) → WatchOutcome
 outcome answer buffer out = record { answer = answer; buffer = buffer; out = out }
 
 -- 16 where there is an error code, else 17
@@ -87,52 +87,52 @@ noEvent id Absent = EmptyUpdate id
 
 module _ (buffer out : List ℕ) where
   -- a refusal changes nothing
-  abbrev pub refuse : Refusal → Outcome
+  abbrev pub refuse : Refusal → WatchOutcome
   refuse x = outcome (answer.Refused x) buffer out
 
   -- what the event asks for, where there is one
-  abbrev pub takeEvent : (old : List (List ℕ)) → WireWatchUpdate → WireEvent → (Change → Outcome) → Outcome
+  abbrev pub takeEvent : (old : List (List ℕ)) → WireWatchUpdate → WireEvent → (Change → WatchOutcome) → WatchOutcome
   takeEvent old u (snapshot fs) rest = rest (snapshotBy fs)
   takeEvent old u (diff fs) rest = rest (diffBy old fs)
   takeEvent old u none rest = refuse (noEvent (u .watchId) (u .error))
 
   -- the new set and the output are written, each from its first byte, and their lengths answered
-  abbrev pub done : Change → Outcome
+  abbrev pub done : Change → WatchOutcome
   done c =
       outcome (answer.Changed (sizeTopics (c .topics)) (length (c .output))) (put buffer 0 (encodeTopics (c .topics))) (put out 0 (c .output))
 
   -- 31: "new set longer than its buffer, or any topic in the message's event above 65,535 bytes"; 21: "result longer than the output ... or an added list of 2^32 bytes
   -- or more"
-  unfoldable pub handleUpdate : (id used : ℕ) (message : List ℕ) → Outcome
+  unfoldable pub handleUpdate : (id used : ℕ) (message : List ℕ) → WatchOutcome
   handleUpdate id used message = do
     refuseUnless refuse (leb used (length buffer) && isSet (take used buffer)) MalformedSet  -- 30
     refuseFault refuse (firstFault CommandWatchScalableTopicsUpdate message)  -- 3, 4, 7, 6
     let u = watchUpdateOf message
     refuseIf refuse (not (eqb (u .watchId) id)) (WatchMismatch (u .watchId) id)  -- 29
-    c ← takeEvent (topicsOf (take used buffer)) u (u .event)  -- 16 or 17
+    c ← takeEvent (decodeTopics (take used buffer)) u (u .event)  -- 16 or 17
     refuseUnless refuse (allShort (c .named) && leb (sizeTopics (c .topics)) (length buffer)) SetTooLong  -- 31
     refuseUnless refuse (ltb (c .added) (2 ^ 32) && leb (length (c .output)) (length out)) ResultTooLong  -- 21
     done c
 
   -- ---- Internal: the tails from 31, from 16, from 29 and from 3 on, which the contracts of helpers and laws cite
 
-  unfoldable pub settle : Change → Outcome
+  unfoldable pub settle : Change → WatchOutcome
   settle c = do
     refuseUnless refuse (allShort (c .named) && leb (sizeTopics (c .topics)) (length buffer)) SetTooLong
     refuseUnless refuse (ltb (c .added) (2 ^ 32) && leb (length (c .output)) (length out)) ResultTooLong
     done c
 
-  unfoldable pub byEvent : (old : List (List ℕ)) → WireWatchUpdate → WireEvent → Outcome
+  unfoldable pub byEvent : (old : List (List ℕ)) → WireWatchUpdate → WireEvent → WatchOutcome
   byEvent old u e = do
     c ← takeEvent old u e
     settle c
 
-  unfoldable pub forWatch : (id : ℕ) (old : List (List ℕ)) → WireWatchUpdate → Outcome
+  unfoldable pub forWatch : (id : ℕ) (old : List (List ℕ)) → WireWatchUpdate → WatchOutcome
   forWatch id old u = do
     refuseIf refuse (not (eqb (u .watchId) id)) (WatchMismatch (u .watchId) id)
     byEvent old u (u .event)
 
-  abbrev pub whenChecked : (id : ℕ) (old : List (List ℕ)) (message : List ℕ) → Checked → Outcome
+  abbrev pub whenChecked : (id : ℕ) (old : List (List ℕ)) (message : List ℕ) → Checked → WatchOutcome
   whenChecked id old message c = do
     refuseFault refuse c
     forWatch id old (watchUpdateOf message)

@@ -7,7 +7,7 @@ ghost use lib.Dec.{leb, ltb};
 ghost use Rattle.packed_int.specs.Put.{put};
 ghost use Rattle.readers.specs.Messages.{watchUpdateOf};
 ghost use Rattle.topics.specs.Topics.{insertAll, sorted, allShort};
-ghost use Rattle.topics.specs.Packed.{topicsOf, encodeTopics, sizeTopics, isSet};
+ghost use Rattle.topics.specs.Packed.{decodeTopics, encodeTopics, sizeTopics, isSet};
 ghost use Rattle.topic_window.specs.Lists.{namedIn};
 ghost use Rattle.topic_window.specs.Window.{OrdersOf};
 ghost use Rattle.topic_merge.specs.Merge.{Apart, Rises};
@@ -115,10 +115,10 @@ fn write_lists(set: &[u8], orders: Orders, p: &[u8], out: &mut [u8]) -> Lists
     requires { ⌜ isSet (now set) ≡ true ⌝ }
     requires { ⌜ OrdersOf 3 (now p) orders ⌝ }
     requires { ⌜ (allShort (namedIn 3 1 (now p)) ≡ true) × (allShort (namedIn 3 2 (now p)) ≡ true) ⌝ }
-    requires { ⌜ OutFits (topicsOf (now set)) (now p) (length (now out)) ⌝ }
-    ensures { λ r. ⌜ (r .added ≡ sizeTopics (addedIn (topicsOf (now (set .entry))) (now (p .entry))))
-        × (r .removed ≡ sizeTopics (removedIn (topicsOf (now (set .entry))) (now (p .entry))))
-        × (now (out .exit) ≡ put (now (out .entry)) 0 (diffIn (topicsOf (now (set .entry))) (now (p .entry)) .output)) ⌝ }
+    requires { ⌜ OutFits (decodeTopics (now set)) (now p) (length (now out)) ⌝ }
+    ensures { λ r. ⌜ (r .added ≡ sizeTopics (addedIn (decodeTopics (now (set .entry))) (now (p .entry))))
+        × (r .removed ≡ sizeTopics (removedIn (decodeTopics (now (set .entry))) (now (p .entry))))
+        × (now (out .exit) ≡ put (now (out .entry)) 0 (diffIn (decodeTopics (now (set .entry))) (now (p .entry)) .output)) ⌝ }
 {
     let l = topic_chunks::write_lists(orders, set, p, 3, &mut out[5..]);
     packed_int::write_u32(out, 1, l.added as u32);
@@ -131,11 +131,11 @@ fn write_set(buffer: &mut [u8], used: usize, added: &[u8], removed: &[u8]) -> us
     requires { ⌜ used ≤ length (now buffer) ⌝ }
     requires { ⌜ isSet (take used (now buffer)) ≡ true ⌝ }
     requires { ⌜ Rises (now added) × Rises (now removed) ⌝ }
-    requires { ⌜ Apart (topicsOf (now added)) (rest (now buffer) used (now removed)) ⌝ }
+    requires { ⌜ Apart (decodeTopics (now added)) (rest (now buffer) used (now removed)) ⌝ }
     requires { ⌜ sizeTopics (rest (now buffer) used (now removed)) + length (now added) ≤ length (now buffer) ⌝ }
     ensures { λ r. ⌜ (r ≡ sizeTopics (rest (now (buffer .entry)) used (now (removed .entry))) + length (now (added .entry)))
         × (now (buffer .exit) ≡ put (now (buffer .entry)) 0
-        (encodeTopics (insertAll (topicsOf (now (added .entry))) (rest (now (buffer .entry)) used (now (removed .entry)))))) ⌝ }
+        (encodeTopics (insertAll (decodeTopics (now (added .entry))) (rest (now (buffer .entry)) used (now (removed .entry)))))) ⌝ }
 {
     let k = topic_merge::take_out(&mut buffer[..used], removed);
     topic_merge::merge(buffer, k, added)
@@ -169,10 +169,10 @@ fn write_diff(
     requires { ⌜ isSet (take used (now buffer)) ≡ true ⌝ }
     requires { ⌜ OrdersOf 3 (now p) orders ⌝ }
     requires { ⌜ (allShort (namedIn 3 1 (now p)) ≡ true) × (allShort (namedIn 3 2 (now p)) ≡ true) ⌝ }
-    requires { ⌜ DiffFits (topicsOf (take used (now buffer))) (now p) (length (now buffer)) (length (now out)) ⌝ }
-    ensures { λ r. ⌜ (r ≡ done (now (buffer .entry)) (now (out .entry)) (diffIn (topicsOf (take used (now (buffer .entry)))) (now (p .entry))) .answer)
-        × (now (buffer .exit) ≡ done (now (buffer .entry)) (now (out .entry)) (diffIn (topicsOf (take used (now (buffer .entry)))) (now (p .entry))) .buffer)
-        × (now (out .exit) ≡ done (now (buffer .entry)) (now (out .entry)) (diffIn (topicsOf (take used (now (buffer .entry)))) (now (p .entry))) .out) ⌝ }
+    requires { ⌜ DiffFits (decodeTopics (take used (now buffer))) (now p) (length (now buffer)) (length (now out)) ⌝ }
+    ensures { λ r. ⌜ (r ≡ done (now (buffer .entry)) (now (out .entry)) (diffIn (decodeTopics (take used (now (buffer .entry)))) (now (p .entry))) .answer)
+        × (now (buffer .exit) ≡ done (now (buffer .entry)) (now (out .entry)) (diffIn (decodeTopics (take used (now (buffer .entry)))) (now (p .entry))) .buffer)
+        × (now (out .exit) ≡ done (now (buffer .entry)) (now (out .entry)) (diffIn (decodeTopics (take used (now (buffer .entry)))) (now (p .entry))) .out) ⌝ }
 {
     let l = write_lists(&buffer[..used], orders, p, out);
     let at = 5 + l.added;
@@ -202,7 +202,7 @@ fn room_for(set: &[u8], orders: Orders, p: &[u8], room: usize, out: usize) -> Ro
     requires { ⌜ length (now set) ≤ room ⌝ }
     requires { ⌜ isSet (now set) ≡ true ⌝ }
     requires { ⌜ OrdersOf 3 (now p) orders ⌝ }
-    ensures { λ r. ⌜ RoomIs (topicsOf (now (set .entry))) (now (p .entry)) room out r ⌝ }
+    ensures { λ r. ⌜ RoomIs (decodeTopics (now (set .entry))) (now (p .entry)) room out r ⌝ }
 {
     if fits_lists(p.len(), room - set.len(), out) {
         return Room::Fits;
@@ -221,9 +221,9 @@ fn room_for(set: &[u8], orders: Orders, p: &[u8], room: usize, out: usize) -> Ro
 fn diff(buffer: &mut [u8], used: usize, p: &[u8], out: &mut [u8]) -> WatchAnswer
     requires { ⌜ used ≤ length (now buffer) ⌝ }
     requires { ⌜ isSet (take used (now buffer)) ≡ true ⌝ }
-    ensures { λ r. ⌜ (r ≡ settle (now (buffer .entry)) (now (out .entry)) (diffIn (topicsOf (take used (now (buffer .entry)))) (now (p .entry))) .answer)
-        × (now (buffer .exit) ≡ settle (now (buffer .entry)) (now (out .entry)) (diffIn (topicsOf (take used (now (buffer .entry)))) (now (p .entry))) .buffer)
-        × (now (out .exit) ≡ settle (now (buffer .entry)) (now (out .entry)) (diffIn (topicsOf (take used (now (buffer .entry)))) (now (p .entry))) .out) ⌝ }
+    ensures { λ r. ⌜ (r ≡ settle (now (buffer .entry)) (now (out .entry)) (diffIn (decodeTopics (take used (now (buffer .entry)))) (now (p .entry))) .answer)
+        × (now (buffer .exit) ≡ settle (now (buffer .entry)) (now (out .entry)) (diffIn (decodeTopics (take used (now (buffer .entry)))) (now (p .entry))) .buffer)
+        × (now (out .exit) ≡ settle (now (buffer .entry)) (now (out .entry)) (diffIn (decodeTopics (take used (now (buffer .entry)))) (now (p .entry))) .out) ⌝ }
 {
     let a = topic_lists::survey(p, 3, 1);
     if !a.short {
@@ -258,9 +258,9 @@ fn no_event(id: u64, error: ErrorCode) -> Refusal
 fn update(id: u64, buffer: &mut [u8], used: usize, message: &[u8], out: &mut [u8]) -> WatchAnswer
     requires { ⌜ used ≤ length (now buffer) ⌝ }
     requires { ⌜ isSet (take used (now buffer)) ≡ true ⌝ }
-    ensures { λ r. ⌜ (r ≡ forWatch (now (buffer .entry)) (now (out .entry)) id (topicsOf (take used (now (buffer .entry)))) (watchUpdateOf (now (message .entry))) .answer)
-        × (now (buffer .exit) ≡ forWatch (now (buffer .entry)) (now (out .entry)) id (topicsOf (take used (now (buffer .entry)))) (watchUpdateOf (now (message .entry))) .buffer)
-        × (now (out .exit) ≡ forWatch (now (buffer .entry)) (now (out .entry)) id (topicsOf (take used (now (buffer .entry)))) (watchUpdateOf (now (message .entry))) .out) ⌝ }
+    ensures { λ r. ⌜ (r ≡ forWatch (now (buffer .entry)) (now (out .entry)) id (decodeTopics (take used (now (buffer .entry)))) (watchUpdateOf (now (message .entry))) .answer)
+        × (now (buffer .exit) ≡ forWatch (now (buffer .entry)) (now (out .entry)) id (decodeTopics (take used (now (buffer .entry)))) (watchUpdateOf (now (message .entry))) .buffer)
+        × (now (out .exit) ≡ forWatch (now (buffer .entry)) (now (out .entry)) id (decodeTopics (take used (now (buffer .entry)))) (watchUpdateOf (now (message .entry))) .out) ⌝ }
 {
     let head = readers::read_watch_update(message);
     let got = head.watch_id;

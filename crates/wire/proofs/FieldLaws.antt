@@ -24,7 +24,7 @@ use Rattle.wire.specs.declared.Key.the-variants as key
 use Rattle.wire.specs.declared.Body.{Body}
 use Rattle.wire.specs.declared.Body.the-variants as body
 use Rattle.wire.specs.Varints.{varintOf}
-use Rattle.wire.specs.Field.{maxKey, typedKey, keyFrom, keyOf, fixedOf, partFrom, partOf, numberFrom, numberOf, bodyOf}
+use Rattle.wire.specs.Field.{maxKey, typedKey, keyFrom, keyOf, fixedOf, partFrom, partOf, numberFrom, numberBody, bodyOf}
 use Rattle.wire.proofs.CondLaws.{cond-cases}
 use Rattle.wire.proofs.VarintLaws.{VarintSized, varint-sized}
 
@@ -35,8 +35,8 @@ module _ (l : List ℕ) (e : varintOf l ≡ varint.Broken) where
   unfolding keyOf
   key-broken = rw e
 
-  pub number-broken : numberOf l ≡ body.Broken
-  unfolding numberOf
+  pub number-broken : numberBody l ≡ body.Broken
+  unfolding numberBody
   number-broken = rw e
 
   pub part-broken : partOf l ≡ body.Broken
@@ -56,8 +56,8 @@ module _ (l : List ℕ) (v n : ℕ) (e : varintOf l ≡ varint.Value v n) where
   unfolding keyOf
   key-typed h z t g = rw (e, le-leb v maxKey h, ne-eqb (v / 8) 0 z, g)
 
-  pub number-value : numberOf l ≡ body.Number v n
-  unfolding numberOf
+  pub number-value : numberBody l ≡ body.Number v n
+  unfolding numberBody
   number-value = rw e
 
   pub part-fits : n + v ≤ length l → partOf l ≡ body.Part n v
@@ -125,7 +125,7 @@ sized-part m (varint.Value v n) =
 sized-part m varint.Broken = tt
 
 pub body-sized : (w : WireType) (l : List ℕ) → BodySized (length l) (bodyOf w l)
-unfolding numberOf partOf
+unfolding numberBody partOf
 body-sized type.Varint l = sized-number (length l) (varintOf l) (varint-sized l)
 body-sized type.I64 l = sized-fixed 8 l
 body-sized type.Len l = sized-part (length l) (varintOf l)

@@ -26,7 +26,7 @@ use Rattle.wire.specs.Fields.{
   Field,
   badKey,
   field,
-  contentOf,
+  payloadOf,
   sizeAfter,
   fieldBy,
   sizeBy,
@@ -94,7 +94,7 @@ module _ (l : List ℕ) (h : 0 < length l) where
     fields-cut g = fields-step l h ∙ rw (e, g)
 
     pub fields-body : (b : Body) → bodyOf w (drop n l) ≡ b → (sizeAfter n b ≡ 0 → ⊥)
-        → fieldsOf l ≡ field f w (contentOf b (drop n l)) ∷ fieldsOf (drop (sizeAfter n b) l)
+        → fieldsOf l ≡ field f w (payloadOf b (drop n l)) ∷ fieldsOf (drop (sizeAfter n b) l)
     fields-body b g z = fields-step l h ∙ rw (e, g, ne-eqb (sizeAfter n b) 0 z)
 
     pub fields-number : (v m : ℕ) → bodyOf w (drop n l) ≡ body.Number v m

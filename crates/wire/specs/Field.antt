@@ -55,14 +55,14 @@ abbrev pub partFrom : Varint → ℕ → Body
 partFrom (varint.Value v n) room = cond (leb (n + v) room) (body.Part n v) body.Broken
 partFrom varint.Broken room = body.Broken
 
-unfoldable pub numberOf : List ℕ → Body
-numberOf l = numberFrom (varintOf l)
+unfoldable pub numberBody : List ℕ → Body
+numberBody l = numberFrom (varintOf l)
 
 unfoldable pub partOf : List ℕ → Body
 partOf l = partFrom (varintOf l) (length l)
 
 abbrev pub bodyOf : WireType → List ℕ → Body
-bodyOf type.Varint l = numberOf l
+bodyOf type.Varint l = numberBody l
 bodyOf type.I64 l = fixedOf 8 l
 bodyOf type.Len l = partOf l
 bodyOf type.I32 l = fixedOf 4 l

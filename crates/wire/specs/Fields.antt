@@ -16,22 +16,22 @@ use Rattle.wire.specs.declared.Body.the-variants as body
 use Rattle.wire.specs.Field.{keyOf, bodyOf}
 
 -- what a field holds: a number, a part, or 8 or 4 bytes; cut where its length or value is broken
-pub data Content : Type 0 where
-  number : ℕ → Content
-  bytes : List ℕ → Content
-  fixed : Content
-  cut : Content
+pub data Payload : Type 0 where
+  number : ℕ → Payload
+  bytes : List ℕ → Payload
+  fixed : Payload
+  cut : Payload
 
 -- a field's number, type and content; badKey where its key is broken
 pub data Field : Type 0 where
   badKey : Field
-  field : ℕ → WireType → Content → Field
+  field : ℕ → WireType → Payload → Field
 
-abbrev pub contentOf : Body → List ℕ → Content
-contentOf (body.Number v n) l = number v
-contentOf (body.Fixed n) l = fixed
-contentOf (body.Part n len) l = bytes (take len (drop n l))
-contentOf body.Broken l = cut
+abbrev pub payloadOf : Body → List ℕ → Payload
+payloadOf (body.Number v n) l = number v
+payloadOf (body.Fixed n) l = fixed
+payloadOf (body.Part n len) l = bytes (take len (drop n l))
+payloadOf body.Broken l = cut
 
 -- a field's length, behind a key of n bytes; 0 where it is broken
 abbrev pub sizeAfter : ℕ → Body → ℕ
@@ -42,7 +42,7 @@ sizeAfter n body.Broken = 0
 
 -- the field at the front of the list, by its key
 abbrev pub fieldBy : Key → List ℕ → Field
-fieldBy (key.Found f w n) l = field f w (contentOf (bodyOf w (drop n l)) (drop n l))
+fieldBy (key.Found f w n) l = field f w (payloadOf (bodyOf w (drop n l)) (drop n l))
 fieldBy key.Broken l = badKey
 
 abbrev pub sizeBy : Key → List ℕ → ℕ

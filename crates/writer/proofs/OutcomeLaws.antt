@@ -27,7 +27,7 @@ use Rattle.output.specs.Output.{Outcome, outcome, refuse, written}
 use Rattle.wire_writer.specs.Encode.{numberField}
 use Rattle.packed.specs.declared.Packed.the-variants as packed
 use Rattle.packed.specs.Answers.{wholeRead}
-use Rattle.packed.specs.Assignment.{AssignedSegment, num, segmentsOf, assignmentOf}
+use Rattle.packed.specs.Assignment.{AssignedSegment, num, decodeSegments, decodeAssignment}
 use Rattle.packed.proofs.WholeLaws.{Whole, not-assignment}
 use Rattle.assignment_message.specs.Message.{segmentFields, assignmentMessage}
 use Rattle.content.specs.Content.{outsideIn}
@@ -38,19 +38,19 @@ use Rattle.writer.specs.declared.Room.the-variants.{Size, Beyond}
 -- ---- a name that fits into o
 
 module _ (text o last : List ℕ) (h : length text ≤ length o) where
-  name-fits : (a : NameAnswer) → build.outcome a last ≡ build.written text o → (a ≡ name.Written (length text)) × (last ≡ put o 0 text)
+  name-fits : (a : NameAnswer) → build.nameOutcome a last ≡ build.written text o → (a ≡ name.Written (length text)) × (last ≡ put o 0 text)
   unfolding build.written
   name-fits a e =
-      let f : build.outcome a last ≡ build.outcome (name.Written (length text)) (put o 0 text) = e ∙ rw (le-leb (length text) (length o) h) in
-      (ap (λ (x : build.Outcome). x .answer) f, ap (λ (x : build.Outcome). x .out) f)
+      let f : build.nameOutcome a last ≡ build.nameOutcome (name.Written (length text)) (put o 0 text) = e ∙ rw (le-leb (length text) (length o) h) in
+      (ap (λ (x : build.NameOutcome). x .answer) f, ap (λ (x : build.NameOutcome). x .out) f)
 
-  pub name-written : (n : ℕ) → build.outcome (name.Written n) last ≡ build.written text o → (n ≡ length text) × (last ≡ put o 0 text)
+  pub name-written : (n : ℕ) → build.nameOutcome (name.Written n) last ≡ build.written text o → (n ≡ length text) × (last ≡ put o 0 text)
   name-written n e =
       let f : (name.Written n ≡ name.Written (length text)) × (last ≡ put o 0 text) = name-fits (name.Written n) e in
       let k : n ≡ length text = cc in
       (k, f .1)
 
-  pub name-refused : (x : Refusal) → build.outcome (name.Refused x) last ≡ build.written text o → ⊥
+  pub name-refused : (x : Refusal) → build.nameOutcome (name.Refused x) last ≡ build.written text o → ⊥
   name-refused x e =
       let f : (name.Refused x ≡ name.Written (length text)) × (last ≡ put o 0 text) = name-fits (name.Refused x) e in
       let z : _≡_ {A = ℕ} 0 1 = cc in
@@ -113,8 +113,8 @@ module _ (path : List ℕ) (gs : List AssignedSegment) (epoch o : List ℕ) wher
 -- ---- the message of a packed assignment
 
 whole-message : (s : List ℕ) (n : ℕ) → Whole s n → (path : List ℕ)
-    → assignmentMessage path (assignmentOf s) ≡ numberField 1 (num 8 s) ++ segmentFields path (segmentsOf n (drop 10 s))
-unfolding assignmentMessage assignmentOf
+    → assignmentMessage path (decodeAssignment s) ≡ numberField 1 (num 8 s) ++ segmentFields path (decodeSegments n (drop 10 s))
+unfolding assignmentMessage decodeAssignment
 whole-message s n w path = ap (λ (gs : List AssignedSegment). numberField 1 (num 8 s) ++ segmentFields path gs) (w .segments-are)
 
 -- ---- the cases of `writeOutcome`
@@ -131,28 +131,28 @@ module _ (s parent o : List ℕ) where
 
   module _ (n : ℕ) (w : Whole s n) where
     -- without a segment the parent is not looked at
-    pub write-empty : n ≡ 0 → written (numberField 1 (num 8 s) ++ segmentFields parent (segmentsOf 0 (drop 10 s))) o ≡ writeOutcome s parent o
-    unfolding writeOutcome assignmentMessage segmentFields segmentsOf assignmentOf outsideIn
+    pub write-empty : n ≡ 0 → written (numberField 1 (num 8 s) ++ segmentFields parent (decodeSegments 0 (drop 10 s))) o ≡ writeOutcome s parent o
+    unfolding writeOutcome assignmentMessage segmentFields decodeSegments decodeAssignment outsideIn
     write-empty e =
-        let empty : assignmentOf s .segments ≡ [] = w .segments-are ∙ ap (λ (k : ℕ). segmentsOf k (drop 10 s)) e in
+        let empty : decodeAssignment s .segments ≡ [] = w .segments-are ∙ ap (λ (k : ℕ). decodeSegments k (drop 10 s)) e in
         simp (w .is-assignment, empty)
 
-    outside-is : outsideIn (assignmentOf s .segments) ≡ outsideIn (segmentsOf n (drop 10 s))
+    outside-is : outsideIn (decodeAssignment s .segments) ≡ outsideIn (decodeSegments n (drop 10 s))
     outside-is = ap outsideIn (w .segments-are)
 
-    pub write-outside : (x : Refusal) → held.Refused x ≡ heldOf (outsideIn (segmentsOf n (drop 10 s))) → refuse x o ≡ writeOutcome s parent o
+    pub write-outside : (x : Refusal) → held.Refused x ≡ heldOf (outsideIn (decodeSegments n (drop 10 s))) → refuse x o ≡ writeOutcome s parent o
     unfolding writeOutcome
     write-outside x e =
-        let q : outsideIn (assignmentOf s .segments) ≡ some x = outside-is ∙ found (outsideIn (segmentsOf n (drop 10 s))) e in
+        let q : outsideIn (decodeAssignment s .segments) ≡ some x = outside-is ∙ found (outsideIn (decodeSegments n (drop 10 s))) e in
         sym (rw (w .is-assignment, q))
       where
         found : (v : Option Refusal) → held.Refused x ≡ heldOf v → v ≡ some x
         found none f = cc
         found (some y) f = cc
 
-    module _ (h : 0 < n) (i : held.Inside ≡ heldOf (outsideIn (segmentsOf n (drop 10 s)))) where
-      none-outside : outsideIn (assignmentOf s .segments) ≡ none
-      none-outside = outside-is ∙ go (outsideIn (segmentsOf n (drop 10 s))) i
+    module _ (h : 0 < n) (i : held.Inside ≡ heldOf (outsideIn (decodeSegments n (drop 10 s)))) where
+      none-outside : outsideIn (decodeAssignment s .segments) ≡ none
+      none-outside = outside-is ∙ go (outsideIn (decodeSegments n (drop 10 s))) i
         where
           go : (v : Option Refusal) → held.Inside ≡ heldOf v → v ≡ none
           go none f = refl
@@ -160,10 +160,10 @@ module _ (s parent o : List ℕ) where
 
       behind : writeOutcome s parent o
           ≡ cond (isUtf8 parent)
-          (cond (isParent parent) (written (assignmentMessage (pathOf parent) (assignmentOf s)) o) (refuse InvalidParent o))
+          (cond (isParent parent) (written (assignmentMessage (pathOf parent) (decodeAssignment s)) o) (refuse InvalidParent o))
           (refuse InvalidUtf8 o)
       unfolding writeOutcome
-      behind = rw (w .is-assignment, none-outside) (with-parent parent (assignmentOf s .segments) _ o (omega (arith, w .count)))
+      behind = rw (w .is-assignment, none-outside) (with-parent parent (decodeAssignment s .segments) _ o (omega (arith, w .count)))
 
       pub write-not-utf8 : isUtf8 parent ≡ false → refuse InvalidUtf8 o ≡ writeOutcome s parent o
       write-not-utf8 u = sym (behind ∙ rw u)
@@ -173,5 +173,5 @@ module _ (s parent o : List ℕ) where
         write-no-parent q = sym (behind ∙ rw (u, q))
 
         pub write-below : isParent parent ≡ true
-            → written (numberField 1 (num 8 s) ++ segmentFields (pathOf parent) (segmentsOf n (drop 10 s))) o ≡ writeOutcome s parent o
+            → written (numberField 1 (num 8 s) ++ segmentFields (pathOf parent) (decodeSegments n (drop 10 s))) o ≡ writeOutcome s parent o
         write-below q = ap (λ (l : List ℕ). written l o) (sym (whole-message s n w (pathOf parent))) ∙ sym (behind ∙ rw (u, q))

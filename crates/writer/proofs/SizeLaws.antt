@@ -16,7 +16,7 @@ use Rattle.topic.proofs.NameLaws.{decimal-length, descriptor-length, segmentTop
 use Rattle.wire_writer.specs.Encode.{varintBytes, numberKey, partKey, numberField, partHead, partField}
 use Rattle.wire_writer.proofs.EncodeLaws.{length-varint-le}
 use Rattle.packed.specs.Assignment.{AssignedSegment}
-use Rattle.assignment_message.specs.Message.{rangeMessage, bucketFields, topicOf, segmentMessage}
+use Rattle.assignment_message.specs.Message.{rangeMessage, bucketFields, segmentTopicOf, segmentMessage}
 
 -- ---- decimal digits
 
@@ -111,7 +111,7 @@ module _ (path : List ℕ) where
   module _ (g : AssignedSegment) where
     pub length-segment : length (segmentMessage path g)
         ≡ length (numberField 1 (g .segmentId)) + length (numberField 2 (g .range .start)) + length (numberField 3 (g .range .end))
-        + length (partHead 4 (length (topicOf path g))) + length (topicOf path g) + length (bucketFields (g .buckets))
+        + length (partHead 4 (length (segmentTopicOf path g))) + length (segmentTopicOf path g) + length (bucketFields (g .buckets))
     unfolding segmentMessage
     length-segment = simp (length-append, length-part) (omega arith)
 
@@ -123,7 +123,7 @@ module _ (path : List ℕ) where
           number-short 1 (g .segmentId),
           number-short 2 (g .range .start),
           number-short 3 (g .range .end),
-          head-short 4 (length (topicOf path g)),
+          head-short 4 (length (segmentTopicOf path g)),
           topic-short (g .range) (record { 0 = g .segmentId }),
           buckets-short (g .buckets),
         )

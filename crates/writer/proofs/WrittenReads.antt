@@ -22,7 +22,7 @@ use Rattle.utf8.specs.Table.{isUtf8}
 use Rattle.parents.specs.Parents.{isParent, pathOf}
 use Rattle.output.specs.declared.WriteAnswer.the-variants.{Written, Refused}
 use Rattle.output.specs.Output.{Outcome, outcome, refuse, unwritten, written}
-use Rattle.packed.specs.Assignment.{AssignedSegment, ConsumerAssignment, sizeAssignment, okAssignment, assignmentOf, startsAssignment, isAssignment}
+use Rattle.packed.specs.Assignment.{AssignedSegment, ConsumerAssignment, sizeAssignment, okAssignment, decodeAssignment, startsAssignment, isAssignment}
 use Rattle.packed.proofs.RoundLaws.{fit-assignment}
 use Rattle.content.specs.Content.{outsideIn}
 use Rattle.assignment_message.specs.Message.{assignmentMessage}
@@ -58,15 +58,15 @@ module _ (o : List ℕ) (n : ℕ) where
 
 -- what an answer `Written` says of the bytes, the parent and the output
 pub record Passed (s parent o : List ℕ) : Type 0 where
-  pub ok : okAssignment (assignmentOf s) ≡ true
-  pub inside : outsideIn (assignmentOf s .segments) ≡ none
-  pub named : (assignmentOf s .segments ≡ []) ⊎ ((isParent parent ≡ true) × (isUtf8 parent ≡ true))
-  pub room : length (assignmentMessage (pathOf parent) (assignmentOf s)) ≤ length o
-  pub is : writeOutcome s parent o ≡ written (assignmentMessage (pathOf parent) (assignmentOf s)) o
+  pub ok : okAssignment (decodeAssignment s) ≡ true
+  pub inside : outsideIn (decodeAssignment s .segments) ≡ none
+  pub named : (decodeAssignment s .segments ≡ []) ⊎ ((isParent parent ≡ true) × (isUtf8 parent ≡ true))
+  pub room : length (assignmentMessage (pathOf parent) (decodeAssignment s)) ≤ length o
+  pub is : writeOutcome s parent o ≡ written (assignmentMessage (pathOf parent) (decodeAssignment s)) o
 
 module _ (s parent o : List ℕ) where
   abbrev a : ConsumerAssignment
-  a = assignmentOf s
+  a = decodeAssignment s
 
   abbrev message : List ℕ
   message = assignmentMessage (pathOf parent) a
@@ -95,7 +95,7 @@ module _ (s parent o : List ℕ) where
 
   -- what stands at the output's front
   pub front : (n : ℕ) → Passed s parent o → writeOutcome s parent o .answer ≡ Written n
-      → take n (writeOutcome s parent o .out) ≡ assignmentMessage (pathOf parent) (assignmentOf s)
+      → take n (writeOutcome s parent o .out) ≡ assignmentMessage (pathOf parent) (decodeAssignment s)
   unfolding written
   front n p e = go (leb (length message) (length o)) refl
     where
@@ -112,7 +112,7 @@ module _ (s parent o : List ℕ) where
 pub written-reads : WrittenReads
 written-reads s parent o n b short e =
     let p = passed s parent o n e in
-    let a : ConsumerAssignment = assignmentOf s in
+    let a : ConsumerAssignment = decodeAssignment s in
     let m : List ℕ = assignmentMessage (pathOf parent) a in
     let f = fit-assignment s b in
     let l : length m < 2 ^ 64 = omega (arith, p .room) in

@@ -10,7 +10,7 @@ use Rattle.schema.specs.declared.MessageKind.the-variants.{CommandScalableTopic
 use Rattle.schema.specs.declared.Checked.the-variants.{Valid}
 use Rattle.schema.specs.FirstFault.{firstFault}
 use Rattle.readers.specs.Messages.{updateOf, responseOf}
-use Rattle.packed.specs.Assignment.{ConsumerAssignment, assignmentOf}
+use Rattle.packed.specs.Assignment.{ConsumerAssignment, decodeAssignment}
 use Rattle.content.specs.Content.{taken, contentOf}
 use Rattle.output.specs.declared.WriteAnswer.the-variants.{Written}
 use Rattle.assignment_message.specs.Message.{updateMessage, responseMessage}
@@ -29,4 +29,4 @@ pub record Reads (parent message : List ℕ) (a : ConsumerAssignment) : Type 0 w
 abbrev pub WrittenReads : Type 0
 WrittenReads =
     (s parent out : List ℕ) (n : ℕ) → Bytes s → length out < 2 ^ 64 → writeOutcome s parent out .answer ≡ Written n
-    → Reads parent (take n (writeOutcome s parent out .out)) (assignmentOf s)
+    → Reads parent (take n (writeOutcome s parent out .out)) (decodeAssignment s)

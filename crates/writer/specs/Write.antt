@@ -13,7 +13,7 @@ use Rattle.refusal.specs.Steps.{_>>_, refuseUnless, refuseDue}
 use Rattle.utf8.specs.Table.{isUtf8}
 use Rattle.parents.specs.Parents.{isParent, pathOf}
 use Rattle.output.specs.Output.{Outcome, unwritten, written}
-use Rattle.packed.specs.Assignment.{AssignedSegment, assignmentOf, isAssignment}
+use Rattle.packed.specs.Assignment.{AssignedSegment, decodeAssignment, isAssignment}
 use Rattle.assignment_message.specs.Message.{segmentFields, assignmentMessage}
 use Rattle.content.specs.declared.Outside.{Outside}
 use Rattle.content.specs.Content.{firstOutside, outsideIn, outsideOf}
@@ -34,7 +34,7 @@ withParent out parent (g ∷ gs) rest = do
 unfoldable pub writeOutcome : (s parent out : List ℕ) → Outcome
 writeOutcome s parent out = do
   refuseUnless (unwritten out) (isAssignment s) MalformedInput  -- 20
-  let a = assignmentOf s
+  let a = decodeAssignment s
   refuseDue (unwritten out) (outsideIn (a .segments))  -- 34
   withParent out parent (a .segments)  -- 7, 12
   written (assignmentMessage (pathOf parent) a) out  -- 21

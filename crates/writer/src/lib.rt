@@ -9,7 +9,7 @@ ghost use lib.ListN.{length, drop};
 ghost use Rattle.packed_int.specs.Put.{put};
 ghost use Rattle.topic.specs.Names.{decimal, segmentTopic};
 ghost use Rattle.output.specs.Output.{outcome, written};
-ghost use Rattle.packed.specs.Assignment.{num, rangesOf, segmentOf, segmentsOf, sizeSegment};
+ghost use Rattle.packed.specs.Assignment.{num, decodeRanges, decodeSegment, decodeSegments, sizeSegment};
 ghost use Rattle.packed.proofs.AssignmentLaws.{Rest};
 ghost use Rattle.wire_writer.specs.Encode.{numberField};
 ghost use Rattle.assignment_message.specs.Message.{rangeMessage, bucketFields, segmentMessage, segmentFields};
@@ -40,7 +40,7 @@ enum Held {
 // The first of the n buckets from a place on that lies not wholly inside the range.
 fn bucket_outside(s: &[u8], at: usize, n: usize, range: KeyRange) -> Outside
     requires { ⌜ at + 4 * n ≤ length (now s) ⌝ }
-    ensures { λ r. ⌜ r ≡ outsideOf (firstOutside range 0 (rangesOf n (drop at (now (s .entry))))) ⌝ }
+    ensures { λ r. ⌜ r ≡ outsideOf (firstOutside range 0 (decodeRanges n (drop at (now (s .entry))))) ⌝ }
 {
     let mut index: usize = 0;
     let mut p = at;
@@ -60,8 +60,8 @@ fn bucket_outside(s: &[u8], at: usize, n: usize, range: KeyRange) -> Outside
 
 // The same of the segment whose record stands at the place p.
 fn segment_outside(s: &[u8], p: usize) -> Outside
-    requires { ⌜ p + sizeSegment (segmentOf (drop p (now s))) ≤ length (now s) ⌝ }
-    ensures { λ r. ⌜ r ≡ outsideAt (segmentOf (drop p (now (s .entry)))) ⌝ }
+    requires { ⌜ p + sizeSegment (decodeSegment (drop p (now s))) ≤ length (now s) ⌝ }
+    ensures { λ r. ⌜ r ≡ outsideAt (decodeSegment (drop p (now (s .entry)))) ⌝ }
 {
     let range = packed::range_at(s, p + 8);
     let count = packed_int::read_u16(s, p + 12) as usize;
@@ -71,7 +71,7 @@ fn segment_outside(s: &[u8], p: usize) -> Outside
 // The same of the m segments from a place on, the lowest id first.
 fn segments_outside(s: &[u8], at: usize, m: usize) -> Held
     requires { ⌜ Rest (now s) at m ⌝ }
-    ensures { λ r. ⌜ r ≡ heldOf (outsideIn (segmentsOf m (drop at (now (s .entry))))) ⌝ }
+    ensures { λ r. ⌜ r ≡ heldOf (outsideIn (decodeSegments m (drop at (now (s .entry))))) ⌝ }
 {
     let mut p = at;
     let mut left = m;
@@ -117,7 +117,7 @@ fn range_size(range: KeyRange) -> usize
 fn buckets_size(s: &[u8], at: usize, n: usize) -> usize
     requires { ⌜ at + 4 * n ≤ length (now s) ⌝ }
     requires { ⌜ n < 65536 ⌝ }
-    ensures { λ r. ⌜ r ≡ length (bucketFields (rangesOf n (drop at (now (s .entry))))) ⌝ }
+    ensures { λ r. ⌜ r ≡ length (bucketFields (decodeRanges n (drop at (now (s .entry))))) ⌝ }
 {
     let mut size: usize = 0;
     let mut p = at;
@@ -133,8 +133,8 @@ fn buckets_size(s: &[u8], at: usize, n: usize) -> usize
 
 // The length of the message of the segment whose record stands at the place p.
 fn segment_size(s: &[u8], p: usize, path: &[u8]) -> usize
-    requires { ⌜ p + sizeSegment (segmentOf (drop p (now s))) ≤ length (now s) ⌝ }
-    ensures { λ r. ⌜ r ≡ length (segmentMessage (now (path .entry)) (segmentOf (drop p (now (s .entry))))) ⌝ }
+    requires { ⌜ p + sizeSegment (decodeSegment (drop p (now s))) ≤ length (now s) ⌝ }
+    ensures { λ r. ⌜ r ≡ length (segmentMessage (now (path .entry)) (decodeSegment (drop p (now (s .entry))))) ⌝ }
 {
     let id = packed_int::read_u64(s, p);
     let range = packed::range_at(s, p + 8);
@@ -150,7 +150,7 @@ fn segment_size(s: &[u8], p: usize, path: &[u8]) -> usize
 // How many bytes the fields of the m segments from a place on have.
 fn segments_room(s: &[u8], at: usize, m: usize, path: &[u8], limit: usize) -> Room
     requires { ⌜ Rest (now s) at m ⌝ }
-    ensures { λ r. ⌜ r ≡ roomOf limit (now (path .entry)) (segmentsOf m (drop at (now (s .entry)))) ⌝ }
+    ensures { λ r. ⌜ r ≡ roomOf limit (now (path .entry)) (decodeSegments m (drop at (now (s .entry)))) ⌝ }
 {
     let mut size: usize = 0;
     let mut p = at;
@@ -171,9 +171,9 @@ fn segments_room(s: &[u8], at: usize, m: usize, path: &[u8], limit: usize) -> Ro
 // Writes the fields of the n buckets from a place on to out, and answers the place behind them.
 fn write_buckets(s: &[u8], at: usize, n: usize, out: &mut [u8], to: usize) -> usize
     requires { ⌜ at + 4 * n ≤ length (now s) ⌝ }
-    requires { ⌜ to + length (bucketFields (rangesOf n (drop at (now s)))) ≤ length (now out) ⌝ }
-    ensures { λ r. ⌜ (r ≡ to + length (bucketFields (rangesOf n (drop at (now (s .entry))))))
-        × (now (out .exit) ≡ put (now (out .entry)) to (bucketFields (rangesOf n (drop at (now (s .entry)))))) ⌝ }
+    requires { ⌜ to + length (bucketFields (decodeRanges n (drop at (now s)))) ≤ length (now out) ⌝ }
+    ensures { λ r. ⌜ (r ≡ to + length (bucketFields (decodeRanges n (drop at (now (s .entry))))))
+        × (now (out .exit) ≡ put (now (out .entry)) to (bucketFields (decodeRanges n (drop at (now (s .entry)))))) ⌝ }
 {
     let mut next = to;
     let mut p = at;
@@ -203,10 +203,10 @@ fn write_topic(path: &[u8], range: KeyRange, id: u64, out: &mut [u8], to: usize)
 
 // Writes the message of the segment whose record stands at the place p to out, and answers the place behind it.
 fn write_segment(s: &[u8], p: usize, path: &[u8], out: &mut [u8], to: usize) -> usize
-    requires { ⌜ p + sizeSegment (segmentOf (drop p (now s))) ≤ length (now s) ⌝ }
-    requires { ⌜ to + length (segmentMessage (now path) (segmentOf (drop p (now s)))) ≤ length (now out) ⌝ }
-    ensures { λ r. ⌜ (r ≡ to + length (segmentMessage (now (path .entry)) (segmentOf (drop p (now (s .entry))))))
-        × (now (out .exit) ≡ put (now (out .entry)) to (segmentMessage (now (path .entry)) (segmentOf (drop p (now (s .entry)))))) ⌝ }
+    requires { ⌜ p + sizeSegment (decodeSegment (drop p (now s))) ≤ length (now s) ⌝ }
+    requires { ⌜ to + length (segmentMessage (now path) (decodeSegment (drop p (now s)))) ≤ length (now out) ⌝ }
+    ensures { λ r. ⌜ (r ≡ to + length (segmentMessage (now (path .entry)) (decodeSegment (drop p (now (s .entry))))))
+        × (now (out .exit) ≡ put (now (out .entry)) to (segmentMessage (now (path .entry)) (decodeSegment (drop p (now (s .entry)))))) ⌝ }
 {
     let id = packed_int::read_u64(s, p);
     let range = packed::range_at(s, p + 8);
@@ -222,9 +222,9 @@ fn write_segment(s: &[u8], p: usize, path: &[u8], out: &mut [u8], to: usize) -> 
 // Writes the fields of the m segments from a place on to out, and answers the place behind them.
 fn write_segments(s: &[u8], at: usize, m: usize, path: &[u8], out: &mut [u8], to: usize) -> usize
     requires { ⌜ Rest (now s) at m ⌝ }
-    requires { ⌜ to + length (segmentFields (now path) (segmentsOf m (drop at (now s)))) ≤ length (now out) ⌝ }
-    ensures { λ r. ⌜ (r ≡ to + length (segmentFields (now (path .entry)) (segmentsOf m (drop at (now (s .entry))))))
-        × (now (out .exit) ≡ put (now (out .entry)) to (segmentFields (now (path .entry)) (segmentsOf m (drop at (now (s .entry)))))) ⌝ }
+    requires { ⌜ to + length (segmentFields (now path) (decodeSegments m (drop at (now s)))) ≤ length (now out) ⌝ }
+    ensures { λ r. ⌜ (r ≡ to + length (segmentFields (now (path .entry)) (decodeSegments m (drop at (now (s .entry))))))
+        × (now (out .exit) ≡ put (now (out .entry)) to (segmentFields (now (path .entry)) (decodeSegments m (drop at (now (s .entry)))))) ⌝ }
 {
     let mut next = to;
     let mut p = at;
@@ -242,7 +242,7 @@ fn write_segments(s: &[u8], at: usize, m: usize, path: &[u8], out: &mut [u8], to
 // Writes the message of the m segments of the packed assignment s, where it fits.
 fn write_message(s: &[u8], m: usize, path: &[u8], out: &mut [u8]) -> WriteAnswer
     requires { ⌜ Rest (now s) 10 m ⌝ }
-    ensures { λ r. ⌜ outcome r (now (out .exit)) ≡ written (numberField 1 (num 8 (now (s .entry))) ++ segmentFields (now (path .entry)) (segmentsOf m (drop 10 (now (s .entry))))) (now (out .entry)) ⌝ }
+    ensures { λ r. ⌜ outcome r (now (out .exit)) ≡ written (numberField 1 (num 8 (now (s .entry))) ++ segmentFields (now (path .entry)) (decodeSegments m (drop 10 (now (s .entry))))) (now (out .entry)) ⌝ }
 {
     let epoch = packed_int::read_u64(s, 0);
     let head = wire_writer::number_size(1, epoch);

@@ -20,12 +20,12 @@ use Rattle.packed_int.proofs.BeLaws.{bytesOf-front}
 use Rattle.readers.specs.Messages.{updateOf, responseOf}
 use Rattle.parents.specs.Parents.{pathOf}
 use Rattle.keyed.proofs.EachLaws.{Each}
-use Rattle.packed.specs.Assignment.{ConsumerAssignment, num, sizeAssignment, encodeAssignment, assignmentOf, okAssignment}
+use Rattle.packed.specs.Assignment.{ConsumerAssignment, num, sizeAssignment, encodeAssignment, decodeAssignment, okAssignment}
 use Rattle.packed.specs.Assignment.{startsAssignment, isAssignment}
 use Rattle.packed.specs.Equal.{sameAssignment}
 use Rattle.packed.proofs.EqualLaws.{assignment-eq}
 use Rattle.packed.proofs.RoundLaws.{length-encodeAssignment, fit-assignment, encode-whole}
-use Rattle.packed_queue.specs.Entries.{encodeEntry, encodeEntries, sizeEntry, sheetIn, entryEnd, entriesOf, startsEntry, startEntries}
+use Rattle.packed_queue.specs.Entries.{encodeEntry, encodeEntries, sizeEntry, sheetIn, entryEnd, decodeEntries, startsEntry, startEntries}
 use Rattle.packed_queue.proofs.EntryLaws.{Packable, length-entriesOf, Row, row-none}
 use Rattle.content.specs.Content.{taken}
 use Rattle.assignment_message.specs.Message.{assignmentMessage, updateMessage, responseMessage}
@@ -49,34 +49,34 @@ use Rattle.written_held.specs.Held.{Ready, heldAfter, answerTo, WrittenH
 
 -- ---- lists that can be packed
 
-sheet-packable : (l : List ℕ) → Bytes l → isAssignment l ≡ true → Packable (assignmentOf l)
+sheet-packable : (l : List ℕ) → Bytes l → isAssignment l ≡ true → Packable (decodeAssignment l)
 unfolding isAssignment startsAssignment
 sheet-packable l b e =
     let p = both-true (startsAssignment l) _ e .0 in
-    record { fits = fit-assignment l b; ok = both-true (leb (sizeAssignment (assignmentOf l)) (length l)) (okAssignment (assignmentOf l)) p .1 }
+    record { fits = fit-assignment l b; ok = both-true (leb (sizeAssignment (decodeAssignment l)) (length l)) (okAssignment (decodeAssignment l)) p .1 }
 
 -- the entry at the front, as it lies
 entry-lies : (l : List ℕ) → Bytes l → entryEnd l ≤ length l → isAssignment (sheetIn l) ≡ true
-    → encodeEntry (assignmentOf (sheetIn l)) ++ drop (entryEnd l) l ≡ l
+    → encodeEntry (decodeAssignment (sheetIn l)) ++ drop (entryEnd l) l ≡ l
 unfolding encodeEntry sheetIn num
 entry-lies l b k e =
     let n : ℕ = num 2 l in
     let s : List ℕ = take n (drop 2 l) in
     let bytes : Bytes s = Bytes-take n (drop 2 l) (Bytes-drop 2 l b) in
-    let w : encodeAssignment (assignmentOf s) ≡ s = encode-whole s bytes e in
-    let z : sizeAssignment (assignmentOf s) ≡ n =
-    sym (length-encodeAssignment (assignmentOf s)) ∙ ap length w ∙ length-take-le n (drop 2 l) (omega (arith, length-drop 2 l)) in
+    let w : encodeAssignment (decodeAssignment s) ≡ s = encode-whole s bytes e in
+    let z : sizeAssignment (decodeAssignment s) ≡ n =
+    sym (length-encodeAssignment (decodeAssignment s)) ∙ ap length w ∙ length-take-le n (drop 2 l) (omega (arith, length-drop 2 l)) in
     rw (w, z, bytesOf-front 2 l (omega arith) b) (ap (_++ drop (2 + n) l) (sym (take-add 2 n l)) ∙ take-append-drop (2 + n) l)
 
-entries-row : (n : ℕ) (l : List ℕ) → Bytes l → startEntries n l ≡ true → Row (entriesOf n l) l
-unfolding entriesOf startEntries startsEntry sheetIn encodeEntries
+entries-row : (n : ℕ) (l : List ℕ) → Bytes l → startEntries n l ≡ true → Row (decodeEntries n l) l
+unfolding decodeEntries startEntries startsEntry sheetIn encodeEntries
 entries-row zero l b e = row-none l
 entries-row (suc n) l b e =
     let p = both-true (startsEntry l) (startEntries n (drop (entryEnd l) l)) e in
     let q = both-true (leb (entryEnd l) (length l)) (isAssignment (sheetIn l)) (p .0) in
-    let a : ConsumerAssignment = assignmentOf (sheetIn l) in
+    let a : ConsumerAssignment = decodeAssignment (sheetIn l) in
     let r = entries-row n (drop (entryEnd l) l) (Bytes-drop (entryEnd l) l b) (p .1) in
-    let left : List ConsumerAssignment = entriesOf n (drop (entryEnd l) l) in
+    let left : List ConsumerAssignment = decodeEntries n (drop (entryEnd l) l) in
     record {
       rest = r .rest;
       is =
@@ -125,7 +125,7 @@ module _ (a : ConsumerAssignment) (store : List ℕ) (p : Packable a) (large : m
 
   baseline-kept : listIn (writeOne (toSlot listSlot a) store) baselineSlot ≡ listIn store baselineSlot
   unfolding listIn
-  baseline-kept = ap assignmentOf (slot-other listSlot a store p (omega arith) baselineSlot (λ z. omega arith))
+  baseline-kept = ap decodeAssignment (slot-other listSlot a store p (omega arith) baselineSlot (λ z. omega arith))
 
 -- ---- the calls
 
@@ -256,7 +256,7 @@ module _ (parent message : List ℕ) (a : ConsumerAssignment) (reads : Reads par
 pub written-held : WrittenHeld
 written-held s parent o n b short e =
     let p = passed s parent o n e in
-    let a : ConsumerAssignment = assignmentOf s in
+    let a : ConsumerAssignment = decodeAssignment s in
     let m : List ℕ = assignmentMessage (pathOf parent) a in
     let f = fit-assignment s b in
     let l : length m < 2 ^ 64 = omega (arith, p .room) in

@@ -13,7 +13,7 @@ use mathlib.Core.Option.{Option, some, none}
 use lib.ListN.{length, take}
 use Rattle.parts.specs.Bytes.{Bytes}
 use Rattle.types.specs.declared.ControllerIncarnation.{ControllerIncarnation}
-use Rattle.packed.specs.Assignment.{ConsumerAssignment, assignmentOf}
+use Rattle.packed.specs.Assignment.{ConsumerAssignment, decodeAssignment}
 use Rattle.packed.specs.Equal.{sameAssignment}
 use Rattle.packed_queue.specs.Entries.{sizeEntry}
 use Rattle.delta.specs.Delta.{sizeDelta}
@@ -25,22 +25,22 @@ use Rattle.session.specs.declared.SessionRecord.{SessionRecord}
 use Rattle.session.specs.declared.Answer.{Answer}
 use Rattle.session.specs.declared.Answer.the-variants.{Accepted, Unchanged, Delta}
 use Rattle.session.specs.Store.{minStore, minOutput, maxQueue, identitySlot, baselineSlot, listSlot, slot, listIn, queueIn, queueEnd}
-use Rattle.session.specs.Identity.{topicOf}
+use Rattle.session.specs.Identity.{identityTopic}
 use Rattle.session.specs.Session.{view, damaged, floorFault}
 use Rattle.session.specs.Response.{staleFault, lastList, replayable}
-use Rattle.session.specs.Calls.{Outcome, updateOutcome, responseOutcome}
+use Rattle.session.specs.Calls.{CallOutcome, updateOutcome, responseOutcome}
 use Rattle.session.specs.DemandThree.{held}
 
 -- a session whose topic is the parent, in a store of bytes, to a call on which none of 1, 22 and 23 is due
 pub record Ready (parent : List ℕ) (r : SessionRecord) (store : List ℕ) (incarnation : ControllerIncarnation) : Type 0 where
   pub bytes : Bytes store
-  pub topic : topicOf (slot store identitySlot) ≡ parent
+  pub topic : identityTopic (slot store identitySlot) ≡ parent
   pub large : minStore ≤ length store
   pub sound : damaged (view r store) ≡ false
   pub link : incarnation .0 ≡ r .incarnation .0
 
 -- what is held behind a call
-abbrev pub heldAfter : Outcome → Option ConsumerAssignment
+abbrev pub heldAfter : CallOutcome → Option ConsumerAssignment
 heldAfter x = held (record { state = x .next; store = x .store })
 
 -- "a list equal in every field answers none; any other .. answers the delta"
@@ -80,4 +80,4 @@ pub record Holds (parent message : List ℕ) (a : ConsumerAssignment) : Type 0 w
 abbrev pub WrittenHeld : Type 0
 WrittenHeld =
     (s parent out : List ℕ) (n : ℕ) → Bytes s → length out < 2 ^ 64 → writeOutcome s parent out .answer ≡ Written n
-    → Holds parent (take n (writeOutcome s parent out .out)) (assignmentOf s)
+    → Holds parent (take n (writeOutcome s parent out .out)) (decodeAssignment s)

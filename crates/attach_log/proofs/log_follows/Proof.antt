@@ -9,7 +9,7 @@ use mathlib.Core.Path.{_≡_, sym, ap, _∙_, subst}
 use lib.ListN.{length, drop, length-drop}
 use borrow.Author.Tests.{not-true, not-false}
 use borrow.Author.Needs.{needs}
-use Rattle.packed.specs.Assignment.{segmentsOf, sizeSegments}
+use Rattle.packed.specs.Assignment.{decodeSegments, sizeSegments}
 use Rattle.parts.proofs.PartLaws.{rest}
 use Rattle.delta.specs.Answers.{frontRead}
 use Rattle.delta.proofs.RoundLaws.{Front, front-answer, not-front}
@@ -86,7 +86,7 @@ delta-in-requires c κs = let k = c .before .before in
     let v = k .lost .given .0 in
     let e = sym (rest (bytes t) (l .p)) in
     let f = front-there k in
-    let fits = subst (λ (s : List ℕ). 12 + 8 * v .0 + sizeSegments (segmentsOf (v .1 .0) (drop (12 + 8 * v .0) s)) ≤ length s) e
+    let fits = subst (λ (s : List ℕ). 12 + 8 * v .0 + sizeSegments (decodeSegments (v .1 .0) (drop (12 + 8 * v .0) s)) ≤ length s) e
     (f .records .fits) in
     let lost = subst (λ (s : List ℕ). rises (idsIn false (v .0) (drop 12 s)) ≡ true) e (lost-rise (v .0) _ (f .ids-rise)) in
     let gained = subst (λ (s : List ℕ). rises (idsIn true (v .1 .0) (drop (12 + 8 * v .0) s)) ≡ true) e

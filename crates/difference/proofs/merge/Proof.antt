@@ -5,9 +5,9 @@ use native.Mathlib.Omega.{arith}
 use borrow.Author.Needs.{needs}
 use mathlib.Core.Path.{_≡_, refl, sym, _∙_}
 use lib.ListN.{length, drop}
-use Rattle.packed.specs.Assignment.{segmentOf, segmentsOf, sizeSegment}
+use Rattle.packed.specs.Assignment.{decodeSegment, decodeSegments, sizeSegment}
 use Rattle.packed.proofs.AssignmentLaws.{size-least, length-segmentsOf, rest-head}
-use Rattle.difference.specs.Merge.{stepOf, entrySize}
+use Rattle.difference.specs.Merge.{mergeStep, entrySize}
 use Rattle.difference.specs.declared.Step.{Step}
 use Rattle.difference.specs.declared.Step.the-variants.{Keep, Same, Skip}
 use Rattle.difference.proofs.StepLaws.{skip-some}
@@ -44,23 +44,23 @@ x-within : (c : tie.In-loop Inv-loop μ-loop)
     → let l = c .before in
     let x = start l .args .x .now in
     let p = l .loop .p in
-    (p + sizeSegment (segmentOf (drop p x)) ≤ length x) × (14 ≤ sizeSegment (segmentOf (drop p x)))
+    (p + sizeSegment (decodeSegment (drop p x)) ≤ length x) × (14 ≤ sizeSegment (decodeSegment (drop p x)))
 x-within c =
     let l = c .before in
     let x = start l .args .x .now in
     let v = l .loop in
-    (rest-head x (v .p) (v .m) _ (c .loop-test .taken) refl (v .inv .rest-x), size-least (segmentOf (drop (v .p) x)))
+    (rest-head x (v .p) (v .m) _ (c .loop-test .taken) refl (v .inv .rest-x), size-least (decodeSegment (drop (v .p) x)))
 
 y-within : (c : tie.In-loop Inv-loop μ-loop)
     → let l = c .before in
     let y = start l .args .y .now in
     let q = l .loop .q in
-    0 < l .loop .n → (q + sizeSegment (segmentOf (drop q y)) ≤ length y) × (14 ≤ sizeSegment (segmentOf (drop q y)))
+    0 < l .loop .n → (q + sizeSegment (decodeSegment (drop q y)) ≤ length y) × (14 ≤ sizeSegment (decodeSegment (drop q y)))
 y-within c h =
     let l = c .before in
     let y = start l .args .y .now in
     let v = l .loop in
-    (rest-head y (v .q) (v .n) _ h refl (v .inv .rest-y), size-least (segmentOf (drop (v .q) y)))
+    (rest-head y (v .q) (v .n) _ h refl (v .inv .rest-y), size-least (decodeSegment (drop (v .q) y)))
 
 next-step-requires : tie.Need-next-step-requires Inv-loop μ-loop
 next-step-requires c κs = (x-within c .0, λ h. y-within c h .0)
@@ -69,7 +69,7 @@ next-step-requires c κs = (x-within c .0, λ h. y-within c h .0)
 told : (c : tie.After-next-step Inv-loop μ-loop) (s : Step) → c .next-step .result ≡ s
     → let l = c .before .before in
     let a = start l .args in
-    s ≡ stepOf (segmentOf (drop (l .loop .p) (a .x .now))) (segmentsOf (l .loop .n) (drop (l .loop .q) (a .y .now)))
+    s ≡ mergeStep (decodeSegment (drop (l .loop .p) (a .x .now))) (decodeSegments (l .loop .n) (drop (l .loop .q) (a .y .now)))
 told c s e = sym e ∙ c .next-step .ensures
 
 -- ---- the first record of y is passed over
@@ -77,7 +77,7 @@ told c s e = sym e ∙ c .next-step .ensures
 is-skip : (c : tie.After-enum-told Inv-loop μ-loop)
     → let l = c .before .before .before .before in
     let a = start l .args in
-    Skip ≡ stepOf (segmentOf (drop (l .loop .p) (a .x .now))) (segmentsOf (l .loop .n) (drop (l .loop .q) (a .y .now)))
+    Skip ≡ mergeStep (decodeSegment (drop (l .loop .p) (a .x .now))) (decodeSegments (l .loop .n) (drop (l .loop .q) (a .y .now)))
 is-skip c = told (c .before .before) Skip (c .enum-told .given .1)
 
 -- there is one
@@ -145,7 +145,7 @@ entry-fits c =
     let i = k .before .before .before .before in
     let a = start (i .before) .args in
     let e : c .entry-size .result ≡ entrySize (a .whole) (k .size-at3 .result) = c .entry-size .ensures in
-    let z : k .size-at3 .result ≡ sizeSegment (segmentOf (drop (i .before .loop .p) (a .x .now))) = k .size-at3 .ensures in (
+    let z : k .size-at3 .result ≡ sizeSegment (decodeSegment (drop (i .before .loop .p) (a .x .now))) = k .size-at3 .ensures in (
       omega (arith, e, entry-least (a .whole) (k .size-at3 .result) (omega (arith, x-within i))),
       omega (arith, e, size-within (a .whole) (k .size-at3 .result) (omega (arith, x-within i))),
       omega (arith, e, room-here (i .before .loop .inv) (i .loop-test .taken) (k .size-at3 .result) z),

@@ -5,9 +5,9 @@ use native.Mathlib.Omega.{arith}
 use mathlib.Core.Path.{_≡_, sym, ap, _∙_}
 use mathlib.Core.Bool.{Bool, true, false, cond}
 use lib.ListN.{length, drop}
-use Rattle.packed.specs.Assignment.{segmentOf, segmentsOf}
+use Rattle.packed.specs.Assignment.{decodeSegment, decodeSegments}
 use Rattle.packed.proofs.AssignmentLaws.{size-least}
-use Rattle.difference.specs.Merge.{stepOf}
+use Rattle.difference.specs.Merge.{mergeStep}
 use Rattle.difference.specs.declared.Step.the-variants.{Keep, Same}
 use Rattle.difference.proofs.StepLaws.{step-below, step-above, step-first}
 use Rattle.difference.proofs.next_step.Statement.{statement}
@@ -24,15 +24,15 @@ within : (c : tie.Else1)
 within c =
     let s = c .before .before .before in
     let a = s .args in (
-      omega (arith, s .pre .0, size-least (segmentOf (drop (a .p) (a .x .now)))),
-      omega (arith, s .pre .1 (some c), size-least (segmentOf (drop (a .q) (a .y .now)))),
+      omega (arith, s .pre .0, size-least (decodeSegment (drop (a .p) (a .x .now)))),
+      omega (arith, s .pre .1 (some c), size-least (decodeSegment (drop (a .q) (a .y .now)))),
     )
 
 returns : tie.Need-returns
-unfolding stepOf segmentsOf
+unfolding mergeStep decodeSegments
 returns c =
     let a = c .before .before .before .args in
-    ap (λ (n : ℕ). stepOf (segmentOf (drop (a .p) (a .x .now))) (segmentsOf n (drop (a .q) (a .y .now)))) (sym (c .if1 .taken))
+    ap (λ (n : ℕ). mergeStep (decodeSegment (drop (a .p) (a .x .now))) (decodeSegments n (drop (a .q) (a .y .now)))) (sym (c .if1 .taken))
 
 id-at-requires : tie.Need-id-at-requires
 id-at-requires c κs = within c .0
@@ -45,7 +45,7 @@ returns-2 c =
     let i = c .before in
     let e = i .before .before in
     let a = e .before .before .before .args in
-    step-below (segmentOf (drop (a .p) (a .x .now))) (a .y .now) (a .q) (a .n) (some e)
+    step-below (decodeSegment (drop (a .p) (a .x .now))) (a .y .now) (a .q) (a .n) (some e)
     (omega (arith, c .if2 .taken, i .id-at2 .ensures, i .before .id-at .ensures))
 
 returns-3 : tie.Need-returns-3
@@ -53,7 +53,7 @@ returns-3 c =
     let i = c .before .before in
     let e = i .before .before in
     let a = e .before .before .before .args in
-    step-above (segmentOf (drop (a .p) (a .x .now))) (a .y .now) (a .q) (a .n) (some e)
+    step-above (decodeSegment (drop (a .p) (a .x .now))) (a .y .now) (a .q) (a .n) (some e)
     (omega (arith, c .if3 .taken, i .id-at2 .ensures, i .before .id-at .ensures))
 
 same-record-requires : tie.Need-same-record-requires
@@ -65,12 +65,12 @@ same-record-requires c κs =
 -- the first record of y has the id
 same-id : (c : tie.After-same-record) (t : Bool) → c .same-record .result ≡ t
     → let a = c .before .before .before .before .before .before .before .before .args in
-    cond t Same Keep ≡ stepOf (segmentOf (drop (a .p) (a .x .now))) (segmentsOf (a .n) (drop (a .q) (a .y .now)))
+    cond t Same Keep ≡ mergeStep (decodeSegment (drop (a .p) (a .x .now))) (decodeSegments (a .n) (drop (a .q) (a .y .now)))
 same-id c t r =
     let i = c .before .before .before in
     let e = i .before .before in
     let a = e .before .before .before .args in
-    step-first (segmentOf (drop (a .p) (a .x .now))) (a .y .now) (a .q) (a .n) (some e) t
+    step-first (decodeSegment (drop (a .p) (a .x .now))) (a .y .now) (a .q) (a .n) (some e) t
     (omega (arith, c .before .before .if2 .left, i .id-at2 .ensures, i .before .id-at .ensures)) (sym (c .same-record .ensures) ∙ r)
 
 returns-4 : tie.Need-returns-4

@@ -5,7 +5,7 @@ use native.Mathlib.Omega.{arith}
 use borrow.Author.Needs.{needs}
 use lib.ListN.{length}
 use Rattle.packed_int.specs.Be.{beAt}
-use Rattle.packed.specs.Assignment.{num, assignmentOf}
+use Rattle.packed.specs.Assignment.{num, decodeAssignment}
 use Rattle.difference.proofs.TurnLaws.{starts-long}
 use Rattle.difference.proofs.WholeLaws.{lost-room, gained-room, few-merged, whole}
 use Rattle.difference.proofs.write_delta.Statement.{statement}
@@ -71,7 +71,7 @@ write-u64-requires c κs =
     )
 
 returns : tie.Need-returns
-unfolding assignmentOf num beAt
+unfolding decodeAssignment num beAt
 returns c =
     let e = c .before .before in
     let n2 = e .before .before .before .before in

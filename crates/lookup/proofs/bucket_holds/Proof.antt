@@ -8,14 +8,14 @@ use lib.ListN.{drop}
 use borrow.Author.Needs.{needs}
 use Rattle.lookup.specs.Lookup.{anyHolds}
 use Rattle.lookup.proofs.TakesLaws.{any-found, any-further}
-use Rattle.packed.specs.Assignment.{rangesOf}
+use Rattle.packed.specs.Assignment.{decodeRanges}
 use Rattle.packed.proofs.AssignmentLaws.{ranges-at, ranges-none}
 use Rattle.lookup.proofs.bucket_holds.Statement.{statement}
 use Rattle.lookup.proofs.bucket_holds.Tie as tie
 
 abbrev Inv-loop : tie.InvT-loop
 Inv-loop s at n hash p₀ left₀ p left =
-    (p + 4 * left ≡ at + 4 * n) × (anyHolds hash (rangesOf n (drop at s)) ≡ anyHolds hash (rangesOf left (drop p s)))
+    (p + 4 * left ≡ at + 4 * n) × (anyHolds hash (decodeRanges n (drop at s)) ≡ anyHolds hash (decodeRanges left (drop p s)))
 
 abbrev μ-loop : tie.MeasureT-loop
 μ-loop s at n hash p₀ left₀ p left = left

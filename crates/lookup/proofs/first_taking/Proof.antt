@@ -4,7 +4,7 @@ use native.Mathlib.Omega.{arith}
 use mathlib.Core.Path.{refl}
 use lib.ListN.{drop}
 use Rattle.lookup.proofs.TakesLaws.{Turn, turn-start, turn-found, turn-next, turn-end}
-use Rattle.packed.specs.Assignment.{segmentOf}
+use Rattle.packed.specs.Assignment.{decodeSegment}
 use Rattle.packed.proofs.AssignmentLaws.{rest-head, size-least}
 use Rattle.lookup.proofs.first_taking.Statement.{statement}
 use Rattle.lookup.proofs.first_taking.Tie as tie
@@ -29,7 +29,7 @@ id-at-requires c κs =
     let i = c .before .before in
     let l = i .before in
     let s = l .before .before .args .s .now in
-    omega (arith, rest-head s (l .loop .p) (l .loop .left) _ (i .loop-test .taken) refl (l .loop .inv .rest), size-least (segmentOf (drop (l .loop .p) s)))
+    omega (arith, rest-head s (l .loop .p) (l .loop .left) _ (i .loop-test .taken) refl (l .loop .inv .rest), size-least (decodeSegment (drop (l .loop .p) s)))
 
 returns : tie.Need-returns Inv-loop μ-loop
 returns c =
@@ -45,7 +45,7 @@ size-at-requires c κs =
     let i = c .before .before in
     let l = i .before in
     let s = l .before .before .args .s .now in
-    omega (arith, rest-head s (l .loop .p) (l .loop .left) _ (i .loop-test .taken) refl (l .loop .inv .rest), size-least (segmentOf (drop (l .loop .p) s)))
+    omega (arith, rest-head s (l .loop .p) (l .loop .left) _ (i .loop-test .taken) refl (l .loop .inv .rest), size-least (decodeSegment (drop (l .loop .p) s)))
 
 add-p : tie.Need-add-p Inv-loop μ-loop
 add-p c =

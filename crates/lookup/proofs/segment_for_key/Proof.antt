@@ -5,7 +5,7 @@ use mathlib.Core.Path.{sym, ap, _∙_}
 use lib.ListN.{drop}
 use borrow.Author.Needs.{needs}
 use Rattle.lookup.specs.Lookup.{firstTaking}
-use Rattle.packed.specs.Assignment.{segmentsOf}
+use Rattle.packed.specs.Assignment.{decodeSegments}
 use Rattle.packed.proofs.WholeLaws.{Whole, whole-read, not-assignment}
 use Rattle.lookup.proofs.TakesLaws.{for-long, for-malformed, for-whole}
 use Rattle.lookup.proofs.segment_for_key.Statement.{statement}
@@ -37,7 +37,7 @@ returns-3 c =
     let a = e .before .before .before .args in
     let n = k .before .count .given .0 .1 .0 in
     c .first-taking .ensures
-    ∙ ap (λ (h : ℕ). firstTaking (h % 65536) (segmentsOf n (drop 10 (a .assignment .now)))) (c .before .hash .ensures)
+    ∙ ap (λ (h : ℕ). firstTaking (h % 65536) (decodeSegments n (drop 10 (a .assignment .now)))) (c .before .hash .ensures)
     ∙ for-whole (a .key .now) (a .assignment .now) (e .if1 .left) n (whole-in k)
 
 pub segment-for-key-spec : {M : Type 1} → statement M

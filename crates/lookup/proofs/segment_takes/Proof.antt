@@ -6,13 +6,13 @@ use lib.ListN.{drop}
 use borrow.Author.Needs.{needs}
 use borrow.Author.Tests.{not-true, not-false}
 use Rattle.lookup.proofs.TakesLaws.{counted-size, takes-outside, takes-whole, takes-bucketed}
-use Rattle.packed.specs.Assignment.{segmentOf}
+use Rattle.packed.specs.Assignment.{decodeSegment}
 use Rattle.packed.proofs.AssignmentLaws.{size-least}
 use Rattle.lookup.proofs.segment_takes.Statement.{statement}
 use Rattle.lookup.proofs.segment_takes.Tie as tie
 
 range-at-requires : tie.Need-range-at-requires
-range-at-requires c κs = omega (arith, size-least (segmentOf (drop (c .before .args .p) (c .before .args .s .now))))
+range-at-requires c κs = omega (arith, size-least (decodeSegment (drop (c .before .args .p) (c .before .args .s .now))))
 
 returns : tie.Need-returns
 returns c =
@@ -23,7 +23,7 @@ returns c =
 
 read-u16-requires : tie.Need-read-u16-requires
 read-u16-requires c κs =
-    let a = c .before .before .before .before .args in omega (arith, size-least (segmentOf (drop (a .p) (a .s .now))))
+    let a = c .before .before .before .before .args in omega (arith, size-least (decodeSegment (drop (a .p) (a .s .now))))
 
 returns-2 : tie.Need-returns-2
 returns-2 c =

@@ -6,14 +6,14 @@ use mathlib.Core.Path.{_≡_, refl, sym, ap, _∙_}
 use lib.ListN.{drop}
 use borrow.Author.Needs.{needs}
 use Rattle.ranges.specs.Overlap.{overlapsAny}
-use Rattle.packed.specs.Assignment.{rangesOf}
+use Rattle.packed.specs.Assignment.{decodeRanges}
 use Rattle.packed.proofs.AssignmentLaws.{ranges-at, ranges-none, overlaps-found, overlaps-further}
 use Rattle.packed.proofs.bucket_overlaps.Statement.{statement}
 use Rattle.packed.proofs.bucket_overlaps.Tie as tie
 
 abbrev Inv-loop : tie.InvT-loop
 Inv-loop s at n range p₀ left₀ p left =
-    (p + 4 * left ≡ at + 4 * n) × (overlapsAny range (rangesOf n (drop at s)) ≡ overlapsAny range (rangesOf left (drop p s)))
+    (p + 4 * left ≡ at + 4 * n) × (overlapsAny range (decodeRanges n (drop at s)) ≡ overlapsAny range (decodeRanges left (drop p s)))
 
 abbrev μ-loop : tie.MeasureT-loop
 μ-loop s at n range p₀ left₀ p left = left

@@ -5,13 +5,13 @@ use native.Mathlib.Omega.{arith}
 use mathlib.Core.Path.{_≡_, refl, sym, ap, _∙_}
 use lib.ListN.{drop}
 use Rattle.ranges.specs.Overlap.{anyOverlap}
-use Rattle.packed.specs.Assignment.{rangesOf, allInOrder, okBuckets}
+use Rattle.packed.specs.Assignment.{decodeRanges, allInOrder, okBuckets}
 use Rattle.packed.proofs.AssignmentLaws.{ranges-at, ranges-none, ok-reversed, ok-clash, ok-pass}
 use Rattle.packed.proofs.buckets_apart.Statement.{statement}
 use Rattle.packed.proofs.buckets_apart.Tie as tie
 
 abbrev Inv-loop : tie.InvT-loop
-Inv-loop s at n p₀ left₀ p left = (p + 4 * left ≡ at + 4 * n) × (okBuckets (rangesOf n (drop at s)) ≡ okBuckets (rangesOf left (drop p s)))
+Inv-loop s at n p₀ left₀ p left = (p + 4 * left ≡ at + 4 * n) × (okBuckets (decodeRanges n (drop at s)) ≡ okBuckets (decodeRanges left (drop p s)))
 
 abbrev μ-loop : tie.MeasureT-loop
 μ-loop s at n p₀ left₀ p left = left

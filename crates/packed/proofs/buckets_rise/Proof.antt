@@ -8,14 +8,14 @@ use lib.ListN.{drop}
 use borrow.Author.Needs.{needs}
 use borrow.Author.Tests.{not-true, not-false}
 use Rattle.ranges.specs.Overlap.{risingFrom}
-use Rattle.packed.specs.Assignment.{rangesOf}
+use Rattle.packed.specs.Assignment.{decodeRanges}
 use Rattle.packed.proofs.AssignmentLaws.{ranges-at, ranges-none, rising-stops, rising-further}
 use Rattle.packed.proofs.buckets_rise.Statement.{statement}
 use Rattle.packed.proofs.buckets_rise.Tie as tie
 
 abbrev Inv-loop : tie.InvT-loop
 Inv-loop s at n from low₀ p₀ left₀ low p left =
-    (p + 4 * left ≡ at + 4 * n) × (risingFrom from (rangesOf n (drop at s)) ≡ risingFrom low (rangesOf left (drop p s)))
+    (p + 4 * left ≡ at + 4 * n) × (risingFrom from (decodeRanges n (drop at s)) ≡ risingFrom low (decodeRanges left (drop p s)))
 
 abbrev μ-loop : tie.MeasureT-loop
 μ-loop s at n from low₀ p₀ left₀ low p left = left

@@ -1,11 +1,11 @@
 -- `read_response` meets its contract: each number is that of `responseOf`. Assumes nothing.
 use borrow.Author.Needs.{needs}
-use Rattle.readers.specs.Messages.{assignmentOf, responseOf}
+use Rattle.readers.specs.Messages.{readAssignment, responseOf}
 use Rattle.readers.proofs.read_response.Statement.{statement}
 use Rattle.readers.proofs.read_response.Tie as tie
 
 returns : tie.Need-returns
-unfolding responseOf assignmentOf
+unfolding responseOf readAssignment
 returns c = search needs
 
 pub read-response-spec : {M : Type 1} → statement M

@@ -1,11 +1,11 @@
 -- `read_update` meets its contract: each number is that of `updateOf`. Assumes nothing.
 use borrow.Author.Needs.{needs}
-use Rattle.readers.specs.Messages.{assignmentOf, updateOf}
+use Rattle.readers.specs.Messages.{readAssignment, updateOf}
 use Rattle.readers.proofs.read_update.Statement.{statement}
 use Rattle.readers.proofs.read_update.Tie as tie
 
 returns : tie.Need-returns
-unfolding updateOf assignmentOf
+unfolding updateOf readAssignment
 returns c = search needs
 
 pub read-update-spec : {M : Type 1} → statement M

@@ -2,7 +2,7 @@
 -- Assumes nothing.
 use mathlib.Core.Path.{_≡_, ap, sym, _∙_}
 use Rattle.types.specs.declared.KeyRangeError.{KeyRangeError}
-use Rattle.types.specs.KeyRanges.{kindOf, numbersOf}
+use Rattle.types.specs.KeyRanges.{errorKind, errorNumbers}
 use Rattle.refusal.specs.Refusals.{sourceValues}
 use Rattle.reply.specs.declared.Reply.{Reply}
 use Rattle.reply.specs.Replies.{replyWith, wordAt, wordOf}
@@ -18,15 +18,15 @@ arm : (k : tie.Start) {v : KeyRangeError} → k .args .source ≡ v → replyOf 
 arm k e = ap (replyOf k) (sym e)
 
 returns : tie.Need-returns
-unfolding replyWith wordAt wordOf kindOf numbersOf
+unfolding replyWith wordAt wordOf errorKind errorNumbers
 returns c = c .more .ensures ∙ arm (c .before .before .before .before) (c .before .before .source .given .1)
 
 returns-2 : tie.Need-returns-2
-unfolding replyWith wordAt wordOf kindOf numbersOf
+unfolding replyWith wordAt wordOf errorKind errorNumbers
 returns-2 c = c .more2 .ensures ∙ arm (c .before .before .before .before) (c .before .before .source2 .given .1)
 
 returns-3 : tie.Need-returns-3
-unfolding replyWith wordAt wordOf kindOf numbersOf
+unfolding replyWith wordAt wordOf errorKind errorNumbers
 returns-3 c = c .more3 .ensures ∙ arm (c .before .before .before .before) (c .before .before .source3 .given .1)
 
 pub range-spec : {M : Type 1} → statement M

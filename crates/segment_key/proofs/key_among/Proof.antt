@@ -4,7 +4,7 @@ use native.Mathlib.Omega.{arith}
 use mathlib.Core.Path.{refl, sym, ap, _∙_}
 use lib.ListN.{drop}
 use borrow.Author.Needs.{needs}
-use Rattle.packed.specs.Assignment.{segmentOf}
+use Rattle.packed.specs.Assignment.{decodeSegment}
 use Rattle.packed.proofs.AssignmentLaws.{rest-head, size-least}
 use Rattle.segment_key.specs.SegmentKey.{keyAt}
 use Rattle.segment_key.proofs.WalkLaws.{Turn, turn-start, turn-good, turn-found, turn-next, turn-end}
@@ -24,7 +24,7 @@ id-at-requires : tie.Need-id-at-requires Inv-loop μ-loop
 id-at-requires c κs =
     let l = c .before in
     let s = l .before .before .args .s .now in
-    omega (arith, rest-head s (l .loop .p) (l .loop .left) _ (c .loop-test .taken) refl (l .loop .inv .rest), size-least (segmentOf (drop (l .loop .p) s)))
+    omega (arith, rest-head s (l .loop .p) (l .loop .left) _ (c .loop-test .taken) refl (l .loop .inv .rest), size-least (decodeSegment (drop (l .loop .p) s)))
 
 least-at-requires : tie.Need-least-at-requires Inv-loop μ-loop
 least-at-requires c κs =
@@ -51,7 +51,7 @@ size-at-requires c κs =
     let i = c .before .before in
     let l = i .before in
     let s = l .before .before .args .s .now in
-    omega (arith, rest-head s (l .loop .p) (l .loop .left) _ (i .loop-test .taken) refl (l .loop .inv .rest), size-least (segmentOf (drop (l .loop .p) s)))
+    omega (arith, rest-head s (l .loop .p) (l .loop .left) _ (i .loop-test .taken) refl (l .loop .inv .rest), size-least (decodeSegment (drop (l .loop .p) s)))
 
 add-p : tie.Need-add-p Inv-loop μ-loop
 add-p c =

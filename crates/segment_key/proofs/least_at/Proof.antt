@@ -4,18 +4,18 @@ use native.Mathlib.Omega.{arith}
 use mathlib.Core.Path.{_∙_}
 use lib.ListN.{drop}
 use borrow.Author.Needs.{needs}
-use Rattle.packed.specs.Assignment.{segmentOf}
+use Rattle.packed.specs.Assignment.{decodeSegment}
 use Rattle.packed.proofs.AssignmentLaws.{size-least}
 use Rattle.segment_key.proofs.WalkLaws.{at-size, at-whole, at-bucketed}
 use Rattle.segment_key.proofs.least_at.Statement.{statement}
 use Rattle.segment_key.proofs.least_at.Tie as tie
 
 range-at-requires : tie.Need-range-at-requires
-range-at-requires c κs = omega (arith, size-least (segmentOf (drop (c .before .args .p) (c .before .args .s .now))))
+range-at-requires c κs = omega (arith, size-least (decodeSegment (drop (c .before .args .p) (c .before .args .s .now))))
 
 read-u16-requires : tie.Need-read-u16-requires
 read-u16-requires c κs =
-    let a = c .before .before .args in omega (arith, size-least (segmentOf (drop (a .p) (a .s .now))))
+    let a = c .before .before .args in omega (arith, size-least (decodeSegment (drop (a .p) (a .s .now))))
 
 returns : tie.Need-returns
 returns c =

@@ -9,14 +9,14 @@ use borrow.Author.Needs.{needs}
 use Rattle.types.specs.declared.KeyRange.{KeyRange}
 use Rattle.segment_key.specs.Ends.{lesserOf, leastIn}
 use Rattle.segment_key.proofs.LeastLaws.{lesser-none, row-turn}
-use Rattle.packed.specs.Assignment.{rangesOf}
+use Rattle.packed.specs.Assignment.{decodeRanges}
 use Rattle.packed.proofs.AssignmentLaws.{ranges-at, ranges-none}
 use Rattle.segment_key.proofs.least_in.Statement.{statement}
 use Rattle.segment_key.proofs.least_in.Tie as tie
 
 abbrev Inv-loop : tie.InvT-loop
 Inv-loop s at n range best₀ p₀ left₀ best p left =
-    (p + 4 * left ≡ at + 4 * n) × (leastIn range (rangesOf n (drop at s)) ≡ lesserOf best (leastIn range (rangesOf left (drop p s))))
+    (p + 4 * left ≡ at + 4 * n) × (leastIn range (decodeRanges n (drop at s)) ≡ lesserOf best (leastIn range (decodeRanges left (drop p s))))
 
 abbrev μ-loop : tie.MeasureT-loop
 μ-loop s at n range best₀ p₀ left₀ best p left = left
@@ -33,7 +33,7 @@ loop-again c =
       l .loop .inv .1
           ∙ ap (λ (rs : List KeyRange). lesserOf (l .loop .best) (leastIn (a .range) rs))
           (ranges-at (a .s .now) (l .loop .p) (l .loop .left) (r .range-at .result) (r .before .loop-test .taken) (r .range-at .ensures))
-          ∙ row-turn (a .range) (r .range-at .result) (rangesOf (l .loop .left - 1) (drop (l .loop .p + 4) (a .s .now))) (l .loop .best) (c .lesser .result)
+          ∙ row-turn (a .range) (r .range-at .result) (decodeRanges (l .loop .left - 1) (drop (l .loop .p + 4) (a .s .now))) (l .loop .best) (c .lesser .result)
           (c .lesser .ensures ∙ ap (lesserOf (l .loop .best)) (c .before .least-common .ensures)),
     )
 

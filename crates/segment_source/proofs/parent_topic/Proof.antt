@@ -5,7 +5,7 @@ use native.Mathlib.Omega.{arith}
 use mathlib.Core.Path.{_≡_, sym, ap, _∙_}
 use lib.ListN.{length, take, drop}
 use borrow.Author.Needs.{needs}
-use Rattle.topic.specs.Build.{outcome}
+use Rattle.topic.specs.Build.{nameOutcome}
 use Rattle.segment_source.proofs.ParseLaws.{parent-refused, parent-place, path-length, parent-no-room, parent-written}
 use Rattle.segment_source.proofs.parent_topic.Statement.{statement}
 use Rattle.segment_source.proofs.parent_topic.Tie as tie
@@ -65,7 +65,7 @@ returns-3 c =
     let a = k .before .before .before .before .before .before .args in
     let e = sym (k .before .before .before .parse-text .ensures) ∙ k .before .path-end .given .1 in
     let wrote = rw (first .put-bytes .ensures) at (second .put-bytes2 .ensures) in
-    ap (outcome _) wrote ∙ sym (parent-written (a .topic .now) (a .out .now) _ _ _ e (omega arith))
+    ap (nameOutcome _) wrote ∙ sym (parent-written (a .topic .now) (a .out .now) _ _ _ e (omega arith))
 
 pub parent-topic-spec : {M : Type 1} → statement M
 parent-topic-spec =

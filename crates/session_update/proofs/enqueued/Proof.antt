@@ -4,14 +4,14 @@ use Prim.Native.Nat.{_+_, _≤_}
 use native.Mathlib.Omega.{arith}
 use mathlib.Core.Path.{_≡_}
 use lib.ListN.{length}
-use Rattle.packed.specs.Assignment.{assignmentOf}
+use Rattle.packed.specs.Assignment.{decodeAssignment}
 use Rattle.session_store.proofs.StoreLaws.{scratch-fits}
 use Rattle.session_update.proofs.UpdateLaws.{told, buffer-epoch, epoch-low, queue-full, no-room, queue-joined}
 use borrow.Author.Needs.{needs}
 use Rattle.session_update.proofs.enqueued.Statement.{statement}
 use Rattle.session_update.proofs.enqueued.Tie as tie
 
-epoch-is : (c : tie.After-read-u64) → c .read-u64 .result ≡ assignmentOf (c .before .before .before .args .b .now) .layoutEpoch
+epoch-is : (c : tie.After-read-u64) → c .read-u64 .result ≡ decodeAssignment (c .before .before .before .args .b .now) .layoutEpoch
 epoch-is c = buffer-epoch (c .before .before .before .args .b .now) (c .read-u64 .result) (c .read-u64 .ensures)
 
 abbrev start : tie.Else1 → tie.Start
@@ -25,7 +25,7 @@ returns c =
     let e = k .before in
     let s = e .before .before .before in
     told (s .args .store .now) out (c .refuse .ensures)
-    (epoch-low (s .args .r) (s .args .store .now) out (assignmentOf (s .args .b .now)) (e .read-u64 .result) (epoch-is e)
+    (epoch-low (s .args .r) (s .args .store .now) out (decodeAssignment (s .args .b .now)) (e .read-u64 .result) (epoch-is e)
     (k .below-floor .result) (k .below-floor .ensures) (v .before .if1 .taken) (v .floor-value .result) (v .floor-value .ensures))
 
 returns-2 : tie.Need-returns-2
@@ -36,7 +36,7 @@ returns-2 c =
     let e = k .before in
     let s = start o in
     told (s .args .store .now) out (c .refuse2 .ensures)
-    (queue-full (s .args .r) (s .args .store .now) out (assignmentOf (s .args .b .now)) (e .read-u64 .result) (epoch-is e)
+    (queue-full (s .args .r) (s .args .store .now) out (decodeAssignment (s .args .b .now)) (e .read-u64 .result) (epoch-is e)
     (k .below-floor .result) (k .below-floor .ensures) (o .if1 .left) (c .before .if2 .taken))
 
 sub-if3 : tie.Need-sub-if3
@@ -54,7 +54,7 @@ returns-3 c =
     let e = k .before in
     let s = start o in
     told (s .args .store .now) out (c .refuse3 .ensures)
-    (no-room (s .args .r) (s .args .store .now) out (assignmentOf (s .args .b .now)) (e .read-u64 .result) (epoch-is e)
+    (no-room (s .args .r) (s .args .store .now) out (decodeAssignment (s .args .b .now)) (e .read-u64 .result) (epoch-is e)
     (k .below-floor .result) (k .below-floor .ensures) (o .if1 .left) (n .if2 .left) (s .args .end) (s .pre .1 .0 .at)
     (s .args .n) (s .pre .1 .1 .size) (s .pre .1 .0 .inside) (c .before .if3 .taken))
 
@@ -80,7 +80,7 @@ returns-4 c =
     let e = k .before in
     let s = start o in
     told (w .push .last .0) out (c .unchanged .ensures)
-    (queue-joined (s .args .r) (s .args .store .now) out (assignmentOf (s .args .b .now)) (e .read-u64 .result) (epoch-is e)
+    (queue-joined (s .args .r) (s .args .store .now) out (decodeAssignment (s .args .b .now)) (e .read-u64 .result) (epoch-is e)
     (k .below-floor .result) (k .below-floor .ensures) (o .if1 .left) (n .if2 .left) (s .args .end) (s .pre .1 .0 .at)
     (s .args .n) (s .pre .1 .1 .size) (room p)
     (w .push .last .0) (w .push .ensures) (c .before .with-queue-count .result) (c .before .with-queue-count .ensures))

@@ -2,7 +2,7 @@
 -- Assumes nothing.
 use native.Mathlib.Omega.{arith}
 use mathlib.Core.Path.{_≡_}
-use Rattle.packed.specs.Assignment.{assignmentOf}
+use Rattle.packed.specs.Assignment.{decodeAssignment}
 use Rattle.session.specs.Store.{listIn}
 use Rattle.session_update.proofs.UpdateLaws.{buffer-epoch, list-epoch, list-there, list-starts}
 use Rattle.session_update.proofs.UpdateLaws.{told, list-same, epoch-stale, list-held}
@@ -13,7 +13,7 @@ use Rattle.session_update.proofs.held.Tie as tie
 abbrev start : tie.Else1 → tie.Start
 start c = c .before .before .before .before .before .before .before
 
-epoch-is : (c : tie.After-read-u64) → c .read-u64 .result ≡ assignmentOf (start (c .before) .args .b .now) .layoutEpoch
+epoch-is : (c : tie.After-read-u64) → c .read-u64 .result ≡ decodeAssignment (start (c .before) .args .b .now) .layoutEpoch
 epoch-is c = buffer-epoch (start (c .before) .args .b .now) (c .read-u64 .result) (c .read-u64 .ensures)
 
 prev-is : (c : tie.After-read-u642) → c .read-u642 .result ≡ listIn (start (c .before .before .before) .args .store .now) 2 .layoutEpoch
@@ -29,7 +29,7 @@ returns c =
     let k = c .before .before in
     let s = k .before .before .before .before .before .before in
     told (s .args .store .now) (s .args .out .now) (c .unchanged .ensures)
-    (list-same (s .args .r) (s .args .store .now) (s .args .out .now) (assignmentOf (s .args .b .now))
+    (list-same (s .args .r) (s .args .store .now) (s .args .out .now) (decodeAssignment (s .args .b .now))
     _ (list-there (s .args .store .now)) (k .same-assignment .result) (k .same-assignment .ensures) (c .before .if1 .taken))
 
 returns-2 : tie.Need-returns-2
@@ -39,7 +39,7 @@ returns-2 c =
     let k = e .before in
     let s = start k in
     told (s .args .store .now) (s .args .out .now) (c .refuse .ensures)
-    (epoch-stale (s .args .r) (s .args .store .now) (s .args .out .now) (assignmentOf (s .args .b .now))
+    (epoch-stale (s .args .r) (s .args .store .now) (s .args .out .now) (decodeAssignment (s .args .b .now))
     _ (list-there (s .args .store .now)) (k .before .same-assignment .result) (k .before .same-assignment .ensures) (k .if1 .left)
     (e .read-u64 .result) (p .read-u642 .result) (epoch-is e) (prev-is p) (c .before .if2 .taken))
 
@@ -61,7 +61,7 @@ returns-3 c =
     let e = p .before .before in
     let k = e .before in
     let s = start k in
-    list-held (s .args .r) (s .args .store .now) (s .args .out .now) (assignmentOf (s .args .b .now))
+    list-held (s .args .r) (s .args .store .now) (s .args .out .now) (decodeAssignment (s .args .b .now))
     _ (list-there (s .args .store .now)) (k .before .same-assignment .result) (k .before .same-assignment .ensures) (k .if1 .left)
     (e .read-u64 .result) (p .read-u642 .result) (epoch-is e) (prev-is p) (d .before .before .before .before .if2 .left)
     _ (d .write-delta .ensures .0) _ (d .write-delta .ensures .1) _ (w .write-slot .ensures)

@@ -6,7 +6,7 @@ use mathlib.Core.Path.{_≡_, sym, ap, _∙_}
 use lib.ListN.{length}
 use borrow.Author.Needs.{needs}
 use Rattle.topic.specs.Names.{descriptor}
-use Rattle.topic.specs.Build.{outcome}
+use Rattle.topic.specs.Build.{nameOutcome}
 use Rattle.topic.proofs.TailLaws.{descriptor-part, descriptor-from}
 use Rattle.topic.proofs.BuildLaws.{name-no-room, name-written}
 use Rattle.topic.proofs.write_segment_topic.Statement.{statement}
@@ -41,7 +41,7 @@ returns-3 c =
     let a = place .before .before .before .args in
     let part = descriptor-part (a .range) (a .id) (d .result) (d .ensures) in
     let wrote = rw (part, second .put-bytes2 .ensures, first .put-bytes .ensures) at (third .put-bytes3 .ensures) in
-    ap (outcome _) wrote ∙ sym (name-written (a .path .now) (a .range) (a .id) (a .out .now) _ (besides place) (omega arith))
+    ap (nameOutcome _) wrote ∙ sym (name-written (a .path .now) (a .range) (a .id) (a .out .now) _ (besides place) (omega arith))
 
 pub write-segment-topic-spec : {M : Type 1} → statement M
 write-segment-topic-spec =

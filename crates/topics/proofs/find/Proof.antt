@@ -8,7 +8,7 @@ use mathlib.Core.Bool.{true}
 use mathlib.Core.List.{List}
 use mathlib.Core.Path.{_≡_, refl, sym, _∙_}
 use lib.ListN.{length, drop}
-use Rattle.topics.specs.Packed.{topicsOf, isWhole, placeOf}
+use Rattle.topics.specs.Packed.{decodeTopics, isWhole, topicPlace}
 use Rattle.topics.proofs.WalkLaws.{entry-two, entry-fits, entry-rest, place-end, place-next}
 use Rattle.topics.proofs.find.Statement.{statement}
 use Rattle.topics.proofs.find.Tie as tie
@@ -16,7 +16,7 @@ use Rattle.topics.proofs.find.Tie as tie
 record Sought (s t : List ℕ) (at : ℕ) : Type 0 where
   within : at ≤ length s
   whole : isWhole (drop at s) ≡ true
-  alike : placeOf t 0 (topicsOf s) ≡ placeOf t at (topicsOf (drop at s))
+  alike : topicPlace t 0 (decodeTopics s) ≡ topicPlace t at (decodeTopics (drop at s))
 
 abbrev Inv-loop : tie.InvT-loop
 Inv-loop s t at₀ at = Sought s t at

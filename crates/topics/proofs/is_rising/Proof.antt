@@ -8,7 +8,7 @@ use mathlib.Core.Bool.{true}
 use mathlib.Core.List.{List}
 use mathlib.Core.Path.{_≡_, refl, sym, _∙_}
 use lib.ListN.{length, drop}
-use Rattle.topics.specs.Packed.{topicsOf, isWhole}
+use Rattle.topics.specs.Packed.{decodeTopics, isWhole}
 use Rattle.topics.proofs.WalkLaws.{entry-two, entry-fits, entry-rest, rising-end, rising-last, rising-not, rising-on}
 use Rattle.topics.specs.Topics.{rising}
 use Rattle.topics.proofs.is_rising.Statement.{statement}
@@ -17,7 +17,7 @@ use Rattle.topics.proofs.is_rising.Tie as tie
 record Risen (s : List ℕ) (at : ℕ) : Type 0 where
   within : at ≤ length s
   whole : isWhole (drop at s) ≡ true
-  alike : rising (topicsOf s) ≡ rising (topicsOf (drop at s))
+  alike : rising (decodeTopics s) ≡ rising (decodeTopics (drop at s))
 
 abbrev Inv-loop : tie.InvT-loop
 Inv-loop s at₀ at = Risen s at

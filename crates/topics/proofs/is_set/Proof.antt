@@ -3,7 +3,7 @@
 use borrow.Author.Needs.{needs}
 use mathlib.Core.Path.{sym, _∙_}
 use Rattle.parts.specs.BoolLaws.{both-true}
-use Rattle.topics.specs.Packed.{topicsOf, isWhole, allUtf8}
+use Rattle.topics.specs.Packed.{decodeTopics, isWhole, allUtf8}
 use Rattle.topics.proofs.WalkLaws.{set-list, set-none}
 use Rattle.topics.proofs.is_set.Statement.{statement}
 use Rattle.topics.proofs.is_set.Tie as tie
@@ -11,7 +11,7 @@ use Rattle.topics.proofs.is_set.Tie as tie
 is-rising-requires : tie.Need-is-rising-requires
 is-rising-requires c κs =
     let s = c .before .before .before .args .s .now in
-    both-true (isWhole s) (allUtf8 (topicsOf s)) (sym (c .before .is-list .ensures) ∙ c .if1 .taken) .0
+    both-true (isWhole s) (allUtf8 (decodeTopics s)) (sym (c .before .is-list .ensures) ∙ c .if1 .taken) .0
 
 returns : tie.Need-returns
 returns c =

@@ -4,7 +4,7 @@ use mathlib.Core.Path.{_≡_, sym, ap, _∙_}
 use borrow.Author.Tests.{not-true, not-false}
 use borrow.Author.Needs.{needs}
 use Rattle.parts.proofs.PartLaws.{Bytes}
-use Rattle.topics.specs.Packed.{topicsOf, sizeTopics}
+use Rattle.topics.specs.Packed.{decodeTopics, sizeTopics}
 use Rattle.watch.specs.Steps.{addedIn, removedIn}
 use Rattle.watch.proofs.SettleLaws.{set-whole, gone-least, room-none, room-short, room-fits, room-plain}
 use Rattle.watch.proofs.ListLaws.{list-added, list-removed}
@@ -45,10 +45,10 @@ tested c = c .before .before .before
 abbrev start : Measured → lts.Start claims reads.Pre reads.Post
 start c = begun (tested c)
 
-gone : (c : Measured) → let a = start c .args in c .before .measure .result ≡ sizeTopics (removedIn (topicsOf (a .set .now)) (a .p .now))
+gone : (c : Measured) → let a = start c .args in c .before .measure .result ≡ sizeTopics (removedIn (decodeTopics (a .set .now)) (a .p .now))
 gone c = c .before .measure .ensures ∙ ap sizeTopics (list-removed _ _)
 
-z : (c : Measured) → let a = start c .args in c .measure2 .result ≡ sizeTopics (addedIn (topicsOf (a .set .now)) (a .p .now))
+z : (c : Measured) → let a = start c .args in c .measure2 .result ≡ sizeTopics (addedIn (decodeTopics (a .set .now)) (a .p .now))
 z c = c .measure2 .ensures ∙ ap sizeTopics (list-added _ _)
 
 returns : tie.Need-returns

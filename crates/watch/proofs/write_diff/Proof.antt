@@ -7,7 +7,7 @@ use lib.ListN.{length, take}
 use lib.Seq.{length-take-le}
 use borrow.Author.Needs.{needs}
 use Rattle.parts.proofs.PartLaws.{Bytes}
-use Rattle.topics.specs.Packed.{topicsOf}
+use Rattle.topics.specs.Packed.{decodeTopics}
 use Rattle.watch.proofs.DiffLaws.{Written, diff-lists, diff-rises, diff-apart, diff-room, diff-written}
 use Rattle.watch.proofs.write_diff.Statement.{statement}
 use Rattle.watch.proofs.write_diff.Tie as tie
@@ -30,7 +30,7 @@ bytes : (c : Wrote) → Bytes (start c .args .buffer .now)
 bytes c i = c .before .before .before .before .before .slice-known .given i .fits
 
 lists : (c : Wrote) → let a = start c .args in let l = c .write-lists .result in
-    Written (topicsOf (take (a .used) (a .buffer .now))) (a .p .now) (l .added) (l .removed) (length (a .buffer .now)) (length (a .out .now))
+    Written (decodeTopics (take (a .used) (a .buffer .now))) (a .p .now) (l .added) (l .removed) (length (a .buffer .now)) (length (a .out .now))
 lists c = let q = start c .pre .1 .1 in let e = c .write-lists .ensures in diff-lists (q .1 .0) (q .1 .1) (e .0) (e .1)
 
 slice-aggregate-write-lists : tie.Need-slice-aggregate-write-lists

@@ -5,7 +5,7 @@ use native.Mathlib.Omega.{arith}
 use mathlib.Core.Path.{_≡_, ap}
 use lib.ListN.{length, drop}
 use borrow.Author.Needs.{needs}
-use Rattle.packed.specs.Assignment.{segmentOf}
+use Rattle.packed.specs.Assignment.{decodeSegment}
 use Rattle.packed.proofs.AssignmentLaws.{Seen}
 use Rattle.wire_writer.specs.Encode.{partHead}
 use Rattle.assignment_message.specs.Message.{segmentMessage}
@@ -83,7 +83,7 @@ all c =
 
 all-is : (c : tie.After-part-head-size) →
     let a = entry c .args in
-    all c ≡ length (segmentMessage (a .path .now) (segmentOf (drop (a .p) (a .s .now))))
+    all c ≡ length (segmentMessage (a .path .now) (decodeSegment (drop (a .p) (a .s .now))))
 all-is c =
     let n = c .before .before in
     let t = from-sizes c in

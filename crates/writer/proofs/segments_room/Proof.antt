@@ -5,7 +5,7 @@ use native.Mathlib.Omega.{arith}
 use mathlib.Core.Path.{refl}
 use lib.ListN.{length, drop}
 use borrow.Author.Needs.{needs}
-use Rattle.packed.specs.Assignment.{segmentOf, sizeSegment}
+use Rattle.packed.specs.Assignment.{decodeSegment, sizeSegment}
 use Rattle.packed.proofs.AssignmentLaws.{rest-head}
 use Rattle.writer.proofs.SizeLaws.{head-short}
 use Rattle.writer.proofs.FieldLaws.{head-inside, message-short, Counted, counted-start, counted-beyond, counted-next, counted-end}
@@ -22,7 +22,7 @@ abbrev μ-loop : tie.MeasureT-loop
 inside : (c : tie.In-loop Inv-loop μ-loop) →
     let l = c .before in
     let s = l .before .before .before .args .s .now in
-    l .loop .p + sizeSegment (segmentOf (drop (l .loop .p) s)) ≤ length s
+    l .loop .p + sizeSegment (decodeSegment (drop (l .loop .p) s)) ≤ length s
 inside c =
     let l = c .before in
     rest-head (l .before .before .before .args .s .now) (l .loop .p) (l .loop .left) _ (c .loop-test .taken) refl (l .loop .inv .rest)

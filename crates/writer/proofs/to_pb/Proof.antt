@@ -10,7 +10,7 @@ use Rattle.parts.proofs.PartLaws.{rest}
 use Rattle.utf8.specs.Table.{isUtf8}
 use Rattle.parents.specs.Parents.{isParent}
 use Rattle.parents.proofs.PathLaws.{parent-long}
-use Rattle.packed.specs.Assignment.{segmentsOf}
+use Rattle.packed.specs.Assignment.{decodeSegments}
 use Rattle.packed.proofs.AssignmentLaws.{Rest}
 use Rattle.packed.proofs.WholeLaws.{Whole, whole-read}
 use Rattle.content.specs.Content.{outsideIn}
@@ -41,7 +41,7 @@ some c = let ne : c .before .before .count .given .0 .1 .0 ≡ 0 → ⊥ = c .if
 
 -- past the test of the buckets, none lies outside
 all-inside : (c : tie.After-enum-told2)
-    → held.Inside ≡ heldOf (outsideIn (segmentsOf (from-inside c .before .before .count .given .0 .1 .0)
+    → held.Inside ≡ heldOf (outsideIn (decodeSegments (from-inside c .before .before .count .given .0 .1 .0)
     (drop 10 (entry (from-inside c .before) .args .assignment .now))))
 all-inside c = sym (c .enum-told2 .given .1) ∙ c .before .before .segments-outside .ensures
 

@@ -5,7 +5,7 @@ use native.Mathlib.Omega.{arith}
 use mathlib.Core.List.{List, [], _∷_}
 use lib.ListN.{length, drop}
 use borrow.Author.Needs.{needs}
-use Rattle.packed.specs.Assignment.{rangesOf}
+use Rattle.packed.specs.Assignment.{decodeRanges}
 use Rattle.assignment_message.specs.Message.{bucketFields}
 use Rattle.writer.proofs.WritingLaws.{Writing, writing-start, writing-as, writing-room, writing-next, writing-end}
 use Rattle.writer.proofs.FieldLaws.{bucketPieces, buckets-at, buckets-none}
@@ -15,7 +15,7 @@ use Rattle.writer.proofs.write_buckets.Tie as tie
 abbrev Inv-loop : tie.InvT-loop
 Inv-loop s at n out₀ to next₀ p₀ left₀ out next p left =
     (p + 4 * left ≤ length s)
-    × Writing out₀ to (bucketFields (rangesOf n (drop at s))) out next (bucketFields (rangesOf left (drop p s)) ∷ [])
+    × Writing out₀ to (bucketFields (decodeRanges n (drop at s))) out next (bucketFields (decodeRanges left (drop p s)) ∷ [])
 
 abbrev μ-loop : tie.MeasureT-loop
 μ-loop s at n out₀ to next₀ p₀ left₀ out next p left = left
@@ -35,7 +35,7 @@ abbrev Goes : tie.After-range-at Inv-loop μ-loop → List ℕ → ℕ → ℕ �
 Goes c now at gone =
     let l = c .before .before in
     let a = l .before .before .before .args in
-    Writing (a .out .now) (a .to) (bucketFields (rangesOf (a .n) (drop (a .at) (a .s .now)))) now at
+    Writing (a .out .now) (a .to) (bucketFields (decodeRanges (a .n) (drop (a .at) (a .s .now)))) now at
     (drop gone (bucketPieces (c .range-at .result) (a .s .now) (l .loop .p + 4) (l .loop .left - 1)))
 
 all-left : (c : tie.After-range-at Inv-loop μ-loop) → let l = c .before .before in Goes c (l .loop .out) (l .loop .next) 0

@@ -8,7 +8,7 @@ use lib.ListN.{length, drop}
 use borrow.Author.Needs.{needs}
 use Rattle.packed_int.specs.Be.{beAt}
 use Rattle.wire_writer.specs.Encode.{numberField}
-use Rattle.packed.specs.Assignment.{AssignedSegment, num, segmentsOf}
+use Rattle.packed.specs.Assignment.{AssignedSegment, num, decodeSegments}
 use Rattle.assignment_message.specs.Message.{segmentFields}
 use Rattle.writer.specs.Write.{roomOf}
 use Rattle.writer.specs.declared.Room.the-variants.{Size}
@@ -35,7 +35,7 @@ abbrev epoch : tie.Start → List ℕ
 epoch c = numberField 1 (num 8 (c .args .s .now))
 
 abbrev segments : tie.Start → List AssignedSegment
-segments c = segmentsOf (c .args .m) (drop 10 (c .args .s .now))
+segments c = decodeSegments (c .args .m) (drop 10 (c .args .s .now))
 
 abbrev fields : tie.Start → List ℕ
 fields c = segmentFields (c .args .path .now) (segments c)

@@ -5,7 +5,7 @@ use native.Mathlib.Omega.{arith}
 use mathlib.Core.List.{List}
 use lib.ListN.{drop}
 use borrow.Author.Needs.{needs}
-use Rattle.packed.specs.Assignment.{segmentOf}
+use Rattle.packed.specs.Assignment.{decodeSegment}
 use Rattle.packed.proofs.AssignmentLaws.{Seen}
 use Rattle.assignment_message.specs.Message.{segmentMessage}
 use Rattle.writer.proofs.WritingLaws.{Writing, writing-start, writing-as, writing-room, writing-next, writing-end}
@@ -50,7 +50,7 @@ pieces c =
 abbrev Goes : tie.After-read-u16 → List ℕ → ℕ → ℕ → Type 0
 Goes c now at gone =
     let a = entry c .args in
-    Writing (a .out .now) (a .to) (segmentMessage (a .path .now) (segmentOf (drop (a .p) (a .s .now)))) now at (drop gone (pieces c))
+    Writing (a .out .now) (a .to) (segmentMessage (a .path .now) (decodeSegment (drop (a .p) (a .s .now)))) now at (drop gone (pieces c))
 
 all-left : (c : tie.After-read-u16) → let a = entry c .args in Goes c (a .out .now) (a .to) 0
 all-left c =

@@ -5,7 +5,7 @@ use native.Mathlib.Omega.{arith}
 use mathlib.Core.Path.{refl}
 use mathlib.Core.List.{List, [], _∷_}
 use lib.ListN.{length, drop}
-use Rattle.packed.specs.Assignment.{segmentOf, segmentsOf, sizeSegment}
+use Rattle.packed.specs.Assignment.{decodeSegment, decodeSegments, sizeSegment}
 use Rattle.packed.proofs.AssignmentLaws.{Rest, rest-head, rest-next}
 use Rattle.assignment_message.specs.Message.{segmentFields}
 use Rattle.writer.proofs.WritingLaws.{Writing, writing-start, writing-as, writing-room, writing-next, writing-end}
@@ -16,7 +16,7 @@ use Rattle.writer.proofs.write_segments.Tie as tie
 abbrev Inv-loop : tie.InvT-loop
 Inv-loop s at m path out₀ to next₀ p₀ left₀ out next p left =
     Rest s p left
-    × Writing out₀ to (segmentFields path (segmentsOf m (drop at s))) out next (segmentFields path (segmentsOf left (drop p s)) ∷ [])
+    × Writing out₀ to (segmentFields path (decodeSegments m (drop at s))) out next (segmentFields path (decodeSegments left (drop p s)) ∷ [])
 
 abbrev μ-loop : tie.MeasureT-loop
 μ-loop s at m path out₀ to next₀ p₀ left₀ out next p left = left
@@ -32,14 +32,14 @@ abbrev pieces : tie.In-loop Inv-loop μ-loop → List (List ℕ)
 pieces c =
     let l = c .before in
     let a = l .before .before .before .before .args in
-    let z = sizeSegment (segmentOf (drop (l .loop .p) (a .s .now))) in
+    let z = sizeSegment (decodeSegment (drop (l .loop .p) (a .s .now))) in
     fieldPieces (a .path .now) (a .s .now) (l .loop .p) (l .loop .p + z) (l .loop .left - 1)
 
 -- so many of the first record's pieces are gone, and the other records are left
 abbrev Goes : tie.In-loop Inv-loop μ-loop → List ℕ → ℕ → ℕ → Type 0
 Goes c now at gone =
     let a = c .before .before .before .before .before .args in
-    let all = segmentFields (a .path .now) (segmentsOf (a .m) (drop (a .at) (a .s .now))) in
+    let all = segmentFields (a .path .now) (decodeSegments (a .m) (drop (a .at) (a .s .now))) in
     Writing (a .out .now) (a .to) all now at (drop gone (pieces c))
 
 all-left : (c : tie.In-loop Inv-loop μ-loop) → let l = c .before in Goes c (l .loop .out) (l .loop .next) 0
@@ -61,7 +61,7 @@ wrote-segment c = writing-next (wrote-head (c .before .before .before .before)) 
 inside : (c : tie.In-loop Inv-loop μ-loop) →
     let l = c .before in
     let s = l .before .before .before .before .args .s .now in
-    l .loop .p + sizeSegment (segmentOf (drop (l .loop .p) s)) ≤ length s
+    l .loop .p + sizeSegment (decodeSegment (drop (l .loop .p) s)) ≤ length s
 inside c =
     let l = c .before in
     rest-head (l .before .before .before .before .args .s .now) (l .loop .p) (l .loop .left) _ (c .loop-test .taken) refl (l .loop .inv .0)

@@ -8,7 +8,7 @@ use borrow.Author.Needs.{needs}
 use borrow.Rule.Slice.PartMut.{putMid}
 use Rattle.packed_int.specs.Put.{put}
 use Rattle.topic.specs.Names.{segmentTopic}
-use Rattle.topic.specs.Build.{outcome, written}
+use Rattle.topic.specs.Build.{nameOutcome, written}
 use Rattle.topic.specs.declared.NameAnswer.{NameAnswer}
 use Rattle.writer.proofs.WritingLaws.{rest-long, put-rest}
 use Rattle.writer.proofs.OutcomeLaws.{name-written, name-refused}
@@ -30,8 +30,8 @@ entry c = c .before .before .before .before
 
 -- what the call's answer says
 said : (c : tie.After-write-segment-topic) (x : NameAnswer) → c .write-segment-topic .result ≡ x →
-    outcome x (c .write-segment-topic .last .1 .1 .1 .0) ≡ written (name (entry c)) (part (entry c))
-said c x e = ap (λ (a : NameAnswer). outcome a (c .write-segment-topic .last .1 .1 .1 .0)) (sym e) ∙ c .write-segment-topic .ensures
+    nameOutcome x (c .write-segment-topic .last .1 .1 .1 .0) ≡ written (name (entry c)) (part (entry c))
+said c x e = ap (λ (a : NameAnswer). nameOutcome a (c .write-segment-topic .last .1 .1 .1 .0)) (sym e) ∙ c .write-segment-topic .ensures
 
 wrote : (c : tie.After-known-told) →
     let w = c .before .before .before .before .before in
