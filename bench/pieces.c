@@ -1,4 +1,4 @@
-// Runs a piece of an update as often as asked, over libspeed.a: pieces scan|intake FILE TIMES, or pieces plain FILE TIMES of its assignment alone; pieces text FILE TIMES of a text. Prints how many runs refused the message.
+// Runs a piece of an update as often as asked, over libbench_speed.a: pieces scan|intake FILE TIMES, or pieces plain FILE TIMES of its assignment alone; pieces text FILE TIMES of a text. Prints how many runs refused the message.
 #include <stddef.h>
 #include <stdint.h>
 #include <stdio.h>

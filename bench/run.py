@@ -145,11 +145,11 @@ class Bench:
         self.growth = self.compiled("growth", "export")
         self.keys = self.compiled("keys", "export")
         self.logs = self.compiled("logs", "export", "-pthread")
-        self.pieces = self.compiled("pieces", "speed")
+        self.pieces = self.compiled("pieces", "bench_speed")
         self.rust = self.built()
 
     def proved(self):
-        for library in ("speed", "export"):
+        for library in ("bench_speed", "export"):
             say(f"rt staticlib {library}")
             run("rt", "staticlib", library, cwd=ROOT)
         return ROOT / "target/staticlib"
@@ -432,7 +432,7 @@ def arguments():
     parser = argparse.ArgumentParser(description=__doc__, formatter_class=argparse.RawDescriptionHelpFormatter)
     parser.add_argument("tables", nargs="*", metavar="TABLE", choices=[[], *TABLES], help=f"these alone, of {', '.join(TABLES)}")
     parser.add_argument("--write", nargs="?", type=pathlib.Path, const=DOCUMENT, metavar="FILE", help="replace the tables in docs/BENCHMARKS.md, or in FILE")
-    parser.add_argument("--archives", type=pathlib.Path, metavar="FOLDER", help="measure libexport.a and libspeed.a of this folder, in place of those that rt makes")
+    parser.add_argument("--archives", type=pathlib.Path, metavar="FOLDER", help="measure libexport.a and libbench_speed.a of this folder, in place of those that rt makes")
     parser.add_argument("--counts", action="store_true", help="instructions alone: the times of a busy machine say nothing")
     return parser.parse_args()
 

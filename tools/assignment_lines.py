@@ -1,5 +1,5 @@
 #!/usr/bin/env python3
-"""Generator: the vectors of packed assignments, deltas, the calls with an output and the intake, a part of crates/vectors/stdin.
+"""Generator: the vectors of packed assignments, deltas, the calls with an output and the intake, a part of crates/test_vectors/stdin.
 
 The random ones come from one seed.
 

@@ -5,7 +5,7 @@ import re
 
 import usage
 
-REPLY, SESSION_REPLY, EXPORT = "crates/reply/src/lib.rt", "crates/session_reply/src/lib.rt", "crates/export/src/lib.rt"
+REPLY, SESSION_REPLY, EXPORT = "crates/export_reply/src/lib.rt", "crates/export_record/src/lib.rt", "crates/export/src/lib.rt"
 CRATE = "crates/export/src/"
 HEADER, RAW, EXPORTS = "bindings/c/cuddrewyn.h", "bindings/rust/src/raw.rs", "docs/EXPORTS.md"
 OF_C = {

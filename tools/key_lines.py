@@ -153,7 +153,7 @@ def made():
         assert murmur3(key) % 2**31 == value, key
     rng = random.Random("key vectors")
     lines = [*published(), *reckoned(rng), *refusals(), *limits(), *lists(rng), *test_keys(rng)]
-    return {CRATES / "key_vectors" / "stdin": "\n".join(lines) + "\n"}
+    return {CRATES / "test_keys" / "stdin": "\n".join(lines) + "\n"}
 
 
 if __name__ == "__main__":

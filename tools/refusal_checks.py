@@ -12,8 +12,8 @@ from refusal_table import CALLS, REFUSALS, numbers_in, order_text
 ENUM, NUMBERS = "crates/refusal/src/lib.rt", "crates/refusal/specs/Refusals.antt"
 TYPES = "bindings/rust/src/types.rs"
 # the Rust's errors, transcribed
-RUST = tuple(f"crates/magnetar/specs/{name}.antt" for name in ("Assignment", "SegmentTopic", "Watch"))
-OURS = {"crates/same_session/specs/Demand.antt": "AssignmentError", "crates/same_watch/specs/Demand.antt": "TopicsWatchError"}
+RUST = tuple(f"crates/rust_magnetar/specs/{name}.antt" for name in ("Assignment", "SegmentTopic", "Watch"))
+OURS = {"crates/rust_session/specs/Demand.antt": "AssignmentError", "crates/rust_watch/specs/Demand.antt": "TopicsWatchError"}
 ENUMS = {"AssignmentError": ERROR, "SegmentTopicError": ERROR, "TopicsWatchError": WATCH}
 # of the Rust crate: the variant that wraps the error of a name, and the refusal that no `str` can give
 WRAPPED = {("AssignmentError", 12): "SegmentTopic"}

@@ -1,7 +1,7 @@
 #!/usr/bin/env python3
 """Part of tools/refusals.py: what it writes from the table. A part has a line with `tools/refusals.py writes: NAME` above it and one with
 `tools/refusals.py: end` below; in docs/EXPORTS.md the last cells of the calls' rows, in compare/src/tally.rs the numbers of REACH and in
-crates/call_text the row of names are written where they stand."""
+crates/log_text the row of names are written where they stand."""
 import re
 import textwrap
 
@@ -11,7 +11,7 @@ from refusal_table import Fault, numbers_text, order_text
 ERROR, WATCH = "bindings/rust/src/error.rs", "bindings/rust/src/watch.rs"
 OWNED = "bindings/rust/src/owned/error.rs"
 HEADER, EXPORTS, OPERATOR = "bindings/c/cuddrewyn.h", "docs/EXPORTS.md", "docs/REFUSALS.md"
-TALLY, CALL_TEXT = "compare/src/tally.rs", "crates/call_text/src/refusals.rt"
+TALLY, CALL_TEXT = "compare/src/tally.rs", "crates/log_text/src/refusals.rt"
 NAMES = re.compile(r'(lines::word\(\s*b")([^"]*)(",\s*number,)')
 REACH = re.compile(r"^    \((\w+), &\[([\d, ]*)\], ", re.M)
 EXPORTED = re.compile(r"^(\| (?:`cuddrewyn_\w+`(?:, )?)+ \|.* \| )([^|]*)( \|)$", re.M)

@@ -1,6 +1,6 @@
 #!/usr/bin/env python3
-"""Check: holds the table of crates/schema/specs/Schema.antt to the Rust's pulsar.proto.rs: field, number, label and type of all eight messages; and the
-fields of a command that crates/command/specs/Shell.antt has, each message's number being that of its type too.
+"""Check: holds the table of crates/wire_schema/specs/Schema.antt to the Rust's pulsar.proto.rs: field, number, label and type of all eight messages; and the
+fields of a command that crates/wire_command/specs/Shell.antt has, each message's number being that of its type too.
 
     python3 tools/schema.py [--rust DIR]      DIR: the folder of the Rust's sources; by default CUDDREWYN_RUST, or ../shared/docs/src beside the repository
 
@@ -14,8 +14,8 @@ from pathlib import Path
 import usage
 
 ROOT = Path(__file__).resolve().parent.parent
-TABLE = ROOT / "crates/schema/specs/Schema.antt"
-COMMAND = ROOT / "crates/command/specs/Shell.antt"
+TABLE = ROOT / "crates/wire_schema/specs/Schema.antt"
+COMMAND = ROOT / "crates/wire_command/specs/Shell.antt"
 SOURCE = "crates/magnetar-proto/src/pb/pulsar.proto.rs"
 
 

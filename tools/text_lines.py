@@ -1,5 +1,5 @@
 #!/usr/bin/env python3
-"""Generator: the vectors of the text check, a part of crates/vectors/stdin: the rows of Unicode's Table 3-7 in their order (tools/text_vectors.py)."""
+"""Generator: the vectors of the text check, a part of crates/test_vectors/stdin: the rows of Unicode's Table 3-7 in their order (tools/text_vectors.py)."""
 import sys
 
 import usage

@@ -24,8 +24,8 @@ MARKS = {True: "-- Public: ", False: "-- Internal: "}
 STATEMENTS = {
     "1: each call equals its definition": ["crates/export/src/*.rt"],
     "2: what the Rust shows, the port shows": [
-        "crates/same_session/specs/Demand.antt", "crates/same_export/specs/DemandTwo.antt", "crates/same_watch/specs/Demand.antt", "crates/same_names/specs/*.antt"],
-    "3: station, sender and uploader hold the same": ["crates/session/specs/DemandThree.antt", "crates/same_export/specs/DemandThree.antt"],
+        "crates/rust_session/specs/Demand.antt", "crates/rust_export/specs/DemandTwo.antt", "crates/rust_watch/specs/Demand.antt", "crates/rust_names/specs/*.antt"],
+    "3: station, sender and uploader hold the same": ["crates/session/specs/DemandThree.antt", "crates/rust_export/specs/DemandThree.antt"],
     "all that docs/CLAIMS.md cites as a definition": [],
 }
 DEFINITION = re.compile(r"`(crates/\w+/specs/[\w/]+\.antt)[:`]")

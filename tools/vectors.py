@@ -32,9 +32,9 @@ from logs import argument
 from name_vectors import Refused
 
 CRATES = pathlib.Path(__file__).resolve().parent.parent / "crates"
-STDIN = CRATES / "vectors" / "stdin"
+STDIN = CRATES / "test_vectors" / "stdin"
 # the programs, and the most bytes that each reads
-PROGRAMS = {"vectors": 1048576, "key_vectors": 262144}
+PROGRAMS = {"test_vectors": 1048576, "test_keys": 262144}
 
 COMMANDS = name_vectors.COMMANDS | wire_vectors.COMMANDS | assignment_vectors.COMMANDS | watch_vectors.COMMANDS | key_vectors.COMMANDS
 # the logs of station in vectors/
@@ -91,7 +91,7 @@ def main():
     parser.add_argument("--write", action="store_true", help="write anew what is compared")
     write = parser.parse_args().write
     told = {program: check(program, write) for program in PROGRAMS}
-    if missing := text_vectors.missing(told["vectors"]):
+    if missing := text_vectors.missing(told["test_vectors"]):
         sys.exit(f"vectors: of the rows of Table 3-7 stdin does not have, or Python's decoder answers otherwise: {', '.join(missing)}")
     logs.check_all(LOGS, write)
 

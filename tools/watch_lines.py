@@ -1,5 +1,5 @@
 #!/usr/bin/env python3
-"""Generator: the vectors of the topics watch, a part of crates/vectors/stdin. The random ones come from one seed.
+"""Generator: the vectors of the topics watch, a part of crates/test_vectors/stdin. The random ones come from one seed.
 
 Sets are put into bytes by tools/watch_vectors.py, which judges what the program makes of them.
 """

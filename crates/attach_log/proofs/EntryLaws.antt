@@ -12,12 +12,12 @@ use lib.ListN.{length, drop, getD}
 use lib.Seq.{drop-drop}
 use lib.Dec.{eqb}
 use borrow.Author.Tests.{eq-eqb, ne-eqb}
-use Rattle.packed_int.specs.Be.{beAt}
-use Rattle.log_entries.specs.declared.Entry.{Entry}
-use Rattle.log_entries.specs.Log.{entryOf, entriesIn, clearIn}
-use Rattle.log_entries.specs.Follows.{sameEntry, hasEntry}
-use Rattle.log_entries.proofs.PassLaws.{has-found, has-further}
-use Rattle.log_rows.proofs.EntryLaws.{entry-number}
+use Rattle.slice_int.specs.Be.{beAt}
+use Rattle.attach_entries.specs.declared.Entry.{Entry}
+use Rattle.attach_entries.specs.Log.{entryOf, entriesIn, clearIn}
+use Rattle.attach_entries.specs.Follows.{sameEntry, hasEntry}
+use Rattle.attach_entries.proofs.PassLaws.{has-found, has-further}
+use Rattle.attach_rows.proofs.EntryLaws.{entry-number}
 
 -- ---- filling bits
 

@@ -14,23 +14,23 @@ use lib.ListN.{length, take, drop, length-drop}
 use lib.Seq.{drop-drop}
 use lib.Dec.{leb, eqb}
 use borrow.Author.Tests.{le-leb, lt-leb, eq-eqb, ne-eqb}
-use Rattle.parts.specs.BoolLaws.{both-true}
+use Rattle.slice.specs.BoolLaws.{both-true}
 use Rattle.refusal.specs.declared.Refusal.the-variants.{MalformedInput, InvalidLog}
 use Rattle.packed.specs.Assignment.{AssignedSegment, decodeSegments}
-use Rattle.delta.specs.Delta.{AssignmentDelta, decodeIds, decodeDelta, sizeDelta, okDelta, startsDelta}
-use Rattle.delta.proofs.RoundLaws.{Front}
-use Rattle.log_entries.specs.declared.Entry.{Entry}
-use Rattle.log_entries.specs.declared.Entry.the-variants.{Detach}
-use Rattle.log_entries.specs.declared.LogAnswer.the-variants.{Told, Refused}
-use Rattle.log_entries.specs.Log.{isNil, behind, areAtMost, deltasAtMost, areDeltas, deltasOf}
-use Rattle.log_entries.specs.Log.{entriesIn, logEntries, clearIn, isLog}
-use Rattle.log_entries.specs.Passes.{attachOf, detaches, attaches, Checked}
-use Rattle.log_entries.specs.Follows.{allIn, follows}
+use Rattle.packed_delta.specs.Delta.{AssignmentDelta, decodeIds, decodeDelta, sizeDelta, okDelta, startsDelta}
+use Rattle.packed_delta.proofs.RoundLaws.{Front}
+use Rattle.attach_entries.specs.declared.Entry.{Entry}
+use Rattle.attach_entries.specs.declared.Entry.the-variants.{Detach}
+use Rattle.attach_entries.specs.declared.LogAnswer.the-variants.{Told, Refused}
+use Rattle.attach_entries.specs.Log.{isNil, behind, areAtMost, deltasAtMost, areDeltas, deltasOf}
+use Rattle.attach_entries.specs.Log.{entriesIn, logEntries, clearIn, isLog}
+use Rattle.attach_entries.specs.Passes.{attachOf, detaches, attaches, Checked}
+use Rattle.attach_entries.specs.Follows.{allIn, follows}
 use Rattle.attach_log.specs.Steps.{partIn, deltaIn}
 use Rattle.attach_log.proofs.PartLaws.{attach-ids}
 use Rattle.attach_log.proofs.WalkLaws.{lost-count, gained-count, fits, not-nil, nil-end}
-use Rattle.log_rows.proofs.EntryLaws.{length-entries, take-entries, drop-entries}
-use Rattle.log_entries.proofs.PassLaws.{AllGood, follows-passes, passes-follows, not-both}
+use Rattle.attach_rows.proofs.EntryLaws.{length-entries, take-entries, drop-entries}
+use Rattle.attach_entries.proofs.PassLaws.{AllGood, follows-passes, passes-follows, not-both}
 
 -- ---- a delta's entries
 

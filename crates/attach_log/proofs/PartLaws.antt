@@ -14,18 +14,18 @@ use lib.ListN.{length, take, drop, set}
 use lib.Seq.{drop-drop}
 use lib.Dec.{leb}
 use borrow.Author.Tests.{le-leb}
-use Rattle.packed_int.specs.Be.{beAt}
+use Rattle.slice_int.specs.Be.{beAt}
 use Rattle.packed.specs.Assignment.{AssignedSegment, num, idOf, decodeSegment, decodeSegments, sizeSegment, okFrom}
 use Rattle.packed.proofs.AssignmentLaws.{size-least, segments-at, size-turn, ok-head, ok-tail}
-use Rattle.delta.specs.Delta.{decodeIds, idsFrom}
-use Rattle.delta.proofs.RoundLaws.{ids-at, ids-none}
-use Rattle.repeats.specs.Repeats.{risesFrom, rises}
-use Rattle.repeats.proofs.RowLaws.{rises-cons}
-use Rattle.log_entries.specs.declared.Entry.{Entry}
-use Rattle.log_entries.specs.Passes.{attachOf}
-use Rattle.log_entries.specs.Log.{entryOf, entriesIn}
-use Rattle.log_entries.specs.Follows.{sameEntry, hasEntry, allIn}
-use Rattle.log_rows.specs.Rows.{entryFor}
+use Rattle.packed_delta.specs.Delta.{decodeIds, idsFrom}
+use Rattle.packed_delta.proofs.RoundLaws.{ids-at, ids-none}
+use Rattle.intake_repeats.specs.Repeats.{risesFrom, rises}
+use Rattle.intake_repeats.proofs.RowLaws.{rises-cons}
+use Rattle.attach_entries.specs.declared.Entry.{Entry}
+use Rattle.attach_entries.specs.Passes.{attachOf}
+use Rattle.attach_entries.specs.Log.{entryOf, entriesIn}
+use Rattle.attach_entries.specs.Follows.{sameEntry, hasEntry, allIn}
+use Rattle.attach_rows.specs.Rows.{entryFor}
 use Rattle.attach_log.specs.declared.Loaded.{Loaded}
 use Rattle.attach_log.specs.Steps.{idsIn, sizeFirst, sizeIn, Loading, LoadedIs, partIn}
 use Rattle.attach_log.proofs.EntryLaws.{has-at}

@@ -14,10 +14,10 @@ use lib.Seq.{drop-drop}
 use borrow.Author.Tests.{eq-eqb, ne-eqb}
 use Rattle.packed.specs.Assignment.{AssignedSegment, decodeSegments}
 use Rattle.packed.proofs.AssignmentLaws.{length-segmentsOf}
-use Rattle.delta.specs.Delta.{decodeDelta, startsDelta}
-use Rattle.delta.proofs.RoundLaws.{length-idsOf, Front}
-use Rattle.delta.proofs.ShortLaws.{size-records}
-use Rattle.log_entries.specs.Log.{isNil, behind, areAtMost, areDeltas}
+use Rattle.packed_delta.specs.Delta.{decodeDelta, startsDelta}
+use Rattle.packed_delta.proofs.RoundLaws.{length-idsOf, Front}
+use Rattle.packed_delta.proofs.ShortLaws.{size-records}
+use Rattle.attach_entries.specs.Log.{isNil, behind, areAtMost, areDeltas}
 
 -- ---- the delta that was read
 

@@ -8,12 +8,12 @@ use mathlib.Core.Bool.{Bool, true, false, _&&_}
 use mathlib.Core.List.{List, _++_, map}
 use lib.ListN.{length, take, drop}
 use Rattle.packed.specs.Assignment.{idOf, decodeSegment, decodeSegments, sizeSegment, sizeSegments}
-use Rattle.delta.specs.Delta.{decodeIds}
-use Rattle.log_entries.specs.declared.Entry.the-variants.{Detach}
-use Rattle.log_entries.specs.Log.{entriesIn}
-use Rattle.log_entries.specs.Passes.{attachOf}
-use Rattle.log_entries.specs.Follows.{allIn}
-use Rattle.log_rows.specs.Rows.{entryFor}
+use Rattle.packed_delta.specs.Delta.{decodeIds}
+use Rattle.attach_entries.specs.declared.Entry.the-variants.{Detach}
+use Rattle.attach_entries.specs.Log.{entriesIn}
+use Rattle.attach_entries.specs.Passes.{attachOf}
+use Rattle.attach_entries.specs.Follows.{allIn}
+use Rattle.attach_rows.specs.Rows.{entryFor}
 use Rattle.attach_log.specs.declared.Loaded.{Loaded}
 
 -- the first n ids of a part

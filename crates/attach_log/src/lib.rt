@@ -7,15 +7,15 @@ ghost use mathlib.Core.Path.{_≡_};
 ghost use mathlib.Core.Bool.{true, false};
 ghost use Prim.Native.Nat.{_+_, _*_, _≤_, _<_};
 ghost use lib.ListN.{length, drop};
-ghost use Rattle.repeats.specs.Repeats.{rises};
+ghost use Rattle.intake_repeats.specs.Repeats.{rises};
 ghost use Rattle.packed.specs.Assignment.{decodeSegments, sizeSegments};
-ghost use Rattle.log_entries.specs.Log.{areDeltas, deltasOf, logEntries, clearIn};
-ghost use Rattle.log_entries.specs.Passes.{Checked};
-ghost use Rattle.log_entries.specs.Follows.{follows};
+ghost use Rattle.attach_entries.specs.Log.{areDeltas, deltasOf, logEntries, clearIn};
+ghost use Rattle.attach_entries.specs.Passes.{Checked};
+ghost use Rattle.attach_entries.specs.Follows.{follows};
 ghost use Rattle.attach_log.specs.Steps.{idsIn, sizeFirst, sizeIn, LoadedIs, partIn, deltaIn};
-use delta::FrontRead;
-use log_entries::ENTRY;
-use log_entries::LogAnswer;
+use attach_entries::ENTRY;
+use attach_entries::LogAnswer;
+use packed_delta::FrontRead;
 use refusal::Refusal;
 
 // Ids loaded into a row: how many, and the place behind them.
@@ -30,7 +30,7 @@ fn deltas_ok(s: &[u8]) -> bool
 {
     let mut p: usize = 0;
     while p < s.len() {
-        let FrontRead::Delta(_, _, size) = delta::read_front(&s[p..]) else {
+        let FrontRead::Delta(_, _, size) = packed_delta::read_front(&s[p..]) else {
             return false;
         };
         p = p + size;
@@ -46,7 +46,7 @@ fn filling_clear(log: &[u8], n: usize) -> bool
     let mut p: usize = 0;
     let mut left = n;
     while 0 < left {
-        if parts::wide(log[p + 8]) % 128 != 0 {
+        if slice::wide(log[p + 8]) % 128 != 0 {
             return false;
         }
         p = p + ENTRY;
@@ -60,7 +60,11 @@ fn size_first(s: &[u8], p: usize, attach: bool) -> usize
     requires { ⌜ p + sizeFirst attach (drop p (now s)) ≤ length (now s) ⌝ }
     ensures { λ r. ⌜ r ≡ sizeFirst attach (drop p (now (s .entry))) ⌝ }
 {
-    if attach { records::size_at(s, p) } else { 8 }
+    if attach {
+        packed_records::size_at(s, p)
+    } else {
+        8
+    }
 }
 
 // Loads the ids of a part into a row, at most n and as many as it has places.
@@ -75,7 +79,7 @@ fn load_row(s: &[u8], at: usize, n: usize, attach: bool, ids: &mut [u64]) -> Loa
         if n <= count {
             return Loaded { count, next };
         }
-        ids[count] = packed_int::read_u64(s, next);
+        ids[count] = slice_int::read_u64(s, next);
         next = next + size_first(s, next, attach);
         count = count + 1;
     }
@@ -88,13 +92,13 @@ fn rows_in(s: &[u8], at: usize, n: usize, attach: bool, log: &[u8], q: usize, m:
     requires { ⌜ q + 9 * m ≤ length (now log) ⌝ }
     ensures { λ r. ⌜ r ≡ partIn attach (now (s .entry)) at n (now (log .entry)) q m ⌝ }
 {
-    let mut ids = [0u64; log_rows::ROW];
+    let mut ids = [0u64; attach_rows::ROW];
     let mut p = at;
     let mut left = n;
     while 0 < left {
         let row = load_row(s, p, left, attach, &mut ids);
         let count = row.count;
-        if !log_rows::row_in(log, q, m, attach, &ids[..count]) {
+        if !attach_rows::row_in(log, q, m, attach, &ids[..count]) {
             return false;
         }
         p = row.next;
@@ -113,8 +117,8 @@ fn part_in(s: &[u8], at: usize, n: usize, attach: bool, log: &[u8], q: usize) ->
     let mut p = at;
     let mut left = n;
     while 0 < left {
-        let id = packed_int::read_u64(s, p);
-        if !log_rows::is_entry(log, q + ENTRY * (n - left), attach, id) {
+        let id = slice_int::read_u64(s, p);
+        if !attach_rows::is_entry(log, q + ENTRY * (n - left), attach, id) {
             return rows_in(s, p, left, attach, log, q, n);
         }
         p = p + size_first(s, p, attach);
@@ -131,10 +135,10 @@ fn delta_in(s: &[u8], lost: usize, gained: usize, log: &[u8], q: usize) -> bool
         × (rises (idsIn true gained (drop (12 + 8 * lost) (now s))) ≡ true) ⌝ }
     ensures { λ r. ⌜ r ≡ deltaIn (now (s .entry)) lost gained (drop q (now (log .entry))) ⌝ }
 {
-    if part_in(s, delta::HEAD, lost, false, log, q) {
+    if part_in(s, packed_delta::HEAD, lost, false, log, q) {
         part_in(
             s,
-            delta::HEAD + 8 * lost,
+            packed_delta::HEAD + 8 * lost,
             gained,
             true,
             log,
@@ -155,7 +159,7 @@ fn log_follows(deltas: &[u8], log: &[u8]) -> bool
     let mut left = log.len() / ENTRY;
     while p < deltas.len() {
         let s = &deltas[p..];
-        let FrontRead::Delta(lost, gained, size) = delta::read_front(s) else {
+        let FrontRead::Delta(lost, gained, size) = packed_delta::read_front(s) else {
             return false;
         };
         if left < lost + gained {

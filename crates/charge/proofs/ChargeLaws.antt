@@ -13,11 +13,11 @@ use mathlib.Core.List.{List, _∷_}
 use lib.ListN.{length, drop}
 use lib.Dec.{leb, eqb}
 use borrow.Author.Tests.{le-leb, lt-leb, leb-true, eq-eqb, ne-eqb, eqb-true}
-use Rattle.parts.specs.BoolLaws.{both-true}
+use Rattle.slice.specs.BoolLaws.{both-true}
 use Rattle.types.specs.declared.KeyRange.{KeyRange}
 use Rattle.refusal.specs.declared.Refusal.the-variants.{MalformedInput, ChargeTooLarge}
-use Rattle.key_range.specs.Calls.{valuesIn}
-use Rattle.packed_int.specs.Be.{beAt}
+use Rattle.ranges_calls.specs.Calls.{valuesIn}
+use Rattle.slice_int.specs.Be.{beAt}
 use Rattle.packed.specs.Assignment.{decodeRange, decodeRanges, decodeSegment, sizeSegment, inOrder, allInOrder, okBuckets, okSegment}
 use Rattle.packed.specs.Answers.{recordGood, recordRead}
 use Rattle.packed.specs.declared.RecordRead.the-variants as read

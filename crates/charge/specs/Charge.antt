@@ -12,7 +12,7 @@ use lib.Dec.{leb, eqb}
 use Rattle.types.specs.declared.KeyRange.{KeyRange}
 use Rattle.refusal.specs.declared.Refusal.the-variants.{MalformedInput, ChargeTooLarge}
 use Rattle.refusal.specs.Steps.{_>>_, refuseIf}
-use Rattle.key_range.specs.Calls.{valuesIn}
+use Rattle.ranges_calls.specs.Calls.{valuesIn}
 use Rattle.packed.specs.Assignment.{AssignedSegment, decodeSegment, sizeSegment, okSegment}
 use Rattle.charge.specs.declared.ChargeAnswer.{ChargeAnswer}
 use Rattle.charge.specs.declared.ChargeAnswer.the-variants.{Charged, Refused}

@@ -6,7 +6,7 @@ use mathlib.Core.Path.{_≡_, refl}
 use mathlib.Core.List.{List, [], _∷_, _++_}
 use Rattle.ranges.specs.Overlap.{overlapsAny, anyOverlap}
 use Rattle.refusal.specs.declared.Refusal.the-variants.{MalformedInput, ChargeTooLarge}
-use Rattle.packed_int.specs.Be.{beFrom, be}
+use Rattle.slice_int.specs.Be.{beFrom, be}
 use Rattle.packed.specs.Assignment.{num, decodeRange, decodeRanges, decodeSegment, sizeSegment, allInOrder, okBuckets, okSegment}
 use Rattle.charge.specs.declared.ChargeAnswer.the-variants.{Charged, Refused}
 use Rattle.charge.specs.Charge.{divisor, isSegment, lengthsOf, heldIn, valuesHeld, costOf, tooLarge, chargeOf}

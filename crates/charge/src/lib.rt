@@ -6,7 +6,7 @@ ghost use mathlib.Core.Path.{_≡_};
 ghost use mathlib.Core.Bool.{true};
 ghost use Prim.Native.Nat.{_+_, _*_, _≤_, _<_};
 ghost use lib.ListN.{length, drop};
-ghost use Rattle.key_range.specs.Calls.{valuesIn};
+ghost use Rattle.ranges_calls.specs.Calls.{valuesIn};
 ghost use Rattle.packed.specs.Assignment.{decodeRanges, allInOrder};
 ghost use Rattle.charge.specs.Charge.{lengthsOf, holdsOf, productOf, chargeOf};
 use packed::RecordRead;
@@ -74,7 +74,7 @@ fn values_held(segment: &[u8]) -> Holds
     if size != end {
         return Holds::Malformed;
     }
-    let count = packed_int::read_u16(segment, 12) as usize;
+    let count = slice_int::read_u16(segment, 12) as usize;
     if count == 0 {
         Holds::Values(range_length(packed::range_at(segment, 8)))
     } else {

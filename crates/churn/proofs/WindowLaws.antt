@@ -12,12 +12,12 @@ use mathlib.Core.List.{List, [], _∷_, _++_}
 use lib.ListN.{length, drop, set, length-drop}
 use lib.Dec.{leb, ltb}
 use borrow.Author.Tests.{le-leb, lt-leb, leb-true, lt-ltb, le-ltb, ltb-true, ltb-false}
-use Rattle.parts.specs.BoolLaws.{both-true}
+use Rattle.slice.specs.BoolLaws.{both-true}
 use Rattle.refusal.specs.declared.Refusal.the-variants.{InvalidWindow}
-use Rattle.packed_int.specs.Be.{beAt, bytesOf}
-use Rattle.packed_int.specs.Put.{put}
-use Rattle.packed_int.proofs.BeLaws.{length-bytesOf}
-use Rattle.packed_int.proofs.PutLaws.{length-put}
+use Rattle.slice_int.specs.Be.{beAt, bytesOf}
+use Rattle.slice_int.specs.Put.{put}
+use Rattle.slice_int.proofs.BeLaws.{length-bytesOf}
+use Rattle.slice_int.proofs.PutLaws.{length-put}
 use Rattle.churn.specs.declared.Totals.{Totals}
 use Rattle.churn.specs.declared.ChurnAnswer.the-variants.{Counted, Refused}
 use Rattle.churn.specs.Window.{places, countsIn, markOf, rowOf, isWindow, heldIn, countsOf, nextMark, pushed, cleared}

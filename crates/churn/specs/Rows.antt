@@ -10,7 +10,7 @@ use lib.Dec.{ltb}
 use Rattle.refusal.specs.declared.Refusal.the-variants.{InvalidWindow}
 use Rattle.churn.specs.declared.ChurnAnswer.{ChurnAnswer}
 use Rattle.churn.specs.declared.ChurnAnswer.the-variants.{Counted, Refused}
-use Rattle.packed_int.specs.Be.{beFrom, be, beAt}
+use Rattle.slice_int.specs.Be.{beFrom, be, beAt}
 use Rattle.churn.specs.Window.{places, windowSize, markOf, rowOf, countsIn, isWindow, heldIn, countsOf}
 use Rattle.churn.specs.Churn.{sumOf, largestOf, totalsOf}
 use Rattle.churn.specs.Fresh.{Step, EmptyWindow, latest, after, keptAfter, reckoning, freshAnswer, freshAnswers}

@@ -14,8 +14,8 @@ use lib.ListN.{length, getD, drop, drop-of-length-le}
 use lib.Seq.{drop-cons}
 use lib.Dec.{eqb, lit<}
 use lib.Bits.{differ}
-use Rattle.murmur3.specs.Words.{xor}
-use Rattle.test_key.proofs.XorLaws.{xor-none-l, xor-word}
+use Rattle.key_murmur3.specs.Words.{xor}
+use Rattle.key_for_hash.proofs.XorLaws.{xor-none-l, xor-word}
 use Rattle.crc32.specs.Crc.{polynomial, step, steps, update, updates}
 use Rattle.crc32.proofs.XorLaws.{xor-assoc, xor-comm, xor-half, xor-odd, xor-high, xor-cut, xor-same, xor-none-r}
 

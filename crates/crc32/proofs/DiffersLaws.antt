@@ -10,9 +10,9 @@ use mathlib.Core.List.{List, [], _∷_}
 use lib.ListN.{length, getD, set}
 use lib.Dec.{eqb, lit<}
 use borrow.Author.Tests.{eqb-false}
-use Rattle.murmur3.specs.Words.{xor}
-use Rattle.test_key.proofs.XorLaws.{xor-again, xor-word}
-use Rattle.parts.specs.Bytes.{Bytes}
+use Rattle.key_murmur3.specs.Words.{xor}
+use Rattle.key_for_hash.proofs.XorLaws.{xor-again, xor-word}
+use Rattle.slice.specs.Bytes.{Bytes}
 use Rattle.crc32.specs.Crc.{polynomial, step, steps, update, updates, crc32}
 use Rattle.crc32.specs.Differs.{Injective, OneByteTold}
 use Rattle.crc32.proofs.XorLaws.{xor-comm, xor-same, xor-zero, xor-cancel}

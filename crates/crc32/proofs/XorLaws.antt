@@ -1,4 +1,4 @@
--- Laws of `xor` besides those of crates/test_key: its order and grouping, its parts, and when it is 0.
+-- Laws of `xor` besides those of crates/key_for_hash: its order and grouping, its parts, and when it is 0.
 --
 -- In order: grouping (`xor-assoc`) and exchange (`xor-comm`); halves and lowest bits (`xor-half`, `xor-odd`); a number cut in two (`xor-cut`);
 -- a xor that is 0 (`xor-same`, `xor-zero`).
@@ -11,8 +11,8 @@ use lib.Arith.{bin-ind, digits-div, digits-mod}
 use lib.Dec.{lit<}
 use lib.Bits as bits
 use lib.Bits.{bitXor, differ, xor-step, xor-zero-l, xor-zero-r, xor-shr, xor-mod, xor-shifted, xor-self}
-use Rattle.murmur3.specs.Words.{xor}
-use Rattle.test_key.proofs.XorLaws.{xor-again}
+use Rattle.key_murmur3.specs.Words.{xor}
+use Rattle.key_for_hash.proofs.XorLaws.{xor-again}
 
 -- ---- grouping
 

@@ -9,7 +9,7 @@ use mathlib.Core.Bool.{cond}
 use mathlib.Core.List.{List, [], _∷_}
 use lib.ListN.{getD}
 use lib.Dec.{eqb}
-use Rattle.murmur3.specs.Words.{xor}
+use Rattle.key_murmur3.specs.Words.{xor}
 
 -- the polynomial, lowest power in the highest bit
 abbrev pub polynomial : ℕ

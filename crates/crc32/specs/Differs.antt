@@ -4,7 +4,7 @@ use Prim.Native.Nat.{ℕ, _^_, _<_}
 use mathlib.Core.Path.{_≡_}
 use mathlib.Core.List.{List}
 use lib.ListN.{length, getD, set}
-use Rattle.parts.specs.Bytes.{Bytes}
+use Rattle.slice.specs.Bytes.{Bytes}
 use Rattle.crc32.specs.Crc.{update, crc32}
 
 -- a state with a byte taken in tells the state, and the byte

@@ -5,7 +5,7 @@
 use Prim.Native.Nat.{ℕ}
 use mathlib.Core.Path.{_≡_, refl}
 use mathlib.Core.List.{List, [], _∷_}
-use Rattle.murmur3.specs.Words.{xor}
+use Rattle.key_murmur3.specs.Words.{xor}
 use Rattle.crc32.specs.Crc.{step, steps, update, updates, crc32}
 
 -- "123456789"

@@ -11,14 +11,14 @@ use mir.Facts.{toZ-ofZ}
 use Rattle.types.specs.declared.ScalableConsumerType.{ScalableConsumerType}
 use Rattle.types.specs.declared.ScalableConsumerType.the-variants.{Stream, Checkpoint}
 use Rattle.types.specs.ConsumerTypes.{toWire}
-use Rattle.topic.specs.declared.NameAnswer.{NameAnswer}
-use Rattle.topic.specs.Build as build
+use Rattle.name_topic.specs.declared.NameAnswer.{NameAnswer}
+use Rattle.name_topic.specs.Build as build
 use Rattle.output.specs.declared.WriteAnswer.{WriteAnswer}
 use Rattle.output.specs.Output as output
 use Rattle.churn.specs.declared.ChurnAnswer.{ChurnAnswer}
 use Rattle.churn.specs.Churn as window
-use Rattle.log_entries.specs.declared.LogAnswer.{LogAnswer}
-use Rattle.log_entries.specs.Passes.{Checked}
+use Rattle.attach_entries.specs.declared.LogAnswer.{LogAnswer}
+use Rattle.attach_entries.specs.Passes.{Checked}
 use Rattle.session.specs.declared.SessionRecord.{SessionRecord}
 use Rattle.session.specs.declared.Answer.{Answer}
 use Rattle.session.specs.Calls.{OpenOutcome}
@@ -26,10 +26,10 @@ use Rattle.hours.specs.declared.EarliestAnswer.{EarliestAnswer}
 use Rattle.hours.specs.Hours.{Earliest}
 use Rattle.watch.specs.declared.WatchAnswer.{WatchAnswer}
 use Rattle.watch.specs.Watch as watch
-use Rattle.reply.specs.declared.Reply.{Reply}
-use Rattle.session_reply.specs.declared.SessionReply.{SessionReply}
-use Rattle.session_reply.specs.Replies.{openReply}
-use Rattle.session_reply.specs.Exported.{Opening, openOf}
+use Rattle.export_reply.specs.declared.Reply.{Reply}
+use Rattle.export_record.specs.declared.SessionReply.{SessionReply}
+use Rattle.export_record.specs.Replies.{openReply}
+use Rattle.export_record.specs.Exported.{Opening, openOf}
 use Rattle.export.specs.Exports.{Output, writeReply, writeOf, nameReply, nameOf}
 use Rattle.export.specs.Exports.{Watched, watchReply, watchOf, earliestReply, EarliestReply, logReply, LogReply}
 use Rattle.export.specs.Exports.{Windowed, churnReply, windowOf}

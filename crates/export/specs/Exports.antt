@@ -4,23 +4,23 @@ use Prim.Native.Nat.{ℕ}
 use mathlib.Core.Path.{_≡_}
 use mathlib.Core.List.{List, [], _∷_}
 use lib.IntN.{pos}
-use Rattle.key_range.specs.declared.LengthAnswer.{LengthAnswer}
-use Rattle.key_range.specs.declared.LengthAnswer.the-variants as length′
-use Rattle.key_range.specs.declared.TestAnswer.{TestAnswer}
-use Rattle.key_range.specs.declared.TestAnswer.the-variants as test
-use Rattle.topic.specs.declared.NameAnswer.{NameAnswer}
-use Rattle.topic.specs.declared.NameAnswer.the-variants as name
-use Rattle.topic.specs.Build as build
-use Rattle.segment_source.specs.declared.SourceAnswer.{SourceAnswer}
-use Rattle.segment_source.specs.declared.SourceAnswer.the-variants as source
+use Rattle.ranges_calls.specs.declared.LengthAnswer.{LengthAnswer}
+use Rattle.ranges_calls.specs.declared.LengthAnswer.the-variants as length′
+use Rattle.ranges_calls.specs.declared.TestAnswer.{TestAnswer}
+use Rattle.ranges_calls.specs.declared.TestAnswer.the-variants as test
+use Rattle.name_topic.specs.declared.NameAnswer.{NameAnswer}
+use Rattle.name_topic.specs.declared.NameAnswer.the-variants as name
+use Rattle.name_topic.specs.Build as build
+use Rattle.name_source.specs.declared.SourceAnswer.{SourceAnswer}
+use Rattle.name_source.specs.declared.SourceAnswer.the-variants as source
 use Rattle.output.specs.declared.WriteAnswer.{WriteAnswer}
 use Rattle.output.specs.declared.WriteAnswer.the-variants as write
 use Rattle.output.specs.Output as output
-use Rattle.lookup.specs.declared.SegmentAnswer.{SegmentAnswer}
-use Rattle.lookup.specs.declared.SegmentAnswer.the-variants as segment
-use Rattle.test_key.specs.declared.TestKey.{TestKey}
-use Rattle.segment_key.specs.declared.KeyAnswer.{KeyAnswer}
-use Rattle.segment_key.specs.declared.KeyAnswer.the-variants as key
+use Rattle.key_lookup.specs.declared.SegmentAnswer.{SegmentAnswer}
+use Rattle.key_lookup.specs.declared.SegmentAnswer.the-variants as segment
+use Rattle.key_for_hash.specs.declared.TestKey.{TestKey}
+use Rattle.key_in_segment.specs.declared.KeyAnswer.{KeyAnswer}
+use Rattle.key_in_segment.specs.declared.KeyAnswer.the-variants as key
 use Rattle.charge.specs.declared.ChargeAnswer.{ChargeAnswer}
 use Rattle.charge.specs.declared.ChargeAnswer.the-variants as charge
 use Rattle.churn.specs.declared.ChurnAnswer.{ChurnAnswer}
@@ -31,16 +31,16 @@ use Rattle.hours.specs.declared.OpenAnswer.the-variants as hours
 use Rattle.hours.specs.declared.EarliestAnswer.{EarliestAnswer}
 use Rattle.hours.specs.declared.EarliestAnswer.the-variants as earliest
 use Rattle.hours.specs.Hours.{Earliest}
-use Rattle.log_entries.specs.declared.LogAnswer.{LogAnswer}
-use Rattle.log_entries.specs.declared.LogAnswer.the-variants as log
-use Rattle.log_entries.specs.Passes.{Checked}
+use Rattle.attach_entries.specs.declared.LogAnswer.{LogAnswer}
+use Rattle.attach_entries.specs.declared.LogAnswer.the-variants as log
+use Rattle.attach_entries.specs.Passes.{Checked}
 use Rattle.session.specs.declared.Match.{Match}
 use Rattle.session.specs.declared.Match.the-variants as match′
 use Rattle.watch.specs.declared.WatchAnswer.{WatchAnswer}
 use Rattle.watch.specs.declared.WatchAnswer.the-variants as change
 use Rattle.watch.specs.Watch as watch
-use Rattle.reply.specs.declared.Reply.{Reply}
-use Rattle.reply.specs.Replies.{written, yes, no, found, refusedReply, takenReply, testReply}
+use Rattle.export_reply.specs.declared.Reply.{Reply}
+use Rattle.export_reply.specs.Replies.{written, yes, no, found, refusedReply, takenReply, testReply}
 
 -- ---- answers in numbers
 

@@ -3,14 +3,14 @@ ghost use mathlib.Core.Path.{_≡_};
 ghost use Rattle.churn.specs.Churn.{push, clear, current};
 ghost use Rattle.export.specs.Exports.{churnReply, windowOf};
 use churn::ChurnAnswer;
-use reply::Reply;
+use export_reply::Reply;
 
 fn churn_reply(a: ChurnAnswer) -> Reply
     ensures { λ x. ⌜ x ≡ churnReply a ⌝ }
 {
     match a {
-        ChurnAnswer::Counted(t) => reply::two(reply::FOUND, t.sum, t.largest),
-        ChurnAnswer::Refused(x) => reply::refused(x),
+        ChurnAnswer::Counted(t) => export_reply::two(export_reply::FOUND, t.sum, t.largest),
+        ChurnAnswer::Refused(x) => export_reply::refused(x),
     }
 }
 

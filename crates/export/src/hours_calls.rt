@@ -2,9 +2,9 @@
 ghost use mathlib.Core.Path.{_≡_};
 ghost use Rattle.hours.specs.Hours.{openAnswer};
 ghost use Rattle.export.specs.Exports.{hoursReply, EarliestReply};
+use export_reply::Reply;
 use hours::EarliestAnswer;
 use hours::OpenAnswer;
-use reply::Reply;
 
 // Whether a second is open by the contract.
 #[no_mangle]
@@ -12,8 +12,8 @@ pub extern "C" fn cuddrewyn_is_open(contract: &[u8], second: u64) -> Reply
     ensures { λ x. ⌜ x ≡ hoursReply (openAnswer (now (contract .entry)) second) ⌝ }
 {
     match hours::is_open(contract, second) {
-        OpenAnswer::Told(b) => reply::test(b),
-        OpenAnswer::Refused(x) => reply::refused(x),
+        OpenAnswer::Told(b) => export_reply::test(b),
+        OpenAnswer::Refused(x) => export_reply::refused(x),
     }
 }
 
@@ -23,8 +23,8 @@ pub extern "C" fn cuddrewyn_earliest_open(contract: &[u8], second: u64) -> Reply
     ensures { λ x. ⌜ EarliestReply (now (contract .entry)) second x ⌝ }
 {
     match hours::earliest_open(contract, second) {
-        EarliestAnswer::At(s) => reply::one(reply::FOUND, s),
-        EarliestAnswer::NoneOpen => reply::plain(reply::NO),
-        EarliestAnswer::Refused(x) => reply::refused(x),
+        EarliestAnswer::At(s) => export_reply::one(export_reply::FOUND, s),
+        EarliestAnswer::NoneOpen => export_reply::plain(export_reply::NO),
+        EarliestAnswer::Refused(x) => export_reply::refused(x),
     }
 }

@@ -1,13 +1,13 @@
 // Keys: the segment that takes one, the one that has a hash, and one that falls in a segment.
 ghost use mathlib.Core.Path.{_≡_};
-ghost use Rattle.lookup.specs.Lookup.{segmentForKey};
-ghost use Rattle.test_key.specs.Inverse.{keyForHash};
-ghost use Rattle.segment_key.specs.SegmentKey.{keyInSegment};
+ghost use Rattle.key_lookup.specs.Lookup.{segmentForKey};
+ghost use Rattle.key_for_hash.specs.Inverse.{keyForHash};
+ghost use Rattle.key_in_segment.specs.SegmentKey.{keyInSegment};
 ghost use Rattle.export.specs.Exports.{segmentReply, keyReply, keyInReply};
-use lookup::SegmentAnswer;
-use reply::Reply;
-use segment_key::KeyAnswer;
-use test_key::TestKey;
+use export_reply::Reply;
+use key_for_hash::TestKey;
+use key_in_segment::KeyAnswer;
+use key_lookup::SegmentAnswer;
 use types::SegmentId;
 
 // The id of the segment of a list that takes a key.
@@ -15,10 +15,10 @@ use types::SegmentId;
 pub extern "C" fn cuddrewyn_segment_for_key(key: &[u8], assignment: &[u8]) -> Reply
     ensures { λ x. ⌜ x ≡ segmentReply (segmentForKey (now (key .entry)) (now (assignment .entry))) ⌝ }
 {
-    match lookup::segment_for_key(key, assignment) {
-        SegmentAnswer::Segment(id) => reply::one(reply::FOUND, id.0),
-        SegmentAnswer::NoSegment => reply::plain(reply::NO),
-        SegmentAnswer::Refused(x) => reply::refused(x),
+    match key_lookup::segment_for_key(key, assignment) {
+        SegmentAnswer::Segment(id) => export_reply::one(export_reply::FOUND, id.0),
+        SegmentAnswer::NoSegment => export_reply::plain(export_reply::NO),
+        SegmentAnswer::Refused(x) => export_reply::refused(x),
     }
 }
 
@@ -27,7 +27,7 @@ fn key_reply(k: TestKey) -> Reply
     ensures { λ x. ⌜ x ≡ keyReply k ⌝ }
 {
     Reply {
-        answer: reply::FOUND,
+        answer: export_reply::FOUND,
         number: 0,
         count: 4,
         first: k.first as u64,
@@ -42,7 +42,7 @@ fn key_reply(k: TestKey) -> Reply
 pub extern "C" fn cuddrewyn_key_for_hash(hash: u32) -> Reply
     ensures { λ x. ⌜ x ≡ keyReply (keyForHash hash) ⌝ }
 {
-    key_reply(test_key::key_for_hash(hash))
+    key_reply(key_for_hash::key_for_hash(hash))
 }
 
 // The four-byte key with the smallest hash that a segment of a list takes.
@@ -50,9 +50,9 @@ pub extern "C" fn cuddrewyn_key_for_hash(hash: u32) -> Reply
 pub extern "C" fn cuddrewyn_key_in_segment(assignment: &[u8], segment_id: u64) -> Reply
     ensures { λ x. ⌜ x ≡ keyInReply (keyInSegment (now (assignment .entry)) «segment_id») ⌝ }
 {
-    match segment_key::key_in_segment(assignment, SegmentId(segment_id)) {
+    match key_in_segment::key_in_segment(assignment, SegmentId(segment_id)) {
         KeyAnswer::Key(k) => key_reply(k),
-        KeyAnswer::NoKey => reply::plain(reply::NO),
-        KeyAnswer::Refused(x) => reply::refused(x),
+        KeyAnswer::NoKey => export_reply::plain(export_reply::NO),
+        KeyAnswer::Refused(x) => export_reply::refused(x),
     }
 }

@@ -1,18 +1,18 @@
 // Apply, join and the wire writer.
 ghost use mathlib.Core.Path.{_≡_};
-ghost use Rattle.apply.specs.ApplyOutcome.{applyOutcome};
-ghost use Rattle.join.specs.JoinOutcome.{joinOutcome};
+ghost use Rattle.packed_apply.specs.ApplyOutcome.{applyOutcome};
+ghost use Rattle.packed_join.specs.JoinOutcome.{joinOutcome};
 ghost use Rattle.writer.specs.Write.{writeOutcome};
 ghost use Rattle.export.specs.Exports.{writeReply, writeOf};
+use export_reply::Reply;
 use output::WriteAnswer;
-use reply::Reply;
 
 pub fn write_reply(a: WriteAnswer) -> Reply
     ensures { λ x. ⌜ x ≡ writeReply a ⌝ }
 {
     match a {
-        WriteAnswer::Written(n) => reply::one(reply::WRITTEN, n as u64),
-        WriteAnswer::Refused(x) => reply::refused(x),
+        WriteAnswer::Written(n) => export_reply::one(export_reply::WRITTEN, n as u64),
+        WriteAnswer::Refused(x) => export_reply::refused(x),
     }
 }
 
@@ -22,7 +22,7 @@ pub extern "C" fn cuddrewyn_apply(assignment: &[u8], delta: &[u8], out: &mut [u8
     ensures { λ x. ⌜ record { reply = x; out = now (out .exit) }
         ≡ writeOf (applyOutcome (now (assignment .entry)) (now (delta .entry)) (now (out .entry))) ⌝ }
 {
-    write_reply(apply::apply(assignment, delta, out))
+    write_reply(packed_apply::apply(assignment, delta, out))
 }
 
 // The delta that has the effect of d, then e.
@@ -31,7 +31,7 @@ pub extern "C" fn cuddrewyn_join(d: &[u8], e: &[u8], out: &mut [u8]) -> Reply
     ensures { λ x. ⌜ record { reply = x; out = now (out .exit) }
         ≡ writeOf (joinOutcome (now (d .entry)) (now (e .entry)) (now (out .entry))) ⌝ }
 {
-    write_reply(join::join(d, e, out))
+    write_reply(packed_join::join(d, e, out))
 }
 
 // A list as the message ScalableConsumerAssignment: `to_pb`.

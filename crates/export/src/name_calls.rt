@@ -1,19 +1,19 @@
 // Names of segments.
 ghost use mathlib.Core.Path.{_≡_};
-ghost use Rattle.topic.specs.Build.{canonicalSegmentTopic};
-ghost use Rattle.segment_source.specs.Parse.{segmentSource, parentTopic};
+ghost use Rattle.name_topic.specs.Build.{canonicalSegmentTopic};
+ghost use Rattle.name_source.specs.Parse.{segmentSource, parentTopic};
 ghost use Rattle.export.specs.Exports.{nameReply, nameOf, sourceReply};
-use reply::Reply;
-use segment_source::SourceAnswer;
-use topic::NameAnswer;
+use export_reply::Reply;
+use name_source::SourceAnswer;
+use name_topic::NameAnswer;
 use types::SegmentId;
 
 fn name_reply(a: NameAnswer) -> Reply
     ensures { λ x. ⌜ x ≡ nameReply a ⌝ }
 {
     match a {
-        NameAnswer::Written(n) => reply::one(reply::WRITTEN, n as u64),
-        NameAnswer::Refused(x) => reply::refused(x),
+        NameAnswer::Written(n) => export_reply::one(export_reply::WRITTEN, n as u64),
+        NameAnswer::Refused(x) => export_reply::refused(x),
     }
 }
 
@@ -29,7 +29,7 @@ pub extern "C" fn cuddrewyn_segment_topic(
     ensures { λ x. ⌜ record { reply = x; out = now (out .exit) }
         ≡ nameOf (canonicalSegmentTopic (now (parent .entry)) start end (record { 0 = «segment_id» }) (now (out .entry))) ⌝ }
 {
-    name_reply(topic::canonical_segment_topic(parent, start, end, SegmentId(segment_id), out))
+    name_reply(name_topic::canonical_segment_topic(parent, start, end, SegmentId(segment_id), out))
 }
 
 // The range in a segment's name: `SegmentSource::new`.
@@ -37,12 +37,12 @@ pub extern "C" fn cuddrewyn_segment_topic(
 pub extern "C" fn cuddrewyn_segment_source(segment_id: u64, topic: &[u8]) -> Reply
     ensures { λ x. ⌜ x ≡ sourceReply (segmentSource (record { 0 = «segment_id» }) (now (topic .entry))) ⌝ }
 {
-    match segment_source::segment_source(SegmentId(segment_id), topic) {
+    match name_source::segment_source(SegmentId(segment_id), topic) {
         SourceAnswer::Source(s) => {
             let range = s.key_range;
-            reply::two(reply::FOUND, range.start as u64, range.end as u64)
+            export_reply::two(export_reply::FOUND, range.start as u64, range.end as u64)
         }
-        SourceAnswer::Refused(x) => reply::refused(x),
+        SourceAnswer::Refused(x) => export_reply::refused(x),
     }
 }
 
@@ -52,5 +52,5 @@ pub extern "C" fn cuddrewyn_parent_topic(topic: &[u8], out: &mut [u8]) -> Reply
     ensures { λ x. ⌜ record { reply = x; out = now (out .exit) }
         ≡ nameOf (parentTopic (now (topic .entry)) (now (out .entry))) ⌝ }
 {
-    name_reply(segment_source::parent_topic(topic, out))
+    name_reply(name_source::parent_topic(topic, out))
 }

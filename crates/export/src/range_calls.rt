@@ -1,19 +1,19 @@
 // `KeyRange` calls, and the consumer's kind.
 ghost use mathlib.Core.Path.{_≡_};
 ghost use Rattle.types.specs.ConsumerTypes.{fromWire, toWire};
-ghost use Rattle.key_range.specs.Calls.{lengthOf, containsOf, containsRangeOf, isAdjacentOf};
+ghost use Rattle.ranges_calls.specs.Calls.{lengthOf, containsOf, containsRangeOf, isAdjacentOf};
 ghost use Rattle.export.specs.Exports.{lengthReply, toldReply};
-use key_range::LengthAnswer;
-use key_range::TestAnswer;
-use reply::Reply;
+use export_reply::Reply;
+use ranges_calls::LengthAnswer;
+use ranges_calls::TestAnswer;
 use types::ScalableConsumerType;
 
 fn told_reply(a: TestAnswer) -> Reply
     ensures { λ x. ⌜ x ≡ toldReply a ⌝ }
 {
     match a {
-        TestAnswer::Told(b) => reply::test(b),
-        TestAnswer::Refused(x) => reply::refused(x),
+        TestAnswer::Told(b) => export_reply::test(b),
+        TestAnswer::Refused(x) => export_reply::refused(x),
     }
 }
 
@@ -22,9 +22,9 @@ fn told_reply(a: TestAnswer) -> Reply
 pub extern "C" fn cuddrewyn_range_len(start: u32, end: u32) -> Reply
     ensures { λ x. ⌜ x ≡ lengthReply (lengthOf start end) ⌝ }
 {
-    match key_range::len(start, end) {
-        LengthAnswer::Length(n) => reply::one(reply::FOUND, n as u64),
-        LengthAnswer::Refused(x) => reply::refused(x),
+    match ranges_calls::len(start, end) {
+        LengthAnswer::Length(n) => export_reply::one(export_reply::FOUND, n as u64),
+        LengthAnswer::Refused(x) => export_reply::refused(x),
     }
 }
 
@@ -33,7 +33,7 @@ pub extern "C" fn cuddrewyn_range_len(start: u32, end: u32) -> Reply
 pub extern "C" fn cuddrewyn_range_contains(start: u32, end: u32, hash: u32) -> Reply
     ensures { λ x. ⌜ x ≡ toldReply (containsOf start end hash) ⌝ }
 {
-    told_reply(key_range::contains(start, end, hash))
+    told_reply(ranges_calls::contains(start, end, hash))
 }
 
 // Whether a range has every value of another: `KeyRange::contains_range`.
@@ -46,7 +46,7 @@ pub extern "C" fn cuddrewyn_range_contains_range(
 ) -> Reply
     ensures { λ x. ⌜ x ≡ toldReply (containsRangeOf start end «other_start» «other_end») ⌝ }
 {
-    told_reply(key_range::contains_range(start, end, other_start, other_end))
+    told_reply(ranges_calls::contains_range(start, end, other_start, other_end))
 }
 
 // Whether one range ends right before the other starts: `KeyRange::is_adjacent_to`.
@@ -59,7 +59,7 @@ pub extern "C" fn cuddrewyn_range_is_adjacent_to(
 ) -> Reply
     ensures { λ x. ⌜ x ≡ toldReply (isAdjacentOf start end «other_start» «other_end») ⌝ }
 {
-    told_reply(key_range::is_adjacent_to(start, end, other_start, other_end))
+    told_reply(ranges_calls::is_adjacent_to(start, end, other_start, other_end))
 }
 
 // The kind of an integer of the wire, as the integer of a known kind: `ScalableConsumerType::from_pb_i32`, then `to_pb_i32`.

@@ -3,19 +3,19 @@ ghost use mathlib.Core.Path.{_≡_};
 ghost use mathlib.Core.List.{List};
 ghost use Prim.Native.Nat.{ℕ};
 ghost use Rattle.types.specs.ConsumerTypes.{fromWire};
-ghost use Rattle.readers.specs.Places.{responsePlace};
+ghost use Rattle.wire_readers.specs.Places.{responsePlace};
 ghost use Rattle.session.specs.Calls.{matchOf};
-ghost use Rattle.values.specs.Places.{textPlace, PlaceIs};
-ghost use Rattle.session_reply.specs.Replies.{recordOf, answerReply};
-ghost use Rattle.session_reply.specs.Exported.{lentOpen, lentBegin, lentInvalidate, lentUpdate, lentResponse, lentDrain};
-ghost use Rattle.session_lent.specs.Check.{checkOf};
+ghost use Rattle.wire_values.specs.Places.{textPlace, PlaceIs};
+ghost use Rattle.export_record.specs.Replies.{recordOf, answerReply};
+ghost use Rattle.export_record.specs.Exported.{lentOpen, lentBegin, lentInvalidate, lentUpdate, lentResponse, lentDrain};
+ghost use Rattle.export_session.specs.Check.{checkOf};
 ghost use Rattle.export.specs.Exports.{matchReply};
 use crate::Part;
-use reply::Reply;
+use export_record::Record;
+use export_record::SessionReply;
+use export_record::open_reply;
+use export_reply::Reply;
 use session::Match;
-use session_reply::Record;
-use session_reply::SessionReply;
-use session_reply::open_reply;
 use types::ControllerIncarnation;
 use types::ScalableConsumerType;
 
@@ -53,7 +53,7 @@ pub extern "C" fn cuddrewyn_begin(r: &mut Record, incarnation: u64) -> Reply
     ensures { λ x. ⌜ record { state = now (r .exit); reply = x }
         ≡ lentBegin (now (r .entry)) incarnation ⌝ }
 {
-    let begun = session_lent::begun(*r, incarnation);
+    let begun = export_session::begun(*r, incarnation);
     *r = begun.state;
     begun.reply
 }
@@ -63,7 +63,7 @@ pub extern "C" fn cuddrewyn_begin(r: &mut Record, incarnation: u64) -> Reply
 pub extern "C" fn cuddrewyn_invalidate(r: &mut Record) -> Reply
     ensures { λ x. ⌜ record { state = now (r .exit); reply = x } ≡ lentInvalidate (now (r .entry)) ⌝ }
 {
-    let invalidated = session_lent::invalidated(*r);
+    let invalidated = export_session::invalidated(*r);
     *r = invalidated.state;
     invalidated.reply
 }
@@ -80,7 +80,7 @@ pub extern "C" fn cuddrewyn_update(
     ensures { λ x. ⌜ record { reply = x; state = now (r .exit); store = now (store .exit); out = now (out .exit) }
         ≡ lentUpdate (now (r .entry)) (now (store .entry)) (now (message .entry)) incarnation (now (out .entry)) ⌝ }
 {
-    let updated = session_lent::updated(*r, store, message, incarnation, out);
+    let updated = export_session::updated(*r, store, message, incarnation, out);
     *r = updated.state;
     updated.reply
 }
@@ -96,7 +96,7 @@ pub extern "C" fn cuddrewyn_response(
     ensures { λ x. ⌜ ((out : List ℕ) → record { reply = x; state = now (r .exit); store = now (store .exit); out = out }
         ≡ lentResponse (now (r .entry)) (now (store .entry)) (now (message .entry)) incarnation out) ⌝ }
 {
-    let responded = session_lent::responded(*r, store, message, incarnation);
+    let responded = export_session::responded(*r, store, message, incarnation);
     *r = responded.state;
     responded.reply
 }
@@ -112,7 +112,7 @@ pub extern "C" fn cuddrewyn_drain_for(
     ensures { λ x. ⌜ record { reply = x; state = now (r .exit); store = now (store .entry); out = now (out .exit) }
         ≡ lentDrain (now (r .entry)) (now (store .entry)) reader (now (out .entry)) ⌝ }
 {
-    let drained = session_lent::drained(*r, store, reader, out);
+    let drained = export_session::drained(*r, store, reader, out);
     *r = drained.state;
     drained.reply
 }
@@ -122,7 +122,7 @@ pub extern "C" fn cuddrewyn_drain_for(
 pub extern "C" fn cuddrewyn_check(r: Record, store: &[u8]) -> Reply
     ensures { λ x. ⌜ x ≡ answerReply (checkOf (recordOf r) (now (store .entry))) ⌝ }
 {
-    session_lent::checked(r, store)
+    export_session::checked(r, store)
 }
 
 // Whether the store was opened with these texts and this kind: `matches_registration`.
@@ -144,9 +144,9 @@ pub extern "C" fn cuddrewyn_matches_registration(
 {
     let kind = ScalableConsumerType::from_pb_i32(kind);
     match session_open::matches_registration(store, topic, subscription, consumer_name, kind) {
-        Match::Same => reply::plain(reply::YES),
-        Match::Other => reply::plain(reply::NO),
-        Match::Refused(x) => reply::refused(x),
+        Match::Same => export_reply::plain(export_reply::YES),
+        Match::Other => export_reply::plain(export_reply::NO),
+        Match::Refused(x) => export_reply::refused(x),
     }
 }
 
@@ -154,7 +154,7 @@ pub extern "C" fn cuddrewyn_matches_registration(
 pub fn last_part(message: &[u8], n: u64) -> Part
     ensures { λ x. ⌜ PlaceIs (now (message .entry)) (textPlace n (now (message .entry))) (x .start) (x .length) ⌝ }
 {
-    let p = values::last_part(message, n);
+    let p = wire_values::last_part(message, n);
     Part {
         start: p.start,
         length: p.length,

@@ -1,20 +1,24 @@
 // The topics watch.
 ghost use mathlib.Core.Path.{_≡_};
-ghost use Rattle.readers.specs.Places.{watchPlace};
-ghost use Rattle.values.specs.Places.{PlaceIs};
+ghost use Rattle.wire_readers.specs.Places.{watchPlace};
+ghost use Rattle.wire_values.specs.Places.{PlaceIs};
 ghost use Rattle.watch.specs.Watch.{handleUpdate};
 ghost use Rattle.export.specs.Exports.{watchReply, watchOf};
 use crate::Part;
 use crate::session_calls::last_part;
-use reply::Reply;
+use export_reply::Reply;
 use watch::WatchAnswer;
 
 fn watch_reply(a: WatchAnswer) -> Reply
     ensures { λ x. ⌜ x ≡ watchReply a ⌝ }
 {
     match a {
-        WatchAnswer::Changed(set, out) => reply::two(reply::WRITTEN, set as u64, out as u64),
-        WatchAnswer::Refused(x) => reply::refused(x),
+        WatchAnswer::Changed(set, out) => export_reply::two(
+            export_reply::WRITTEN,
+            set as u64,
+            out as u64,
+        ),
+        WatchAnswer::Refused(x) => export_reply::refused(x),
     }
 }
 

@@ -5,7 +5,7 @@ use mathlib.Core.Path.{_≡_, refl}
 use native.Mathlib.Omega.{arith}
 use mathlib.Core.List.{List}
 use Prim.Native.Nat.{ℕ}
-use Rattle.packed_int.specs.Be.{beFrom, be, beAt, bytesOf}
+use Rattle.slice_int.specs.Be.{beFrom, be, beAt, bytesOf}
 use Rattle.hours.specs.declared.EarliestAnswer.the-variants.{At, NoneOpen}
 use Rattle.hours.specs.Contract.{spanOf, spansOf, termCount, windowCount, termsOf, windowsOf, okSpans, isContract}
 use Rattle.hours.specs.Hours.{Earliest}

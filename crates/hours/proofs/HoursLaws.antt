@@ -13,7 +13,7 @@ use mathlib.Core.List.{List, [], _∷_}
 use lib.ListN.{drop}
 use lib.Dec.{leb, ltb}
 use borrow.Author.Tests.{le-leb, leb-true, leb-false, lt-ltb, ltb-true, ltb-false}
-use Rattle.parts.specs.BoolLaws.{both-true}
+use Rattle.slice.specs.BoolLaws.{both-true}
 use Rattle.refusal.specs.declared.Refusal.the-variants.{InvalidContract}
 use Rattle.hours.specs.declared.Span.{Span}
 use Rattle.hours.specs.declared.OpenAnswer.the-variants as told

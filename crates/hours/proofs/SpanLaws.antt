@@ -14,8 +14,8 @@ use lib.ListN.{length, drop}
 use lib.Seq.{drop-drop}
 use lib.Dec.{leb, ltb, eqb}
 use borrow.Author.Tests.{le-leb, lt-leb, leb-true, lt-ltb, le-ltb, ltb-true, eq-eqb, ne-eqb, eqb-true}
-use Rattle.parts.specs.BoolLaws.{both-true}
-use Rattle.packed_int.specs.Be.{beAt}
+use Rattle.slice.specs.BoolLaws.{both-true}
+use Rattle.slice_int.specs.Be.{beAt}
 use Rattle.hours.specs.declared.Span.{Span}
 use Rattle.hours.specs.declared.Shape.the-variants.{Counts, Malformed}
 use Rattle.hours.specs.Contract.{week, largest, spanOf, spansOf, termCount, windowCount, termsOf, windowsOf}

@@ -10,7 +10,7 @@ use mathlib.Core.Bool.{Bool, true, _&&_}
 use mathlib.Core.List.{List, [], _∷_}
 use lib.ListN.{length, drop}
 use lib.Dec.{leb, ltb, eqb}
-use Rattle.packed_int.specs.Be.{beAt}
+use Rattle.slice_int.specs.Be.{beAt}
 use Rattle.hours.specs.declared.Span.{Span}
 
 -- the seconds of a week

@@ -7,7 +7,7 @@ use mathlib.Core.Path.{_≡_, refl}
 use mathlib.Core.Bool.{true, false}
 use mathlib.Core.List.{List, [], _∷_, _++_}
 use lib.ListN.{length, replicate}
-use Rattle.packed_int.specs.Be.{beFrom, be, beAt, bytesOf}
+use Rattle.slice_int.specs.Be.{beFrom, be, beAt, bytesOf}
 use Rattle.refusal.specs.declared.Refusal.the-variants.{InvalidContract}
 use Rattle.hours.specs.declared.Span.{Span}
 use Rattle.hours.specs.declared.OpenAnswer.the-variants as told

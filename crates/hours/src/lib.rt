@@ -72,8 +72,8 @@ fn span_at(s: &[u8], at: usize) -> Span
     requires { ⌜ at + 16 ≤ length (now s) ⌝ }
     ensures { λ r. ⌜ r ≡ spanOf (drop at (now (s .entry))) ⌝ }
 {
-    let start = packed_int::read_u64(s, at);
-    let end = packed_int::read_u64(s, at + 8);
+    let start = slice_int::read_u64(s, at);
+    let end = slice_int::read_u64(s, at + 8);
     Span { start, end }
 }
 
@@ -133,8 +133,8 @@ fn read_contract(contract: &[u8]) -> Shape
     if contract.len() < HEAD {
         return Shape::Malformed;
     }
-    let terms = packed_int::read_u16(contract, 0) as usize;
-    let windows = packed_int::read_u16(contract, 2) as usize;
+    let terms = slice_int::read_u16(contract, 0) as usize;
+    let windows = slice_int::read_u16(contract, 2) as usize;
     if MAX_TERMS < terms {
         return Shape::Malformed;
     }

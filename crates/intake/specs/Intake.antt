@@ -11,21 +11,21 @@ use mathlib.Core.Option.{Option, some, none}
 use lib.ListN.{length, take, drop}
 use Rattle.refusal.specs.declared.Refusal.{Refusal}
 use Rattle.refusal.specs.declared.Refusal.the-variants.{DuplicateSegment}
-use Rattle.packed_int.specs.Be.{bytesOf}
-use Rattle.packed_int.specs.Put.{put}
+use Rattle.slice_int.specs.Be.{bytesOf}
+use Rattle.slice_int.specs.Put.{put}
 use Rattle.wire.specs.Fields.{fieldsOf}
-use Rattle.values.specs.declared.Cursor.{Cursor}
-use Rattle.values.specs.Values.{partsOf, mergedFields}
-use Rattle.values.specs.Places.{Inside, innerFrom}
-use Rattle.readers.specs.Messages.{WireSegment, readSegment}
+use Rattle.wire_values.specs.declared.Cursor.{Cursor}
+use Rattle.wire_values.specs.Values.{partsOf, mergedFields}
+use Rattle.wire_values.specs.Places.{Inside, innerFrom}
+use Rattle.wire_readers.specs.Messages.{WireSegment, readSegment}
 use Rattle.keyed.specs.Keyed.{holds, insert}
 use Rattle.packed.specs.Assignment.{idOf, slotSize}
 use Rattle.packed.specs.Assignment.{sizeSegment, sizeSegments, encodeRanges, encodeSegments, decodeSegments, encodeAssignment, sizeAssignment}
-use Rattle.repeats.specs.declared.Repeat.{Repeat}
-use Rattle.repeats.specs.declared.Repeat.the-variants as repeated
-use Rattle.content.specs.Content.{bucketsOf, segmentFault, assignedSegment, Content, refused, taken}
-use Rattle.segment_scan.specs.declared.SegmentScan.{SegmentScan}
-use Rattle.segment_check.specs.Verdicts.{ScanOf}
+use Rattle.intake_repeats.specs.declared.Repeat.{Repeat}
+use Rattle.intake_repeats.specs.declared.Repeat.the-variants as repeated
+use Rattle.intake_content.specs.Content.{bucketsOf, segmentFault, assignedSegment, Content, refused, taken}
+use Rattle.intake_scan.specs.declared.SegmentScan.{SegmentScan}
+use Rattle.intake_segment.specs.Verdicts.{ScanOf}
 use Rattle.intake.specs.declared.Tested.{Tested}
 use Rattle.intake.specs.declared.Tested.the-variants as tested
 use Rattle.intake.specs.declared.Added.{Added}

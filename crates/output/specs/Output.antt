@@ -8,7 +8,7 @@ use lib.ListN.{length}
 use lib.Dec.{leb}
 use Rattle.refusal.specs.declared.Refusal.{Refusal}
 use Rattle.refusal.specs.declared.Refusal.the-variants.{ResultTooLong}
-use Rattle.packed_int.specs.Put.{put}
+use Rattle.slice_int.specs.Put.{put}
 use Rattle.output.specs.declared.WriteAnswer.{WriteAnswer}
 use Rattle.output.specs.declared.WriteAnswer.the-variants.{Written, Refused}
 

@@ -6,7 +6,7 @@ use mathlib.Core.List.{List, [], _∷_}
 use Prim.Native.Nat.{ℕ}
 use lib.Dec.{eqb}
 use borrow.Author.Tests.{eqb-true, eq-eqb}
-use Rattle.parts.specs.BoolLaws.{both, both-true}
+use Rattle.slice.specs.BoolLaws.{both, both-true}
 use Rattle.types.specs.declared.KeyRange.{KeyRange}
 use Rattle.packed.specs.Assignment.{AssignedSegment, ConsumerAssignment}
 use Rattle.packed.specs.Equal.{sameRange, sameRanges, sameSegment, sameSegments, sameAssignment}

@@ -13,7 +13,7 @@ use mathlib.Core.List.{List}
 use lib.ListN.{length, drop}
 use lib.Dec.{leb}
 use borrow.Author.Tests.{le-leb, lt-leb, eq-eqb, ne-eqb}
-use Rattle.packed_int.specs.Be.{beAt}
+use Rattle.slice_int.specs.Be.{beAt}
 use Rattle.packed.specs.Assignment.{AssignedSegment, slotSize, decodeSegments, decodeAssignment, sizeSegments, sizeAssignment, okFrom}
 use Rattle.packed.specs.Assignment.{startsAssignment, isAssignment}
 use Rattle.packed.specs.Answers.{frontRead, wholeRead}

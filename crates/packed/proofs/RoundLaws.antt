@@ -13,12 +13,12 @@ use mathlib.Core.List.{List, [], _∷_, _++_, append-assoc}
 use lib.ListN.{length, take, drop, length-append, length-take, length-drop}
 use lib.Seq.{drop-drop, take-add, take-all, drop-at}
 use borrow.Author.Tests.{le-leb, eqb-true}
-use Rattle.parts.specs.BoolLaws.{both-true}
+use Rattle.slice.specs.BoolLaws.{both-true}
 use Rattle.types.specs.declared.KeyRange.{KeyRange}
 use Rattle.types.specs.KeyRanges.{keyRange}
-use Rattle.parts.proofs.PartLaws.{Bytes, Bytes-take, Bytes-drop}
-use Rattle.packed_int.specs.Be.{be, bytesOf}
-use Rattle.packed_int.proofs.BeLaws.{length-bytesOf, be-below, be-front, drop-front, bytesOf-front}
+use Rattle.slice.proofs.PartLaws.{Bytes, Bytes-take, Bytes-drop}
+use Rattle.slice_int.specs.Be.{be, bytesOf}
+use Rattle.slice_int.proofs.BeLaws.{length-bytesOf, be-below, be-front, drop-front, bytesOf-front}
 use Rattle.packed.specs.Assignment.{AssignedSegment, ConsumerAssignment, num, decodeRange, decodeRanges, decodeSegment, decodeSegments, decodeAssignment}
 use Rattle.packed.specs.Assignment.{encodeRange, encodeRanges, encodeSegment, encodeSegments, encodeAssignment}
 use Rattle.packed.specs.Assignment.{sizeSegment, sizeSegments, sizeAssignment, okAssignment, startsAssignment, isAssignment}

@@ -6,8 +6,8 @@ use mathlib.Core.Path.{_≡_, refl, _∙_}
 use mathlib.Core.Bool.{Bool, true, false}
 use mathlib.Core.List.{List}
 use lib.ListN.{length, drop}
-use Rattle.parts.specs.BoolLaws.{both-true}
-use Rattle.packed_int.specs.Be.{beAt}
+use Rattle.slice.specs.BoolLaws.{both-true}
+use Rattle.slice_int.specs.Be.{beAt}
 use Rattle.packed.specs.Assignment.{sizeAssignment, num, decodeSegments, decodeAssignment, startsAssignment, isAssignment}
 use Rattle.packed.specs.Answers.{wholeRead}
 use Rattle.packed.specs.declared.Packed.the-variants.{Assignment, Malformed}

@@ -17,11 +17,11 @@ use borrow.Author.Tests.{le-leb, lt-leb}
 use Rattle.types.specs.declared.KeyRange.{KeyRange}
 use Rattle.types.specs.KeyRanges.{keyRange}
 use Rattle.ranges.specs.Overlap.{risingFrom}
-use Rattle.parts.proofs.PartLaws.{Bytes, Bytes-take, Bytes-drop}
-use Rattle.packed_int.specs.Be.{be, beAt}
-use Rattle.packed_int.proofs.BeLaws.{be-below, be-at-add}
-use Rattle.marks.specs.Bits.{bit}
-use Rattle.marks.proofs.BitLaws.{bit-and}
+use Rattle.slice.proofs.PartLaws.{Bytes, Bytes-take, Bytes-drop}
+use Rattle.slice_int.specs.Be.{be, beAt}
+use Rattle.slice_int.proofs.BeLaws.{be-below, be-at-add}
+use Rattle.ranges_marks.specs.Bits.{bit}
+use Rattle.ranges_marks.proofs.BitLaws.{bit-and}
 use Rattle.packed.specs.Assignment.{decodeRange, decodeRanges}
 use Rattle.packed.specs.Words.{start1, end1, start2, end2, topsOf, WordRises}
 use Rattle.packed.proofs.AssignmentLaws.{range-at, ranges-at}

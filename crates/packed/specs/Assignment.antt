@@ -13,7 +13,7 @@ use lib.Dec.{leb, eqb}
 use Rattle.types.specs.declared.KeyRange.{KeyRange}
 use Rattle.types.specs.KeyRanges.{keyRange}
 use Rattle.ranges.specs.Overlap.{anyOverlap}
-use Rattle.packed_int.specs.Be.{be, bytesOf}
+use Rattle.slice_int.specs.Be.{be, bytesOf}
 
 -- the most bytes of a packed assignment: a slot
 abbrev pub slotSize : ℕ

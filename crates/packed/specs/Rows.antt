@@ -9,7 +9,7 @@ use mathlib.Core.List.{List, [], _∷_}
 use Rattle.types.specs.declared.KeyRange.{KeyRange}
 use Rattle.types.specs.KeyRanges.{keyRange}
 use Rattle.ranges.specs.Overlap.{anyOverlap}
-use Rattle.packed_int.specs.Be.{bytesOf}
+use Rattle.slice_int.specs.Be.{bytesOf}
 use Rattle.packed.specs.Assignment.{AssignedSegment, ConsumerAssignment, encodeRange, encodeRanges, encodeSegment, encodeSegments}
 use Rattle.packed.specs.Assignment.{encodeAssignment, sizeSegment, sizeSegments, sizeAssignment}
 use Rattle.packed.specs.Assignment.{okAssignment, okFrom, okSegment, okBuckets, allInOrder}

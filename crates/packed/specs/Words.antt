@@ -6,7 +6,7 @@ use Prim.Native.Nat.{ℕ, suc, _+_, _*_, _/_, _%_}
 use mathlib.Core.Path.{_≡_}
 use mathlib.Core.Bool.{_&&_}
 use lib.Dec.{leb}
-use Rattle.marks.specs.Bits.{bit}
+use Rattle.ranges_marks.specs.Bits.{bit}
 
 abbrev pub start1 : ℕ → ℕ
 start1 x = x / 281474976710656

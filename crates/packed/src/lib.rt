@@ -50,8 +50,8 @@ pub fn range_at(s: &[u8], at: usize) -> KeyRange
     requires { ⌜ at + 4 ≤ length (now s) ⌝ }
     ensures { λ r. ⌜ r ≡ decodeRange (drop at (now (s .entry))) ⌝ }
 {
-    let start = packed_int::read_u16(s, at) as u32;
-    let end = packed_int::read_u16(s, at + 2) as u32;
+    let start = slice_int::read_u16(s, at) as u32;
+    let end = slice_int::read_u16(s, at + 2) as u32;
     KeyRange { start, end }
 }
 
@@ -102,8 +102,8 @@ fn rise_by_words(s: &[u8], at: usize, n: usize) -> bool
     if n < 8 {
         return buckets_rise(s, at, n, 0);
     }
-    let mut x = packed_int::read_u64(s, at);
-    let mut y = packed_int::read_u64(s, at + 8);
+    let mut x = slice_int::read_u64(s, at);
+    let mut y = slice_int::read_u64(s, at + 8);
     let mut low: u64 = 0;
     let mut p = at;
     let mut left = n;
@@ -118,8 +118,8 @@ fn rise_by_words(s: &[u8], at: usize, n: usize) -> bool
         low = tops(y);
         p = p + 16;
         left = left - 4;
-        x = packed_int::read_u64(s, p);
-        y = packed_int::read_u64(s, p + 8);
+        x = slice_int::read_u64(s, p);
+        y = slice_int::read_u64(s, p + 8);
     }
     buckets_rise(s, p, left, low % 4294967296)
 }
@@ -167,19 +167,19 @@ fn buckets_marked(s: &[u8], at: usize, n: usize) -> bool
     requires { ⌜ at + 4 * n ≤ length (now s) ⌝ }
     ensures { λ r. ⌜ r ≡ okBuckets (decodeRanges n (drop at (now (s .entry)))) ⌝ }
 {
-    let mut words = [0u64; marks::WORDS];
+    let mut words = [0u64; ranges_marks::WORDS];
     let mut p = at;
     let mut left = n;
     while 0 < left {
-        let first = packed_int::read_u16(s, p);
-        let last = packed_int::read_u16(s, p + 2);
+        let first = slice_int::read_u16(s, p);
+        let last = slice_int::read_u16(s, p + 2);
         if last < first {
             return false;
         }
         let start = first as u32;
         let end = last as u32;
         let range = KeyRange { start, end };
-        if marks::mark(&mut words, range) {
+        if ranges_marks::mark(&mut words, range) {
             return false;
         }
         p = p + BUCKET;
@@ -210,9 +210,9 @@ pub fn record_at(s: &[u8], at: usize, end: usize) -> RecordRead
     if end - at < RECORD_HEAD {
         return RecordRead::Malformed;
     }
-    let id = packed_int::read_u64(s, at);
+    let id = slice_int::read_u64(s, at);
     let range = range_at(s, at + 8);
-    let count = packed_int::read_u16(s, at + 12) as usize;
+    let count = slice_int::read_u16(s, at + 12) as usize;
     if (end - at - RECORD_HEAD) / BUCKET < count {
         return RecordRead::Malformed;
     }
@@ -234,9 +234,9 @@ fn read_record(s: &[u8], at: usize, end: usize) -> RecordRead
     if end - at < RECORD_HEAD {
         return RecordRead::Malformed;
     }
-    let id = packed_int::read_u64(s, at);
+    let id = slice_int::read_u64(s, at);
     let range = range_at(s, at + 8);
-    let count = packed_int::read_u16(s, at + 12);
+    let count = slice_int::read_u16(s, at + 12);
     if count != 0 {
         return record_at(s, at, end);
     }
@@ -260,7 +260,7 @@ pub fn read_front(s: &[u8]) -> Packed
     if end < ASSIGNMENT_HEAD {
         return Packed::Malformed;
     }
-    let count = packed_int::read_u16(s, 8) as usize;
+    let count = slice_int::read_u16(s, 8) as usize;
     let mut p: usize = ASSIGNMENT_HEAD;
     let mut left = count;
     let mut first = true;

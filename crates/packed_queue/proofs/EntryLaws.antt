@@ -12,9 +12,9 @@ use mathlib.Core.List.{List, [], _∷_, _++_, append-assoc, append-nil}
 use lib.ListN.{length, take, drop, getD, length-append}
 use lib.Seq.{take-at, drop-at, drop-append-add, take-append-add}
 use borrow.Author.Tests.{le-leb, leb-true, eq-eqb}
-use Rattle.parts.specs.BoolLaws.{both-true}
-use Rattle.packed_int.specs.Be.{bytesOf}
-use Rattle.packed_int.proofs.BeLaws.{length-bytesOf, be-front, drop-front}
+use Rattle.slice.specs.BoolLaws.{both-true}
+use Rattle.slice_int.specs.Be.{bytesOf}
+use Rattle.slice_int.proofs.BeLaws.{length-bytesOf, be-front, drop-front}
 use Rattle.packed.specs.Assignment.{ConsumerAssignment, slotSize, num, encodeAssignment, sizeAssignment, decodeAssignment, okAssignment, startsAssignment, isAssignment}
 use Rattle.packed.proofs.RoundLaws.{FitAssignment, length-encodeAssignment, read-assignment, starts-encode}
 use Rattle.keyed.proofs.EachLaws.{Each, each-take}

@@ -14,8 +14,8 @@ use lib.ListN.{length, take, drop, length-drop}
 use lib.Seq.{drop-drop, length-take-le}
 use lib.Dec.{leb}
 use borrow.Author.Tests.{le-leb, lt-leb, leb-true, eqb-true}
-use Rattle.parts.specs.BoolLaws.{both-true}
-use Rattle.packed_int.specs.Be.{beAt}
+use Rattle.slice.specs.BoolLaws.{both-true}
+use Rattle.slice_int.specs.Be.{beAt}
 use Rattle.packed.specs.Assignment.{num, decodeAssignment, sizeAssignment, startsAssignment, isAssignment}
 use Rattle.packed.specs.Answers.{wholeRead}
 use Rattle.packed.specs.declared.Packed.the-variants.{Assignment, Malformed}

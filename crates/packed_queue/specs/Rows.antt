@@ -5,7 +5,7 @@ use mathlib.Core.Path.{_≡_, refl}
 use mathlib.Core.Bool.{true, false}
 use mathlib.Core.List.{List, [], _∷_, _++_}
 use Rattle.ranges.specs.Overlap.{anyOverlap}
-use Rattle.packed_int.specs.Be.{bytesOf, be, beFrom}
+use Rattle.slice_int.specs.Be.{bytesOf, be, beFrom}
 use Rattle.packed.specs.Assignment.{ConsumerAssignment, num, encodeRange, encodeRanges, encodeSegment, encodeSegments, encodeAssignment}
 use Rattle.packed.specs.Assignment.{sizeSegment, sizeSegments, sizeAssignment, decodeRange, decodeRanges, decodeSegment, decodeSegments, decodeAssignment}
 use Rattle.packed.specs.Assignment.{okAssignment, okFrom, okSegment, okBuckets, allInOrder, startsAssignment, isAssignment}

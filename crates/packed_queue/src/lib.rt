@@ -25,7 +25,7 @@ fn entry_size(s: &[u8], at: usize) -> usize
     if s.len() - at < LENGTH {
         return 0;
     }
-    let len = packed_int::read_u16(s, at) as usize;
+    let len = slice_int::read_u16(s, at) as usize;
     let from = at + LENGTH;
     if s.len() - from < len {
         return 0;

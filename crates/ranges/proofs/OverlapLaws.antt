@@ -10,7 +10,7 @@ use mathlib.Core.Bool.{Bool, true, false, _||_, or-assoc}
 use mathlib.Core.List.{List, [], _∷_, _++_}
 use lib.Dec.{leb}
 use borrow.Author.Tests.{leb-true, lt-leb}
-use Rattle.parts.specs.BoolLaws.{both-true}
+use Rattle.slice.specs.BoolLaws.{both-true}
 use Rattle.types.specs.declared.KeyRange.{KeyRange}
 use Rattle.ranges.specs.Overlap.{overlap, overlapsAny, anyOverlap, startsFrom, risingFrom}
 

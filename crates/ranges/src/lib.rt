@@ -1,6 +1,6 @@
 // Whether two ranges share a value, and whether one lies above those before it: what the tests of a segment's buckets ask of each.
 //
-// Buckets that rise are told in one pass, by `starts_from` and `above`; those of any other order by their values, which `marks` marks.
+// Buckets that rise are told in one pass, by `starts_from` and `above`; those of any other order by their values, which `ranges_marks` marks.
 ghost use mathlib.Core.Path.{_≡_};
 ghost use Prim.Native.Nat.{_+_};
 ghost use Rattle.ranges.specs.Overlap.{overlap, startsFrom};

@@ -14,10 +14,10 @@ use Rattle.types.specs.KeyRanges.{keyRange}
 use Rattle.refusal.specs.Refusals.{numberOf, valuesOf}
 use Rattle.packed.specs.Assignment as port
 use Rattle.session.specs.Trace.{Call}
-use Rattle.magnetar.specs.Text.{Text}
-use Rattle.magnetar.specs.Assignment.{AssignedSegment, ConsumerAssignment}
-use Rattle.magnetar.specs.Session.{AssignmentDelta, AssignmentReplay, new}
-use Rattle.same_session.specs.Demand.{Told, refuses, baseline, done, no-change, delta, replay, Shown, Caller, rustRun}
+use Rattle.rust_magnetar.specs.Text.{Text}
+use Rattle.rust_magnetar.specs.Assignment.{AssignedSegment, ConsumerAssignment}
+use Rattle.rust_magnetar.specs.Session.{AssignmentDelta, AssignmentReplay, new}
+use Rattle.rust_session.specs.Demand.{Told, refuses, baseline, done, no-change, delta, replay, Shown, Caller, rustRun}
 
 -- a list, its names left out
 abbrev pub messageSegment : AssignedSegment → port.AssignedSegment

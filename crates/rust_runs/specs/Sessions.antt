@@ -7,17 +7,17 @@ use mathlib.Core.List.{[], _∷_}
 use mathlib.Core.Option.{some, none}
 use lib.IntN.{pos, negsuc}
 use Rattle.types.specs.KeyRanges.{keyRange, errorKind, errorNumbers}
-use Rattle.packed_int.specs.Be.{bytesOf}
+use Rattle.slice_int.specs.Be.{bytesOf}
 use Rattle.utf8.specs.Table.{table, fits, sequenceIn, sequenceOf, textAfter, isUtf8}
-use Rattle.topic.specs.Names.{hex4, decimalWithin, decimal}
+use Rattle.name_topic.specs.Names.{hex4, decimalWithin, decimal}
 use Rattle.wire.specs.Varints.{varintOf}
 use Rattle.wire.specs.Field.{keyOf, numberBody, partOf}
 use Rattle.wire.specs.Fields.{fieldsOf}
-use Rattle.schema.specs.Schema.{valueFor}
-use Rattle.schema.specs.Required.{isComplete}
-use Rattle.schema.specs.FirstFault.{firstFault}
-use Rattle.values.specs.Integers.{int32Of}
-use Rattle.readers.specs.Messages.{intRangeOf, readSegment, readAssignment, updateOf, responseOf}
+use Rattle.wire_schema.specs.Schema.{valueFor}
+use Rattle.wire_schema.specs.Required.{isComplete}
+use Rattle.wire_schema.specs.FirstFault.{firstFault}
+use Rattle.wire_values.specs.Integers.{int32Of}
+use Rattle.wire_readers.specs.Messages.{intRangeOf, readSegment, readAssignment, updateOf, responseOf}
 use Rattle.session.specs.Trace.{update, response, drain, begin, invalidate}
 use Rattle.rust_runs.specs.Seen.{refused, accepted, unchanged, changed, runOf, seen, list, segment, on}
 

@@ -11,9 +11,9 @@ use lib.Dec.{eqb}
 use lib.ListN.{length, length-set}
 use borrow.Author.Tests.{eqb-true, eqb-false}
 use Rattle.packed.specs.Assignment.{ConsumerAssignment}
-use Rattle.delta.specs.Delta.{AssignmentDelta}
-use Rattle.delta.specs.Change.{deltaBetween}
-use Rattle.delta.specs.Join.{Proper, apply}
+use Rattle.packed_delta.specs.Delta.{AssignmentDelta}
+use Rattle.packed_delta.specs.Change.{deltaBetween}
+use Rattle.packed_delta.specs.Join.{Proper, apply}
 use Rattle.session.specs.Session.{Session, Reply, nothing, replayed, Result, positionOf, raise}
 use Rattle.session.specs.Drain.{Found, end, entry, nextChange, withPosition, entryPlace, drained, nextFor, drainCall}
 use Rattle.session.specs.Trace.{drain}

@@ -14,11 +14,11 @@ use lib.Dec.{eqb}
 use lib.ListN.{length}
 use lib.Seq.{take-at}
 use Rattle.packed.specs.Assignment.{ConsumerAssignment}
-use Rattle.delta.specs.Delta.{AssignmentDelta}
-use Rattle.delta.specs.Change.{deltaBetween}
-use Rattle.delta.specs.Join.{Proper, apply, applyAll}
-use Rattle.delta.proofs.DeltaLaws.{delta-law, delta-proper}
-use Rattle.delta.proofs.BracketLaws.{AllProper, applyAll-append, proper-append}
+use Rattle.packed_delta.specs.Delta.{AssignmentDelta}
+use Rattle.packed_delta.specs.Change.{deltaBetween}
+use Rattle.packed_delta.specs.Join.{Proper, apply, applyAll}
+use Rattle.packed_delta.proofs.DeltaLaws.{delta-law, delta-proper}
+use Rattle.packed_delta.proofs.BracketLaws.{AllProper, applyAll-append, proper-append}
 use Rattle.keyed.proofs.EachLaws.{Each}
 use Rattle.session.specs.declared.Floor.{Floor}
 use Rattle.session.specs.declared.Floor.the-variants.{At}

@@ -12,13 +12,13 @@ use lib.ListN.{length, take, length-append}
 use lib.Seq.{take-at, take-all}
 use borrow.Author.Tests.{ltb-false}
 use Rattle.types.specs.declared.ControllerIncarnation.{ControllerIncarnation}
-use Rattle.readers.specs.Messages.{updateOf, responseOf}
+use Rattle.wire_readers.specs.Messages.{updateOf, responseOf}
 use Rattle.keyed.specs.Keyed.{orElse}
 use Rattle.keyed.proofs.KeyedLaws.{choose}
 use Rattle.packed.specs.Assignment.{ConsumerAssignment}
 use Rattle.packed.specs.Equal.{sameAssignment}
 use Rattle.packed.proofs.EqualLaws.{assignment-eq}
-use Rattle.delta.specs.Join.{Proper}
+use Rattle.packed_delta.specs.Join.{Proper}
 use Rattle.keyed.proofs.EachLaws.{Each, each-append}
 use Rattle.session.specs.declared.Floor.{Floor}
 use Rattle.session.specs.declared.Floor.the-variants.{At}

@@ -9,7 +9,7 @@ use lib.Dec.{eqb, ltb}
 use Rattle.types.specs.declared.ControllerIncarnation.{ControllerIncarnation}
 use Rattle.refusal.specs.declared.Refusal.the-variants.{NonAdvancingIncarnation}
 use Rattle.packed.specs.Assignment.{ConsumerAssignment}
-use Rattle.delta.specs.Delta.{AssignmentDelta}
+use Rattle.packed_delta.specs.Delta.{AssignmentDelta}
 use Rattle.session.specs.Store.{baselineSlot, listSlot, Write, toSlot, push}
 use Rattle.session.specs.Session.{Session, Reply, refused, accepted, nothing, changed, replayed, Result, refuse}
 use Rattle.session.specs.Update.{updateCall}

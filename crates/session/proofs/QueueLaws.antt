@@ -15,10 +15,10 @@ use Rattle.keyed.proofs.KeyedLaws.{choose}
 use Rattle.packed.specs.Assignment.{ConsumerAssignment}
 use Rattle.packed.specs.Equal.{sameAssignment}
 use Rattle.packed.proofs.EqualLaws.{assignment-eq}
-use Rattle.delta.specs.Delta.{AssignmentDelta}
-use Rattle.delta.specs.Change.{deltaBetween}
-use Rattle.delta.specs.Join.{Proper}
-use Rattle.content.proofs.SoundLaws.{if-none}
+use Rattle.packed_delta.specs.Delta.{AssignmentDelta}
+use Rattle.packed_delta.specs.Change.{deltaBetween}
+use Rattle.packed_delta.specs.Join.{Proper}
+use Rattle.intake_content.proofs.SoundLaws.{if-none}
 use Rattle.keyed.proofs.EachLaws.{Each}
 use Rattle.session.specs.declared.Floor.{Floor}
 use Rattle.session.specs.declared.Floor.the-variants.{Unset, At}

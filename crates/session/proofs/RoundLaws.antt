@@ -14,8 +14,8 @@ use lib.Seq.{drop-drop, take-at, drop-at, getD-drop}
 use borrow.Author.Tests.{le-leb}
 use Rattle.types.specs.declared.ScalableConsumerType.{ScalableConsumerType}
 use Rattle.types.specs.declared.ScalableConsumerType.the-variants.{Stream, Checkpoint}
-use Rattle.packed_int.specs.Be.{be, beAt, bytesOf}
-use Rattle.packed_int.proofs.BeLaws.{length-bytesOf, be-front, drop-front}
+use Rattle.slice_int.specs.Be.{be, beAt, bytesOf}
+use Rattle.slice_int.proofs.BeLaws.{length-bytesOf, be-front, drop-front}
 use Rattle.session.specs.Identity.{Identity, kindByte, textsLength, encodeIdentity, topicLength, subscriptionLength, nameLength}
 use Rattle.session.specs.Identity.{identityTopic, subscriptionOf, consumerNameOf, identityKind, isIdentity}
 use Rattle.session.specs.Calls.{allUtf8}

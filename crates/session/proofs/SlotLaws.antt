@@ -14,8 +14,8 @@ use lib.ListN.{length, take, drop, getD, length-append, length-take, length-drop
 use lib.Seq.{length-take-le, take-append-le, drop-append-le, drop-append-add, take-append-add, drop-drop, drop-at, take-at, take-add, take-all}
 use lib.Dec.{ltb}
 use borrow.Author.Tests.{ltb-true, ltb-false}
-use Rattle.packed_int.specs.Put.{put}
-use Rattle.packed_int.proofs.PutLaws.{length-put}
+use Rattle.slice_int.specs.Put.{put}
+use Rattle.slice_int.proofs.PutLaws.{length-put}
 use Rattle.packed.specs.Assignment.{ConsumerAssignment, slotSize, encodeAssignment, decodeAssignment, startsAssignment}
 use Rattle.packed.proofs.RoundLaws.{length-encodeAssignment, read-assignment, starts-encode}
 use Rattle.keyed.proofs.EachLaws.{Each, each-append}

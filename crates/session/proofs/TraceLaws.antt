@@ -16,28 +16,28 @@ use lib.Seq.{take-at}
 use lib.Dec.{eqb, ltb, leb}
 use lib.Pow.{areBytes}
 use borrow.Author.Tests.{ltb-true, ltb-false, eqb-false}
-use Rattle.parts.specs.BoolLaws.{both-true}
+use Rattle.slice.specs.BoolLaws.{both-true}
 use Rattle.types.specs.declared.ControllerIncarnation.{ControllerIncarnation}
 use Rattle.refusal.specs.declared.Refusal.{Refusal}
-use Rattle.parts.proofs.PartLaws.{Bytes}
-use Rattle.schema.specs.declared.MessageKind.the-variants.{CommandScalableTopicAssignmentUpdate, CommandScalableTopicSubscribeResponse}
-use Rattle.schema.specs.declared.Checked.{Checked}
-use Rattle.schema.specs.declared.Checked.the-variants as checked
-use Rattle.schema.specs.FirstFault.{firstFault}
-use Rattle.readers.specs.Messages.{WireAssignment, updateOf, responseOf}
-use Rattle.packed_int.specs.Put.{put}
+use Rattle.slice.proofs.PartLaws.{Bytes}
+use Rattle.wire_schema.specs.declared.MessageKind.the-variants.{CommandScalableTopicAssignmentUpdate, CommandScalableTopicSubscribeResponse}
+use Rattle.wire_schema.specs.declared.Checked.{Checked}
+use Rattle.wire_schema.specs.declared.Checked.the-variants as checked
+use Rattle.wire_schema.specs.FirstFault.{firstFault}
+use Rattle.wire_readers.specs.Messages.{WireAssignment, updateOf, responseOf}
+use Rattle.slice_int.specs.Put.{put}
 use Rattle.packed.specs.Assignment.{ConsumerAssignment}
 use Rattle.packed.specs.Equal.{sameAssignment}
-use Rattle.delta.specs.Delta.{AssignmentDelta, encodeDelta, sizeDelta, decodeDelta}
-use Rattle.delta.proofs.RoundLaws.{FitDelta, read-delta, length-encodeDelta}
+use Rattle.packed_delta.specs.Delta.{AssignmentDelta, encodeDelta, sizeDelta, decodeDelta}
+use Rattle.packed_delta.proofs.RoundLaws.{FitDelta, read-delta, length-encodeDelta}
 use Rattle.keyed.proofs.KeyedLaws.{choose}
-use Rattle.content.specs.Content as content
-use Rattle.content.specs.Content.{Content, contentOf}
+use Rattle.intake_content.specs.Content as content
+use Rattle.intake_content.specs.Content.{Content, contentOf}
 use Rattle.packed_queue.specs.Entries.{sizeEntry}
 use Rattle.keyed.proofs.EachLaws.{Each}
 use Rattle.packed_queue.proofs.EntryLaws.{Packable}
-use Rattle.content.proofs.WideLaws.{Wide, update-wide, response-wide}
-use Rattle.content.proofs.ContentLaws.{content-fits}
+use Rattle.intake_content.proofs.WideLaws.{Wide, update-wide, response-wide}
+use Rattle.intake_content.proofs.ContentLaws.{content-fits}
 use Rattle.session.specs.declared.SessionRecord.{SessionRecord}
 use Rattle.session.specs.Store.{maxQueue, listIn, queueIn, queueEnd, writeAll}
 use Rattle.session.specs.Session.{Session, readers, positionOf, view, damaged, Result, refuse, unless, floorFault}

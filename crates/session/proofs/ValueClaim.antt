@@ -8,12 +8,12 @@ use mathlib.Core.Logic.{inl, inr}
 use mathlib.Core.Option.{Option, some, none, Option·map, Option·none-ne-some}
 use lib.ListN.{length}
 use lib.Dec.{eqb}
-use Rattle.parts.specs.BoolLaws.{both-true}
+use Rattle.slice.specs.BoolLaws.{both-true}
 use Rattle.types.specs.declared.ControllerIncarnation.{ControllerIncarnation}
 use Rattle.packed.specs.Assignment.{ConsumerAssignment}
-use Rattle.delta.specs.Delta.{AssignmentDelta}
-use Rattle.delta.specs.Join.{Proper, applyAll}
-use Rattle.delta.proofs.BracketLaws.{AllProper, apply-joined, brackets-agree}
+use Rattle.packed_delta.specs.Delta.{AssignmentDelta}
+use Rattle.packed_delta.specs.Join.{Proper, applyAll}
+use Rattle.packed_delta.proofs.BracketLaws.{AllProper, apply-joined, brackets-agree}
 use Rattle.keyed.proofs.EachLaws.{Each}
 use Rattle.session.specs.Session.{Session}
 use Rattle.session.specs.Trace.{Call, update, response, drain, begin, invalidate}

@@ -14,12 +14,12 @@ use lib.ListN.{length, take, length-append}
 use lib.Seq.{take-all}
 use lib.Dec.{eqb, ltb, leb}
 use borrow.Author.Tests.{ltb-false, eqb-true, eqb-false, le-ltb, not-false}
-use Rattle.parts.specs.BoolLaws.{both-true}
+use Rattle.slice.specs.BoolLaws.{both-true}
 use Rattle.packed.specs.Assignment.{ConsumerAssignment, decodeAssignment, sizeAssignment, startsAssignment}
 use Rattle.packed.proofs.RoundLaws.{FitAssignment}
-use Rattle.delta.specs.Change.{deltaBetween}
-use Rattle.delta.proofs.RoundLaws.{FitDelta}
-use Rattle.delta.proofs.ShortLaws.{delta-lost-few, delta-gained-few, delta-lost-fit, delta-gained-fit}
+use Rattle.packed_delta.specs.Change.{deltaBetween}
+use Rattle.packed_delta.proofs.RoundLaws.{FitDelta}
+use Rattle.packed_delta.proofs.ShortLaws.{delta-lost-few, delta-gained-few, delta-lost-fit, delta-gained-fit}
 use Rattle.packed_queue.specs.Entries.{sizeEntry}
 use Rattle.packed_queue.proofs.EntryLaws.{Packable, packable-size}
 use Rattle.keyed.proofs.EachLaws.{Each}

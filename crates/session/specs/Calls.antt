@@ -10,11 +10,11 @@ use Rattle.types.specs.declared.ControllerIncarnation.{ControllerIncarnation}
 use Rattle.refusal.specs.declared.Refusal.{Refusal}
 use Rattle.refusal.specs.declared.Refusal.the-variants.{StoreTooShort, InvalidUtf8, IdentityTooLong, MalformedStore}
 use Rattle.refusal.specs.Steps.{_>>_, refuseIf, refuseUnless}
-use Rattle.parts.specs.Same.{sameBytes}
+use Rattle.slice.specs.Same.{sameBytes}
 use Rattle.utf8.specs.Table.{isUtf8}
-use Rattle.packed_int.specs.Put.{put}
+use Rattle.slice_int.specs.Put.{put}
 use Rattle.packed.specs.Assignment.{slotSize}
-use Rattle.delta.specs.Delta.{encodeDelta, sizeDelta}
+use Rattle.packed_delta.specs.Delta.{encodeDelta, sizeDelta}
 use Rattle.session.specs.declared.SessionRecord.{SessionRecord}
 use Rattle.session.specs.declared.Floor.the-variants.{Unset}
 use Rattle.session.specs.declared.Answer.{Answer}

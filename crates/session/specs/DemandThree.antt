@@ -9,9 +9,9 @@ use mathlib.Core.Path.{_≡_}
 use mathlib.Core.Bool.{true, false, cond}
 use mathlib.Core.List.{List, [], _∷_}
 use mathlib.Core.Option.{Option, some, none, Option·map}
-use Rattle.parts.specs.Bytes.{Bytes}
+use Rattle.slice.specs.Bytes.{Bytes}
 use Rattle.packed.specs.Assignment.{ConsumerAssignment}
-use Rattle.delta.specs.Join.{Bracketing, row, joined, apply}
+use Rattle.packed_delta.specs.Join.{Bracketing, row, joined, apply}
 use Rattle.session.specs.declared.SessionRecord.{SessionRecord}
 use Rattle.session.specs.declared.Floor.{Floor}
 use Rattle.session.specs.declared.Floor.the-variants.{Unset}

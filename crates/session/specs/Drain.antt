@@ -13,8 +13,8 @@ use Rattle.refusal.specs.declared.Refusal.the-variants.{StoreTooShort, OutputTo
 use Rattle.refusal.specs.Steps.{_>>_}
 use Rattle.packed.specs.Assignment.{ConsumerAssignment}
 use Rattle.packed.specs.Equal.{sameAssignment}
-use Rattle.delta.specs.Delta.{AssignmentDelta}
-use Rattle.delta.specs.Change.{deltaBetween}
+use Rattle.packed_delta.specs.Delta.{AssignmentDelta}
+use Rattle.packed_delta.specs.Change.{deltaBetween}
 use Rattle.session.specs.declared.SessionRecord.{SessionRecord}
 use Rattle.session.specs.Store.{minStore, minOutput, queueEnd}
 use Rattle.session.specs.Session as session

@@ -8,7 +8,7 @@ use lib.ListN.{length, take, drop, getD}
 use lib.Dec.{leb}
 use Rattle.types.specs.declared.ScalableConsumerType.{ScalableConsumerType}
 use Rattle.types.specs.declared.ScalableConsumerType.the-variants.{Stream, Checkpoint}
-use Rattle.packed_int.specs.Be.{bytesOf, beAt}
+use Rattle.slice_int.specs.Be.{bytesOf, beAt}
 use Rattle.utf8.specs.Table.{isUtf8}
 
 pub record Identity : Type 0 where

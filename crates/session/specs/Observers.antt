@@ -7,11 +7,11 @@ use mathlib.Core.List.{List, [], _∷_, _++_}
 use mathlib.Core.Option.{Option, some, none, Option·map}
 use lib.Dec.{eqb}
 use Rattle.keyed.specs.Keyed.{orElse, isSome}
-use Rattle.readers.specs.Messages.{updateOf, responseOf}
+use Rattle.wire_readers.specs.Messages.{updateOf, responseOf}
 use Rattle.packed.specs.Assignment.{ConsumerAssignment}
-use Rattle.delta.specs.Delta.{AssignmentDelta}
-use Rattle.delta.specs.Join.{apply}
-use Rattle.content.specs.Content.{consumerAssignment}
+use Rattle.packed_delta.specs.Delta.{AssignmentDelta}
+use Rattle.packed_delta.specs.Join.{apply}
+use Rattle.intake_content.specs.Content.{consumerAssignment}
 use Rattle.session.specs.declared.Floor.{Floor}
 use Rattle.session.specs.declared.Floor.the-variants.{Unset}
 use Rattle.session.specs.Session.{raise}

@@ -14,13 +14,13 @@ use Rattle.types.specs.declared.ControllerIncarnation.{ControllerIncarnation}
 use Rattle.refusal.specs.declared.Refusal.{Refusal}
 use Rattle.refusal.specs.declared.Refusal.the-variants.{StoreTooShort, MalformedStore, IncarnationMismatch, Broker, Empty, StaleEpoch}
 use Rattle.refusal.specs.Steps.{_>>_, _>>=_}
-use Rattle.schema.specs.declared.MessageKind.the-variants.{CommandScalableTopicSubscribeResponse}
-use Rattle.schema.specs.FirstFault.{firstFault}
-use Rattle.readers.specs.declared.ErrorCode.{ErrorCode}
-use Rattle.readers.specs.declared.ErrorCode.the-variants.{Given, Absent}
-use Rattle.readers.specs.Messages.{WireResponse, responseOf}
+use Rattle.wire_schema.specs.declared.MessageKind.the-variants.{CommandScalableTopicSubscribeResponse}
+use Rattle.wire_schema.specs.FirstFault.{firstFault}
+use Rattle.wire_readers.specs.declared.ErrorCode.{ErrorCode}
+use Rattle.wire_readers.specs.declared.ErrorCode.the-variants.{Given, Absent}
+use Rattle.wire_readers.specs.Messages.{WireResponse, responseOf}
 use Rattle.packed.specs.Assignment.{ConsumerAssignment}
-use Rattle.content.specs.Content.{contentOf}
+use Rattle.intake_content.specs.Content.{contentOf}
 use Rattle.session.specs.declared.SessionRecord.{SessionRecord}
 use Rattle.session.specs.Store.{minStore, baselineSlot, listSlot, toSlot}
 use Rattle.session.specs.Session as session

@@ -10,7 +10,7 @@ use Rattle.refusal.specs.declared.Refusal.the-variants.{OutputTooShort, Unknown
 use Rattle.packed.specs.Assignment.{ConsumerAssignment, sizeSegments, sizeAssignment}
 use Rattle.packed.specs.Equal.{sameSegments, sameAssignment}
 use Rattle.packed_queue.specs.Entries.{sizeEntries}
-use Rattle.delta.specs.Change.{without, deltaBetween}
+use Rattle.packed_delta.specs.Change.{without, deltaBetween}
 use Rattle.session.specs.declared.SessionRecord.{SessionRecord}
 use Rattle.session.specs.declared.Floor.the-variants.{At}
 use Rattle.session.specs.Store.{minOutput}

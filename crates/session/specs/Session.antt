@@ -11,7 +11,7 @@ use Rattle.types.specs.declared.ControllerIncarnation.{ControllerIncarnation}
 use Rattle.refusal.specs.declared.Refusal.{Refusal}
 use Rattle.refusal.specs.declared.Refusal.the-variants.{CrossIncarnationEpochRegression}
 use Rattle.packed.specs.Assignment.{ConsumerAssignment, startsAssignment}
-use Rattle.delta.specs.Delta.{AssignmentDelta}
+use Rattle.packed_delta.specs.Delta.{AssignmentDelta}
 use Rattle.session.specs.declared.SessionRecord.{SessionRecord}
 use Rattle.session.specs.declared.Floor.{Floor}
 use Rattle.session.specs.declared.Floor.the-variants.{Unset, At}

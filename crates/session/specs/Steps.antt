@@ -5,10 +5,10 @@ use mathlib.Core.Bool.{Bool, cond}
 use mathlib.Core.List.{[]}
 use mathlib.Core.Option.{Option}
 use Rattle.refusal.specs.declared.Refusal.{Refusal}
-use Rattle.schema.specs.declared.Checked.{Checked}
-use Rattle.schema.specs.declared.Checked.the-variants as checked
+use Rattle.wire_schema.specs.declared.Checked.{Checked}
+use Rattle.wire_schema.specs.declared.Checked.the-variants as checked
 use Rattle.packed.specs.Assignment.{ConsumerAssignment}
-use Rattle.content.specs.Content as content
+use Rattle.intake_content.specs.Content as content
 use Rattle.session.specs.Session.{Session, nothing, Result, refuse, unless}
 
 abbrev pub refuseIf : Session → Bool → Refusal → Result → Result

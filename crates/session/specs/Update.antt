@@ -12,13 +12,13 @@ use Rattle.refusal.specs.declared.Refusal.{Refusal}
 use Rattle.refusal.specs.declared.Refusal.the-variants.{StoreTooShort, OutputTooShort, MalformedStore, IncarnationMismatch}
 use Rattle.refusal.specs.declared.Refusal.the-variants.{ConsumerMismatch, StaleEpoch, PreBaselineBufferFull}
 use Rattle.refusal.specs.Steps.{_>>_, _>>=_}
-use Rattle.schema.specs.declared.MessageKind.the-variants.{CommandScalableTopicAssignmentUpdate}
-use Rattle.schema.specs.FirstFault.{firstFault}
-use Rattle.readers.specs.Messages.{updateOf}
+use Rattle.wire_schema.specs.declared.MessageKind.the-variants.{CommandScalableTopicAssignmentUpdate}
+use Rattle.wire_schema.specs.FirstFault.{firstFault}
+use Rattle.wire_readers.specs.Messages.{updateOf}
 use Rattle.packed.specs.Assignment.{ConsumerAssignment}
 use Rattle.packed.specs.Equal.{sameAssignment}
-use Rattle.delta.specs.Change.{deltaBetween}
-use Rattle.content.specs.Content.{contentOf}
+use Rattle.packed_delta.specs.Change.{deltaBetween}
+use Rattle.intake_content.specs.Content.{contentOf}
 use Rattle.session.specs.declared.SessionRecord.{SessionRecord}
 use Rattle.session.specs.declared.Floor.{Floor}
 use Rattle.packed_queue.specs.Entries.{sizeEntry}

@@ -14,14 +14,14 @@ use lib.ListN.{length, take, drop}
 use lib.Seq.{drop-drop}
 use borrow.Author.Tests.{lt-ltb, le-ltb, le-leb, lt-leb, not-true, not-false}
 use Rattle.refusal.specs.declared.Refusal.the-variants.{StoreTooShort, OutputTooShort, UnknownReader, MalformedStore}
-use Rattle.packed_int.specs.Be.{beAt}
-use Rattle.packed_int.specs.Put.{put}
+use Rattle.slice_int.specs.Be.{beAt}
+use Rattle.slice_int.specs.Put.{put}
 use Rattle.packed.specs.Assignment.{ConsumerAssignment, decodeAssignment}
 use Rattle.packed.specs.Equal.{sameAssignment}
 use Rattle.packed_queue.specs.Entries.{sizeEntries, sheetIn, entryEnd, decodeEntries, entriesEnd}
 use Rattle.packed_queue.proofs.WalkLaws.{ends-split, entries-take}
-use Rattle.delta.specs.Delta.{AssignmentDelta, encodeDelta, sizeDelta}
-use Rattle.delta.specs.Change.{deltaBetween}
+use Rattle.packed_delta.specs.Delta.{AssignmentDelta, encodeDelta, sizeDelta}
+use Rattle.packed_delta.specs.Change.{deltaBetween}
 use Rattle.session.specs.declared.SessionRecord.{SessionRecord}
 use Rattle.session.specs.declared.Changed.{Changed}
 use Rattle.session.specs.declared.Answer.the-variants.{Refused, Unchanged, Replay}

@@ -7,7 +7,7 @@ use mathlib.Core.List.{List}
 use lib.ListN.{length}
 use lib.Dec.{ltb}
 use Rattle.packed.specs.Assignment.{startsAssignment}
-use Rattle.delta.specs.Change.{deltaBetween}
+use Rattle.packed_delta.specs.Change.{deltaBetween}
 use Rattle.session.specs.Store.{slot, queueIn, queueReads, queueEnd}
 use Rattle.session.specs.Drain.{Found, end, entry}
 use Rattle.session_store.specs.Places.{Lies, entryIn, listBefore}

@@ -33,7 +33,7 @@ fn skip_to(store: &[u8], i: usize, n: usize) -> Reached
     let mut at = MIN_STORE;
     let mut k: usize = 0;
     while k < i {
-        let size = packed_int::read_u16(store, at) as usize;
+        let size = slice_int::read_u16(store, at) as usize;
         before = at + LENGTH;
         until = before + size;
         at = until;
@@ -60,10 +60,10 @@ fn next_change(store: &[u8], from: usize, n: usize) -> Reached
     let mut at = first.at;
     let mut i = first.i;
     while i < n {
-        let size = packed_int::read_u16(store, at) as usize;
+        let size = slice_int::read_u16(store, at) as usize;
         let place = at + LENGTH;
         let end = place + size;
-        if !records::same_assignment(&store[before..until], &store[place..end]) {
+        if !packed_records::same_assignment(&store[before..until], &store[place..end]) {
             return Reached {
                 i,
                 at,
@@ -92,7 +92,7 @@ pub fn drained(r: SessionRecord, store: &[u8], reader: usize, out: &mut [u8]) ->
     if store.len() < MIN_STORE {
         return session_record::refuse(r, Refusal::StoreTooShort);
     }
-    if out.len() < difference::LONGEST {
+    if out.len() < packed_diff::LONGEST {
         return session_record::refuse(r, Refusal::OutputTooShort);
     }
     if READERS <= reader {
@@ -112,10 +112,10 @@ pub fn drained(r: SessionRecord, store: &[u8], reader: usize, out: &mut [u8]) ->
     }
     let before = found.before;
     let until = found.until;
-    let size = packed_int::read_u16(store, found.at) as usize;
+    let size = slice_int::read_u16(store, found.at) as usize;
     let place = found.at + LENGTH;
     let end = place + size;
-    let len = difference::write_delta(&store[before..until], &store[place..end], out);
+    let len = packed_diff::write_delta(&store[before..until], &store[place..end], out);
     let next = session_record::with_position(r, reader, found.i + 1);
     Changed {
         next,

@@ -14,34 +14,34 @@ use lib.ListN.{length, take, drop, getD, length-drop}
 use lib.Seq.{take-take}
 use lib.Dec.{leb}
 use borrow.Author.Tests.{leb-true, eq-eqb}
-use Rattle.parts.specs.BoolLaws.{both-true}
-use Rattle.parts.proofs.PartLaws.{drop-take, Bytes}
-use Rattle.packed_int.specs.Be.{be, beAt}
-use Rattle.packed_int.specs.Put.{put}
-use Rattle.packed_int.proofs.PutLaws.{length-put}
+use Rattle.slice.specs.BoolLaws.{both-true}
+use Rattle.slice.proofs.PartLaws.{drop-take, Bytes}
+use Rattle.slice_int.specs.Be.{be, beAt}
+use Rattle.slice_int.specs.Put.{put}
+use Rattle.slice_int.proofs.PutLaws.{length-put}
 use Rattle.utf8.specs.Table.{isUtf8}
 use Rattle.wire.specs.declared.WireType.the-variants as type
 use Rattle.wire.specs.Fields.{number, bytes, field, fieldsOf}
 use Rattle.wire.proofs.FieldsLaws.{fields-nil}
-use Rattle.schema.specs.declared.MessageKind.the-variants.{ScalableConsumerAssignment}
-use Rattle.schema.specs.declared.Checked.the-variants.{Valid}
-use Rattle.schema.specs.FirstFault.{firstFault, Sound}
-use Rattle.schema.proofs.SoundLaws.{update-row, response-row}
-use Rattle.plain.specs.Plain.{NumberIs, PartField}
-use Rattle.values.specs.Values.{mergedFields}
-use Rattle.readers.specs.Messages.{updateOf, responseOf}
-use Rattle.readers.specs.Messages as wire
+use Rattle.wire_schema.specs.declared.MessageKind.the-variants.{ScalableConsumerAssignment}
+use Rattle.wire_schema.specs.declared.Checked.the-variants.{Valid}
+use Rattle.wire_schema.specs.FirstFault.{firstFault, Sound}
+use Rattle.wire_schema.proofs.SoundLaws.{update-row, response-row}
+use Rattle.wire_ordered.specs.Plain.{NumberIs, PartField}
+use Rattle.wire_values.specs.Values.{mergedFields}
+use Rattle.wire_readers.specs.Messages.{updateOf, responseOf}
+use Rattle.wire_readers.specs.Messages as wire
 use Rattle.packed.specs.Assignment.{ConsumerAssignment, encodeAssignment, decodeAssignment, sizeAssignment, okAssignment, startsAssignment}
 use Rattle.packed.proofs.RoundLaws.{FitAssignment, length-encodeAssignment, read-assignment, starts-encode}
-use Rattle.content.specs.Content.{Content, refused, taken, contentOf}
-use Rattle.content.proofs.WideLaws.{Wide, update-wide, response-wide}
-use Rattle.content.proofs.ContentLaws.{content-fits}
+use Rattle.intake_content.specs.Content.{Content, refused, taken, contentOf}
+use Rattle.intake_content.proofs.WideLaws.{Wide, update-wide, response-wide}
+use Rattle.intake_content.proofs.ContentLaws.{content-fits}
 use Rattle.intake.specs.declared.Intake.{Intake}
 use Rattle.intake.specs.declared.Intake.the-variants as intake
 use Rattle.intake.specs.Intake.{IntakeIs}
-use Rattle.plain_intake.specs.declared.PlainIntake.{PlainIntake}
-use Rattle.plain_intake.specs.declared.PlainIntake.the-variants.{Taken}
-use Rattle.plain_intake.specs.Taken.{PlainTaken, PlainSays}
+use Rattle.intake_ordered.specs.declared.PlainIntake.{PlainIntake}
+use Rattle.intake_ordered.specs.declared.PlainIntake.the-variants.{Taken}
+use Rattle.intake_ordered.specs.Taken.{PlainTaken, PlainSays}
 use Rattle.session.specs.Store.{slot}
 use Rattle.session.specs.Identity.{identityTopic, isIdentity}
 use Rattle.packed_queue.proofs.EntryLaws.{size-ok}

@@ -11,14 +11,14 @@ use lib.ListN.{length, take, drop}
 use lib.Dec.{eqb}
 use Rattle.wire.specs.declared.WireType.the-variants as type
 use Rattle.wire.specs.Fields.{number, bytes, field, fieldsOf}
-use Rattle.schema.specs.declared.MessageKind.{MessageKind}
-use Rattle.schema.specs.declared.MessageKind.the-variants.{CommandScalableTopicAssignmentUpdate, CommandScalableTopicSubscribeResponse}
-use Rattle.schema.specs.declared.Checked.the-variants.{Valid}
-use Rattle.schema.specs.FirstFault.{firstFault}
-use Rattle.values.specs.Values.{mergedFields}
-use Rattle.readers.specs.Messages as wire
+use Rattle.wire_schema.specs.declared.MessageKind.{MessageKind}
+use Rattle.wire_schema.specs.declared.MessageKind.the-variants.{CommandScalableTopicAssignmentUpdate, CommandScalableTopicSubscribeResponse}
+use Rattle.wire_schema.specs.declared.Checked.the-variants.{Valid}
+use Rattle.wire_schema.specs.FirstFault.{firstFault}
+use Rattle.wire_values.specs.Values.{mergedFields}
+use Rattle.wire_readers.specs.Messages as wire
 use Rattle.packed.specs.Assignment.{decodeAssignment}
-use Rattle.content.specs.Content.{Content, refused, taken, contentOf}
+use Rattle.intake_content.specs.Content.{Content, refused, taken, contentOf}
 use Rattle.intake.specs.declared.Intake.{Intake}
 use Rattle.intake.specs.declared.Intake.the-variants as intake
 use Rattle.session.specs.Store.{slot}

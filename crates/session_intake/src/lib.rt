@@ -1,20 +1,20 @@
 // The assignment of a session's message, an update or a response, taken into a buffer of one slot below the session's topic.
 //
-// A message in its usual form is told in one walk, without a scan before it. Any other is scanned by `messages` first, and `take_assignment` is for what that finds valid.
+// A message in its usual form is told in one walk, without a scan before it. Any other is scanned by `wire_messages` first, and `take_assignment` is for what that finds valid.
 ghost use mathlib.Core.Path.{_≡_};
 ghost use mathlib.Core.Bool.{true};
 ghost use Prim.Native.Nat.{_≤_};
 ghost use lib.ListN.{length};
 ghost use Rattle.wire.specs.Fields.{fieldsOf};
-ghost use Rattle.values.specs.Values.{mergedFields};
-ghost use Rattle.readers.specs.Messages.{readAssignment};
+ghost use Rattle.wire_values.specs.Values.{mergedFields};
+ghost use Rattle.wire_readers.specs.Messages.{readAssignment};
 ghost use Rattle.session.specs.Store.{slot};
 ghost use Rattle.session.specs.Identity.{isIdentity};
 ghost use Rattle.session_intake.specs.Taken.{AssignmentField, contentIn, TopicEnd, Answers, PlainMessageSays};
 use intake::Intake;
-use plain::NumberAt;
-use plain::Part;
-use plain_intake::PlainIntake;
+use intake_ordered::PlainIntake;
+use wire_ordered::NumberAt;
+use wire_ordered::Part;
 
 // What is told of a message.
 pub enum PlainMessage {
@@ -29,7 +29,7 @@ fn topic_end(store: &[u8]) -> usize
     requires { ⌜ (6144 ≤ length (now store)) × (isIdentity (slot (now store) 0) ≡ true) ⌝ }
     ensures { λ r. ⌜ TopicEnd (now (store .entry)) r ⌝ }
 {
-    7 + packed_int::read_u16(store, 0) as usize
+    7 + slice_int::read_u16(store, 0) as usize
 }
 
 // A message of field 1, a number, and field n, its assignment, and nothing else. What the buffer holds where nothing is told is free.
@@ -38,17 +38,17 @@ pub fn take_plain_message(store: &[u8], m: &[u8], n: u8, b: &mut [u8]) -> PlainM
     requires { ⌜ AssignmentField n × (length (now b) ≡ 2048) ⌝ }
     ensures { λ r. ⌜ PlainMessageSays (now (store .entry)) (now (m .entry)) n r (now (b .exit)) ⌝ }
 {
-    let NumberAt::Found(head, at) = plain::number_at(1, m, 0) else {
+    let NumberAt::Found(head, at) = wire_ordered::number_at(1, m, 0) else {
         return PlainMessage::Other;
     };
-    let Part::Found(from, to) = plain::part_at(n, m, at) else {
+    let Part::Found(from, to) = wire_ordered::part_at(n, m, at) else {
         return PlainMessage::Other;
     };
     if to < m.len() {
         return PlainMessage::Other;
     }
     let end = topic_end(store);
-    match plain_intake::take_plain(&m[from..to], &store[7..end], b) {
+    match intake_ordered::take_plain(&m[from..to], &store[7..end], b) {
         PlainIntake::Taken(_, size) => PlainMessage::Taken(head, size),
         PlainIntake::Other => PlainMessage::Other,
     }

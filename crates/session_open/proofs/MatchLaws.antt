@@ -11,7 +11,7 @@ use lib.ListN.{length, take, drop, getD}
 use lib.Dec.{eqb}
 use borrow.Author.Tests.{le-ltb, lt-ltb, not-true, not-false}
 use Rattle.refusal.specs.declared.Refusal.the-variants.{StoreTooShort, MalformedStore}
-use Rattle.parts.specs.Same.{sameBytes}
+use Rattle.slice.specs.Same.{sameBytes}
 use Rattle.session.specs.declared.Match.the-variants.{Same, Other, Refused}
 use Rattle.session.specs.Store.{slot}
 use Rattle.session.specs.Identity.{Identity, kindByte, identityTopic, subscriptionOf, consumerNameOf, isIdentity}

@@ -14,10 +14,10 @@ use borrow.Author.Tests.{le-leb, lt-leb, leb-true, leb-false, le-ltb, lt-ltb, no
 use Rattle.types.specs.declared.ControllerIncarnation.{ControllerIncarnation}
 use Rattle.refusal.specs.declared.Refusal.the-variants.{StoreTooShort, InvalidUtf8, IdentityTooLong}
 use Rattle.utf8.specs.Table.{isUtf8}
-use Rattle.packed_int.specs.Be.{bytesOf}
-use Rattle.packed_int.specs.Put.{put}
-use Rattle.packed_int.proofs.BeLaws.{length-bytesOf}
-use Rattle.packed_int.proofs.PutLaws.{length-put, put-one, put-before}
+use Rattle.slice_int.specs.Be.{bytesOf}
+use Rattle.slice_int.specs.Put.{put}
+use Rattle.slice_int.proofs.BeLaws.{length-bytesOf}
+use Rattle.slice_int.proofs.PutLaws.{length-put, put-one, put-before}
 use Rattle.session.specs.declared.SessionRecord.{SessionRecord}
 use Rattle.session.specs.declared.Changed.{Changed}
 use Rattle.session.specs.declared.Answer.the-variants.{Accepted}

@@ -11,16 +11,16 @@ use mathlib.Core.List.{List, _++_}
 use lib.ListN.{length, take, drop}
 use lib.Dec.{ltb, leb}
 use borrow.Author.Tests.{le-ltb, ltb-false, leb-true, eq-eqb, eqb-true}
-use Rattle.parts.specs.BoolLaws.{both-true}
+use Rattle.slice.specs.BoolLaws.{both-true}
 use Rattle.types.specs.declared.ControllerIncarnation.{ControllerIncarnation}
 use Rattle.types.specs.declared.ScalableConsumerType.{ScalableConsumerType}
 use Rattle.types.specs.declared.ScalableConsumerType.the-variants.{Stream, Checkpoint}
 use Rattle.refusal.specs.declared.Refusal.{Refusal}
 use Rattle.refusal.specs.declared.Refusal.the-variants.{StoreTooShort, InvalidUtf8, IdentityTooLong}
-use Rattle.parts.specs.Same.{sameBytes}
-use Rattle.parts.proofs.SameLaws.{same-refl, same-eq}
-use Rattle.packed_int.specs.Put.{put}
-use Rattle.packed_int.proofs.PutLaws.{length-put, drop-put}
+use Rattle.slice.specs.Same.{sameBytes}
+use Rattle.slice.proofs.SameLaws.{same-refl, same-eq}
+use Rattle.slice_int.specs.Put.{put}
+use Rattle.slice_int.proofs.PutLaws.{length-put, drop-put}
 use Rattle.session.specs.declared.Answer.the-variants as answer
 use Rattle.packed_queue.specs.Entries.{startEntries}
 use Rattle.session.specs.declared.Match.the-variants.{Same, Other}

@@ -10,7 +10,7 @@ use mathlib.Core.List.{List}
 use lib.ListN.{length, drop}
 use lib.Dec.{eqb}
 use Rattle.types.specs.declared.ControllerIncarnation.{ControllerIncarnation}
-use Rattle.parts.specs.Same.{sameBytes}
+use Rattle.slice.specs.Same.{sameBytes}
 use Rattle.session.specs.declared.Answer.the-variants as answer
 use Rattle.session.specs.declared.Match.{Match}
 use Rattle.session.specs.declared.Match.the-variants.{Same, Other}

@@ -4,7 +4,7 @@ ghost use mathlib.Core.Bool.{true};
 ghost use Prim.Native.Nat.{_+_, _≤_};
 ghost use lib.ListN.{length};
 ghost use lib.Dec.{leb};
-ghost use Rattle.packed_int.specs.Put.{put};
+ghost use Rattle.slice_int.specs.Put.{put};
 ghost use Rattle.session.specs.Identity.{kindByte, encodeIdentity, isIdentity};
 ghost use Rattle.session.specs.Calls.{freshRecord, openOutcome, sameIdentity, matchOf};
 use refusal::Refusal;
@@ -57,13 +57,13 @@ fn write_identity(
 {
     let second = 7 + topic.len();
     let third = second + subscription.len();
-    packed_int::put_bytes(store, third, name);
-    packed_int::put_bytes(store, second, subscription);
-    packed_int::put_bytes(store, 7, topic);
+    slice_int::put_bytes(store, third, name);
+    slice_int::put_bytes(store, second, subscription);
+    slice_int::put_bytes(store, 7, topic);
     store[6] = kind_byte(kind);
-    packed_int::write_u16(store, 4, name.len() as u16);
-    packed_int::write_u16(store, 2, subscription.len() as u16);
-    packed_int::write_u16(store, 0, topic.len() as u16);
+    slice_int::write_u16(store, 4, name.len() as u16);
+    slice_int::write_u16(store, 2, subscription.len() as u16);
+    slice_int::write_u16(store, 0, topic.len() as u16);
 }
 
 // The record of a session that was just opened.
@@ -129,16 +129,16 @@ fn same_identity(
     requires { ⌜ isIdentity (now s) ≡ true ⌝ }
     ensures { λ r. ⌜ r ≡ sameIdentity (now (s .entry)) (record { topic = now (topic .entry); subscription = now (subscription .entry); consumerName = now (name .entry); consumerType = kind }) ⌝ }
 {
-    let second = 7 + packed_int::read_u16(s, 0) as usize;
-    let third = second + packed_int::read_u16(s, 2) as usize;
-    let end = third + packed_int::read_u16(s, 4) as usize;
-    if !parts::same(&s[7..second], topic) {
+    let second = 7 + slice_int::read_u16(s, 0) as usize;
+    let third = second + slice_int::read_u16(s, 2) as usize;
+    let end = third + slice_int::read_u16(s, 4) as usize;
+    if !slice::same(&s[7..second], topic) {
         return false;
     }
-    if !parts::same(&s[second..third], subscription) {
+    if !slice::same(&s[second..third], subscription) {
         return false;
     }
-    if !parts::same(&s[third..end], name) {
+    if !slice::same(&s[third..end], name) {
         return false;
     }
     s[6] == kind_byte(kind)

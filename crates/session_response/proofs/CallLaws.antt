@@ -15,20 +15,20 @@ use Rattle.types.specs.declared.ControllerIncarnation.{ControllerIncarnation}
 use Rattle.refusal.specs.declared.Refusal.{Refusal}
 use Rattle.refusal.specs.declared.Refusal.the-variants.{StoreTooShort, MalformedStore, IncarnationMismatch}
 use Rattle.refusal.specs.declared.Refusal.the-variants.{CrossIncarnationEpochRegression, StaleEpoch}
-use Rattle.schema.specs.declared.MessageKind.the-variants.{CommandScalableTopicSubscribeResponse}
-use Rattle.schema.specs.declared.Checked.the-variants as checked
-use Rattle.schema.specs.FirstFault.{firstFault}
-use Rattle.readers.specs.declared.ErrorCode.{ErrorCode}
-use Rattle.readers.specs.declared.ErrorCode.the-variants.{Given, Absent}
-use Rattle.readers.specs.declared.ResponseHead.{ResponseHead}
+use Rattle.wire_schema.specs.declared.MessageKind.the-variants.{CommandScalableTopicSubscribeResponse}
+use Rattle.wire_schema.specs.declared.Checked.the-variants as checked
+use Rattle.wire_schema.specs.FirstFault.{firstFault}
+use Rattle.wire_readers.specs.declared.ErrorCode.{ErrorCode}
+use Rattle.wire_readers.specs.declared.ErrorCode.the-variants.{Given, Absent}
+use Rattle.wire_readers.specs.declared.ResponseHead.{ResponseHead}
 use Rattle.wire.specs.Fields.{Field, fieldsOf}
-use Rattle.values.specs.Values.{partsOf, present, mergedFields}
-use Rattle.readers.specs.Messages.{WireResponse, responseOf}
-use Rattle.readers.specs.Messages as wire
-use Rattle.readers.specs.Places.{ResponseIs}
-use Rattle.packed_int.specs.Put.{put}
+use Rattle.wire_values.specs.Values.{partsOf, present, mergedFields}
+use Rattle.wire_readers.specs.Messages.{WireResponse, responseOf}
+use Rattle.wire_readers.specs.Messages as wire
+use Rattle.wire_readers.specs.Places.{ResponseIs}
+use Rattle.slice_int.specs.Put.{put}
 use Rattle.packed.specs.Assignment.{ConsumerAssignment, encodeAssignment, decodeAssignment}
-use Rattle.content.specs.Content.{Content, refused, taken, contentOf}
+use Rattle.intake_content.specs.Content.{Content, refused, taken, contentOf}
 use Rattle.session.specs.declared.SessionRecord.{SessionRecord}
 use Rattle.session.specs.declared.Changed.{Changed}
 use Rattle.session.specs.declared.Answer.the-variants as answer

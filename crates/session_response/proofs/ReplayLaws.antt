@@ -13,10 +13,10 @@ use lib.ListN.{length, take, drop, length-drop, length-append, drop-of-length-le
 use lib.Seq.{take-take, take-all, drop-drop, length-take-le}
 use lib.Dec.{ltb, leb}
 use borrow.Author.Tests.{le-ltb, lt-ltb, leb-true}
-use Rattle.parts.specs.BoolLaws.{both-true}
-use Rattle.parts.proofs.PartLaws.{Bytes, Bytes-take, Bytes-drop}
-use Rattle.packed_int.specs.Be.{be, beAt}
-use Rattle.packed_int.specs.Put.{put}
+use Rattle.slice.specs.BoolLaws.{both-true}
+use Rattle.slice.proofs.PartLaws.{Bytes, Bytes-take, Bytes-drop}
+use Rattle.slice_int.specs.Be.{be, beAt}
+use Rattle.slice_int.specs.Put.{put}
 use Rattle.packed.specs.Assignment.{ConsumerAssignment, num, encodeAssignment, sizeAssignment, decodeAssignment, startsAssignment}
 use Rattle.packed.proofs.RoundLaws.{write-assignment, read-assignment, fit-assignment, starts-encode}
 use Rattle.packed_queue.specs.Entries.{sizeEntry, sizeEntries, sheetIn, entryEnd, decodeEntries, entriesEnd, startsEntry, startEntries}

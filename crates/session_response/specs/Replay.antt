@@ -10,12 +10,12 @@ use mathlib.Core.Option.{Option, some, none}
 use lib.Dec.{ltb}
 use Rattle.refusal.specs.declared.Refusal.{Refusal}
 use Rattle.refusal.specs.declared.Refusal.the-variants.{Broker, Empty, StaleEpoch}
-use Rattle.readers.specs.declared.ErrorCode.{ErrorCode}
-use Rattle.readers.specs.declared.ErrorCode.the-variants.{Given, Absent}
-use Rattle.readers.specs.Messages.{WireResponse}
+use Rattle.wire_readers.specs.declared.ErrorCode.{ErrorCode}
+use Rattle.wire_readers.specs.declared.ErrorCode.the-variants.{Given, Absent}
+use Rattle.wire_readers.specs.Messages.{WireResponse}
 use Rattle.packed.specs.Assignment.{ConsumerAssignment, decodeAssignment}
 use Rattle.packed_queue.specs.Entries.{sizeEntry}
-use Rattle.content.specs.Content.{Content, refused, contentOf}
+use Rattle.intake_content.specs.Content.{Content, refused, contentOf}
 use Rattle.session.specs.Store.{queueIn, queueEnd}
 use Rattle.session.specs.declared.SessionRecord.{SessionRecord}
 use Rattle.session.specs.Session.{Session, Result, atStart, raise}

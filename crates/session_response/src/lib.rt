@@ -7,8 +7,8 @@ ghost use mathlib.Core.Bool.{true, false, cond};
 ghost use mathlib.Core.List.{List};
 ghost use Prim.Native.Nat.{ℕ, _≤_};
 ghost use lib.ListN.{length};
-ghost use Rattle.schema.specs.FirstFault.{firstFault};
-ghost use Rattle.readers.specs.Messages.{WireResponse, responseOf};
+ghost use Rattle.wire_schema.specs.FirstFault.{firstFault};
+ghost use Rattle.wire_readers.specs.Messages.{WireResponse, responseOf};
 ghost use Rattle.packed.specs.Assignment as packed-form;
 ghost use Rattle.session.specs.Store.{slot, queueIn, queueReads};
 ghost use Rattle.session.specs.Identity.{identityTopic, isIdentity};
@@ -19,11 +19,8 @@ ghost use Rattle.session_store.specs.Scratch.{Scratch};
 ghost use Rattle.session_intake.specs.Taken.{contentFrom, Ready, Answers};
 ghost use Rattle.session_response.specs.Replay.{staleOf, LastBegins, LastIs, deniedBy, responseSays, registeredBy, registered};
 use intake::Intake;
-use messages::Checked;
-use messages::MessageKind;
 use packed::SLOT;
 use packed_queue::LENGTH;
-use readers::ErrorCode;
 use refusal::Refusal;
 use session::Answer;
 use session::Changed;
@@ -31,6 +28,9 @@ use session::SessionRecord;
 use session_intake::PlainMessage;
 use session_store::MIN_STORE;
 use types::ControllerIncarnation;
+use wire_messages::Checked;
+use wire_messages::MessageKind;
+use wire_readers::ErrorCode;
 
 // An epoch of the queue that lies below the one before it, both; or else where the last entry begins.
 enum Stale {
@@ -48,9 +48,9 @@ fn first_stale(store: &[u8], epoch: u64, n: usize) -> Stale
     let mut at = MIN_STORE;
     let mut left = n;
     while 0 < left {
-        let size = packed_int::read_u16(store, at) as usize;
+        let size = slice_int::read_u16(store, at) as usize;
         let place = at + LENGTH;
-        let got = packed_int::read_u64(store, place);
+        let got = slice_int::read_u64(store, place);
         if got < prev {
             return Stale::At(got, prev);
         }
@@ -71,13 +71,13 @@ fn load_last(store: &[u8], n: usize, at: usize, b: &[u8], size: usize, last: &mu
     ensures { λ r. ⌜ LastIs (now (store .entry)) (now (b .entry)) n r (now (last .exit)) ⌝ }
 {
     if n == 0 {
-        packed_int::put_bytes(last, 0, &b[..SLOT]);
+        slice_int::put_bytes(last, 0, &b[..SLOT]);
         return size;
     }
-    let len = packed_int::read_u16(store, at) as usize;
+    let len = slice_int::read_u16(store, at) as usize;
     let from = at + LENGTH;
     let to = from + len;
-    packed_int::put_bytes(last, 0, &store[from..to]);
+    slice_int::put_bytes(last, 0, &store[from..to]);
     len
 }
 
@@ -124,7 +124,7 @@ fn register(
 {
     let mut last = [0u8; 2048];
     let len = load_last(store, count, at, b, size, &mut last);
-    let epoch = packed_int::read_u64(&last, 0);
+    let epoch = slice_int::read_u64(&last, 0);
     session_store::write_slot(store, 1, b, size);
     session_store::write_slot(store, 2, &last, len);
     let next = registered_with(r, epoch, count);
@@ -142,7 +142,7 @@ fn assigned(r: SessionRecord, store: &mut [u8], b: &[u8], size: usize) -> Change
         ≡ effectOf (responseAssignment (view r (now (store .entry))) (packed-form.decodeAssignment (now (b .entry)))) (now (store .entry)) out) ⌝ }
 {
     let floor = r.epoch_floor;
-    let epoch = packed_int::read_u64(b, 0);
+    let epoch = slice_int::read_u64(b, 0);
     if session_record::below_floor(floor, epoch) {
         let value = session_record::floor_value(floor);
         return session_record::refuse(
@@ -176,7 +176,7 @@ fn take_response(store: &[u8], message: &[u8], b: &mut [u8]) -> Intake
     requires { ⌜ length (now b) ≡ 2048 ⌝ }
     ensures { λ x. ⌜ Answers x (now (b .exit)) (responseSays (identityTopic (slot (now (store .entry)) 0)) (responseOf (now (message .entry)))) ⌝ }
 {
-    let head = readers::read_response(message);
+    let head = wire_readers::read_response(message);
     let epoch = head.layout_epoch;
     if head.has_assignment {
         return session_intake::take_assignment(store, message, 4, epoch, b);
@@ -228,7 +228,7 @@ fn scanned(
     ensures { λ x. ⌜ ((out : List ℕ) → callOutcome (x .answer) (x .next) (now (store .exit)) out
         ≡ effectOf (responseChecked (view r (now (store .entry))) incarnation (now (message .entry)) (firstFault MessageKind.CommandScalableTopicSubscribeResponse (now (message .entry)))) (now (store .entry)) out) ⌝ }
 {
-    match messages::first_fault(MessageKind::CommandScalableTopicSubscribeResponse, message) {
+    match wire_messages::first_fault(MessageKind::CommandScalableTopicSubscribeResponse, message) {
         Checked::Refused(x) => session_record::refuse(r, x),
         Checked::Valid => {
             let expected = r.incarnation;
@@ -274,5 +274,5 @@ pub fn responded(
 pub fn broker_text<'m, 's>(message: &'m [u8], store: &'s [u8]) -> &'m [u8]
     ensures { λ r. ⌜ now r ≡ responseOf (now (message .entry)) .message ⌝ }
 {
-    readers::response_text(message, store)
+    wire_readers::response_text(message, store)
 }

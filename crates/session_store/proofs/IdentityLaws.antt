@@ -12,8 +12,8 @@ use mathlib.Core.List.{List}
 use lib.ListN.{take, drop, getD}
 use lib.Dec.{leb}
 use borrow.Author.Tests.{le-leb, lt-leb, leb-true, not-true, not-false}
-use Rattle.parts.specs.BoolLaws.{both-true}
-use Rattle.packed_int.specs.Be.{beAt}
+use Rattle.slice.specs.BoolLaws.{both-true}
+use Rattle.slice_int.specs.Be.{beAt}
 use Rattle.utf8.specs.Table.{isUtf8}
 use Rattle.session.specs.Identity.{topicLength, subscriptionLength, nameLength, identityTopic, subscriptionOf, consumerNameOf, isIdentity}
 

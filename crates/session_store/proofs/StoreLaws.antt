@@ -14,9 +14,9 @@ use lib.ListN.{length, take, drop, length-drop}
 use lib.Seq.{drop-drop}
 use lib.Dec.{leb, ltb}
 use borrow.Author.Tests.{le-ltb, lt-ltb, ltb-false, leb-true, not-true, not-false}
-use Rattle.parts.specs.BoolLaws.{both-true}
-use Rattle.parts.proofs.PartLaws.{Bytes, rest}
-use Rattle.packed_int.specs.Be.{beAt, bytesOf}
+use Rattle.slice.specs.BoolLaws.{both-true}
+use Rattle.slice.proofs.PartLaws.{Bytes, rest}
+use Rattle.slice_int.specs.Be.{beAt, bytesOf}
 use Rattle.packed.specs.Assignment.{num, encodeAssignment, decodeAssignment, sizeAssignment, okAssignment, startsAssignment, isAssignment}
 use Rattle.packed.specs.Answers.{frontRead}
 use Rattle.packed.specs.declared.Packed.the-variants.{Assignment, Malformed}

@@ -5,7 +5,7 @@ ghost use mathlib.Core.Path.{_≡_};
 ghost use mathlib.Core.Bool.{true, not};
 ghost use Prim.Native.Nat.{_+_, _*_, _≤_, _<_};
 ghost use lib.ListN.{length};
-ghost use Rattle.packed_int.specs.Put.{put};
+ghost use Rattle.slice_int.specs.Put.{put};
 ghost use Rattle.packed.specs.Assignment.{encodeAssignment, decodeAssignment, startsAssignment};
 ghost use Rattle.packed_queue.specs.Entries.{encodeEntry};
 ghost use Rattle.session.specs.Store.{slot};
@@ -41,9 +41,9 @@ pub fn is_identity(s: &[u8]) -> bool
     if 1 < s[6] {
         return false;
     }
-    let topic = packed_int::read_u16(s, 0) as usize;
-    let subscription = packed_int::read_u16(s, 2) as usize;
-    let name = packed_int::read_u16(s, 4) as usize;
+    let topic = slice_int::read_u16(s, 0) as usize;
+    let subscription = slice_int::read_u16(s, 2) as usize;
+    let name = slice_int::read_u16(s, 4) as usize;
     if 2041 < topic + subscription + name {
         return false;
     }
@@ -143,7 +143,7 @@ pub fn write_slot(store: &mut [u8], k: usize, b: &[u8], n: usize)
     requires { ⌜ Scratch (now b) n ⌝ }
     ensures { λ _. ⌜ now (store .exit) ≡ put (now (store .entry)) (2048 * k) (encodeAssignment (decodeAssignment (now (b .entry)))) ⌝ }
 {
-    packed_int::put_bytes(store, SLOT * k, &b[..n]);
+    slice_int::put_bytes(store, SLOT * k, &b[..n]);
 }
 
 // Writes the packed assignment of n bytes at the front of b, behind its length, to a byte place.
@@ -152,6 +152,6 @@ pub fn push(store: &mut [u8], at: usize, b: &[u8], n: usize)
     requires { ⌜ Scratch (now b) n ⌝ }
     ensures { λ _. ⌜ now (store .exit) ≡ put (now (store .entry)) at (encodeEntry (decodeAssignment (now (b .entry)))) ⌝ }
 {
-    packed_int::write_u16(store, at, n as u16);
-    packed_int::put_bytes(store, at + LENGTH, &b[..n]);
+    slice_int::write_u16(store, at, n as u16);
+    slice_int::put_bytes(store, at + LENGTH, &b[..n]);
 }

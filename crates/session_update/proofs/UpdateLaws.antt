@@ -17,21 +17,21 @@ use borrow.Author.Tests.{lt-ltb, le-ltb, eq-eqb, ne-eqb}
 use Rattle.types.specs.declared.ControllerIncarnation.{ControllerIncarnation}
 use Rattle.refusal.specs.declared.Refusal.{Refusal}
 use Rattle.refusal.specs.declared.Refusal.the-variants as refusal
-use Rattle.schema.specs.declared.Checked.the-variants as checked
-use Rattle.schema.specs.declared.MessageKind.the-variants.{CommandScalableTopicAssignmentUpdate}
-use Rattle.schema.specs.FirstFault.{firstFault}
+use Rattle.wire_schema.specs.declared.Checked.the-variants as checked
+use Rattle.wire_schema.specs.declared.MessageKind.the-variants.{CommandScalableTopicAssignmentUpdate}
+use Rattle.wire_schema.specs.FirstFault.{firstFault}
 use Rattle.wire.specs.Fields.{fieldsOf}
-use Rattle.values.specs.Values.{mergedFields, numberIn}
-use Rattle.readers.specs.Messages.{WireUpdate, updateOf}
-use Rattle.readers.specs.Messages as wire
-use Rattle.packed_int.specs.Be.{be, beAt}
-use Rattle.packed_int.specs.Put.{put}
+use Rattle.wire_values.specs.Values.{mergedFields, numberIn}
+use Rattle.wire_readers.specs.Messages.{WireUpdate, updateOf}
+use Rattle.wire_readers.specs.Messages as wire
+use Rattle.slice_int.specs.Be.{be, beAt}
+use Rattle.slice_int.specs.Put.{put}
 use Rattle.packed.specs.Assignment.{ConsumerAssignment, encodeAssignment, sizeAssignment, num, decodeAssignment, startsAssignment}
 use Rattle.packed.specs.Equal.{sameAssignment}
 use Rattle.packed_queue.specs.Entries.{encodeEntry, sizeEntry}
-use Rattle.delta.specs.Delta.{encodeDelta, sizeDelta}
-use Rattle.delta.specs.Change.{deltaBetween}
-use Rattle.content.specs.Content.{Content, refused, taken, contentOf}
+use Rattle.packed_delta.specs.Delta.{encodeDelta, sizeDelta}
+use Rattle.packed_delta.specs.Change.{deltaBetween}
+use Rattle.intake_content.specs.Content.{Content, refused, taken, contentOf}
 use Rattle.session.specs.declared.SessionRecord.{SessionRecord}
 use Rattle.session.specs.declared.Changed.{Changed}
 use Rattle.session.specs.declared.Floor.{Floor}

@@ -7,7 +7,7 @@ use mathlib.Core.Bool.{cond, not}
 use lib.Dec.{eqb}
 use Rattle.types.specs.declared.ControllerIncarnation.{ControllerIncarnation}
 use Rattle.refusal.specs.declared.Refusal.the-variants.{IncarnationMismatch, ConsumerMismatch}
-use Rattle.content.specs.Content.{Content}
+use Rattle.intake_content.specs.Content.{Content}
 use Rattle.session.specs.declared.SessionRecord.{SessionRecord}
 use Rattle.session.specs.Session.{Session, Result, refuse}
 use Rattle.session.specs.Tails.{updateContent}

@@ -7,11 +7,11 @@ ghost use mathlib.Core.Bool.{true};
 ghost use mathlib.Core.List.{List};
 ghost use Prim.Native.Nat.{ℕ, _≤_};
 ghost use lib.ListN.{length};
-ghost use Rattle.schema.specs.FirstFault.{firstFault};
-ghost use Rattle.readers.specs.Messages.{WireUpdate};
+ghost use Rattle.wire_schema.specs.FirstFault.{firstFault};
+ghost use Rattle.wire_readers.specs.Messages.{WireUpdate};
 ghost use Rattle.packed.specs.Assignment.{startsAssignment};
 ghost use Rattle.packed.specs.Assignment as packed-form;
-ghost use Rattle.content.specs.Content.{taken, contentOf};
+ghost use Rattle.intake_content.specs.Content.{taken, contentOf};
 ghost use Rattle.session.specs.Store.{slot};
 ghost use Rattle.session.specs.Identity.{identityTopic};
 ghost use Rattle.session.specs.Session.{view};
@@ -24,8 +24,6 @@ ghost use Rattle.session_store.specs.Tests.{StoreTested};
 ghost use Rattle.session_intake.specs.Taken.{contentFrom, Ready};
 ghost use Rattle.session_update.specs.Address.{addressOf};
 use intake::Intake;
-use messages::Checked;
-use messages::MessageKind;
 use packed::SLOT;
 use packed_queue::LENGTH;
 use refusal::Refusal;
@@ -36,6 +34,8 @@ use session_intake::PlainMessage;
 use session_store::MAX_QUEUE;
 use session_store::Tested;
 use types::ControllerIncarnation;
+use wire_messages::Checked;
+use wire_messages::MessageKind;
 
 // The store's list slot.
 const LIST: usize = 4096;
@@ -49,7 +49,7 @@ fn enqueued(r: SessionRecord, store: &mut [u8], end: usize, b: &[u8], n: usize) 
         ≡ effectOf (updateUnregistered (view r (now (store .entry))) (packed-form.decodeAssignment (now (b .entry)))) (now (store .entry)) out) ⌝ }
 {
     let floor = r.epoch_floor;
-    let epoch = packed_int::read_u64(b, 0);
+    let epoch = slice_int::read_u64(b, 0);
     if session_record::below_floor(floor, epoch) {
         let value = session_record::floor_value(floor);
         return session_record::refuse(
@@ -80,15 +80,15 @@ fn held(r: SessionRecord, store: &mut [u8], b: &[u8], n: usize, out: &mut [u8]) 
     ensures { λ x. ⌜ callOutcome (x .answer) (x .next) (now (store .exit)) (now (out .exit))
         ≡ effectOf (updateRegistered (view r (now (store .entry))) (packed-form.decodeAssignment (now (b .entry)))) (now (store .entry)) (now (out .entry)) ⌝ }
 {
-    if records::same_assignment(&store[LIST..LIST + SLOT], b) {
+    if packed_records::same_assignment(&store[LIST..LIST + SLOT], b) {
         return session_record::unchanged(r);
     }
-    let epoch = packed_int::read_u64(b, 0);
-    let prev = packed_int::read_u64(store, LIST);
+    let epoch = slice_int::read_u64(b, 0);
+    let prev = slice_int::read_u64(store, LIST);
     if epoch < prev {
         return session_record::refuse(r, Refusal::StaleEpoch { got: epoch, prev });
     }
-    let len = difference::write_delta(&store[LIST..LIST + SLOT], b, out);
+    let len = packed_diff::write_delta(&store[LIST..LIST + SLOT], b, out);
     session_store::write_slot(store, 2, b, n);
     let floor = r.epoch_floor;
     let raised = session_record::raised(floor, epoch);
@@ -194,10 +194,10 @@ fn scanned(
     ensures { λ x. ⌜ callOutcome (x .answer) (x .next) (now (store .exit)) (now (out .exit))
         ≡ effectOf (updateChecked (view r (now (store .entry))) incarnation (now (message .entry)) (firstFault MessageKind.CommandScalableTopicAssignmentUpdate (now (message .entry)))) (now (store .entry)) (now (out .entry)) ⌝ }
 {
-    match messages::first_fault(MessageKind::CommandScalableTopicAssignmentUpdate, message) {
+    match wire_messages::first_fault(MessageKind::CommandScalableTopicAssignmentUpdate, message) {
         Checked::Refused(x) => session_record::refuse(r, x),
         Checked::Valid => {
-            let head = readers::read_update(message);
+            let head = wire_readers::read_update(message);
             match address_of(r, head.consumer_id, incarnation) {
                 Address::Refused(x) => session_record::refuse(r, x),
                 Address::Here => {
@@ -229,7 +229,7 @@ pub fn updated(
     if store.len() < session_store::MIN_STORE {
         return session_record::refuse(r, Refusal::StoreTooShort);
     }
-    if out.len() < difference::LONGEST {
+    if out.len() < packed_diff::LONGEST {
         return session_record::refuse(r, Refusal::OutputTooShort);
     }
     let Tested::Sound(end) = session_store::test_store(r, store) else {

@@ -1,6 +1,6 @@
 // The program's arguments.
-use call_text::quoted;
 use libc::STDERR_FILENO;
+use log_text::quoted;
 
 // What the arguments ask of a run.
 pub struct Options {
@@ -35,7 +35,7 @@ fn show_unknown(word: &[u8]) {
 // The options with one more argument.
 fn with(options: Options, word: &[u8]) -> Options {
     let mut next = options;
-    match lines::place_of(b"--lists --state --stop --help", word) {
+    match log_lines::place_of(b"--lists --state --stop --help", word) {
         0 => next.lists = true,
         1 => next.state = true,
         2 => next.stop = true,

@@ -1,15 +1,15 @@
 // The calls of a line that was tested, run on the session.
-use call_line::CallName;
-use call_text::quoted;
-use call_text::text;
+use export_record::Record;
+use export_record::SessionReply;
 use libc::STDOUT_FILENO;
-use session_reply::Record;
-use session_reply::SessionReply;
+use log_calls::CallName;
+use log_text::quoted;
+use log_text::text;
 use types::ControllerIncarnation;
 use types::ScalableConsumerType;
 
 fn consumer_type(word: &[u8]) -> ScalableConsumerType {
-    if parts::same(word, b"checkpoint") {
+    if slice::same(word, b"checkpoint") {
         ScalableConsumerType::Checkpoint
     } else {
         ScalableConsumerType::Stream
@@ -19,7 +19,7 @@ fn consumer_type(word: &[u8]) -> ScalableConsumerType {
 // The session behind an open; one that is refused leaves it as it was.
 fn opened(r: Record, x: SessionReply) -> SessionReply {
     let told = x.reply;
-    if told.answer == reply::REFUSED {
+    if told.answer == export_reply::REFUSED {
         return SessionReply {
             state: r,
             reply: told,
@@ -33,39 +33,39 @@ fn open(line: &[u8], store: &mut [u8]) -> SessionReply {
     let mut topic = io::large_buffer();
     let mut subscription = io::large_buffer();
     let mut name = io::large_buffer();
-    let n = lines::bytes_at(line, 3, &mut topic);
-    let m = lines::bytes_at(line, 4, &mut subscription);
-    let l = lines::bytes_at(line, 5, &mut name);
+    let n = log_lines::bytes_at(line, 3, &mut topic);
+    let m = log_lines::bytes_at(line, 4, &mut subscription);
+    let l = log_lines::bytes_at(line, 5, &mut name);
     let opened = session_open::open(
-        lines::number_at(line, 1),
-        ControllerIncarnation(lines::number_at(line, 2)),
+        log_lines::number_at(line, 1),
+        ControllerIncarnation(log_lines::number_at(line, 2)),
         &topic[..n],
         &subscription[..m],
         &name[..l],
-        consumer_type(lines::word(line, 6)),
+        consumer_type(log_lines::word(line, 6)),
         store,
     );
     let answer = opened.answer;
-    session_reply::open_reply(answer, opened.next)
+    export_record::open_reply(answer, opened.next)
 }
 
 // update INCARNATION MESSAGE
 fn update(r: Record, line: &[u8], store: &mut [u8], out: &mut [u8]) -> SessionReply {
     let mut message = io::large_buffer();
-    let n = lines::bytes_at(line, 2, &mut message);
-    session_lent::updated(r, store, &message[..n], lines::number_at(line, 1), out)
+    let n = log_lines::bytes_at(line, 2, &mut message);
+    export_session::updated(r, store, &message[..n], log_lines::number_at(line, 1), out)
 }
 
 // response INCARNATION MESSAGE
 fn response(r: Record, line: &[u8], store: &mut [u8]) -> SessionReply {
     let mut message = io::large_buffer();
-    let n = lines::bytes_at(line, 2, &mut message);
-    session_lent::responded(r, store, &message[..n], lines::number_at(line, 1))
+    let n = log_lines::bytes_at(line, 2, &mut message);
+    export_session::responded(r, store, &message[..n], log_lines::number_at(line, 1))
 }
 
 // drain READER
 fn drain(r: Record, line: &[u8], store: &[u8], out: &mut [u8]) -> SessionReply {
-    session_lent::drained(r, store, lines::number_at(line, 1) as usize, out)
+    export_session::drained(r, store, log_lines::number_at(line, 1) as usize, out)
 }
 
 // The call of a line, by the function to which the exported call hands on.
@@ -81,22 +81,22 @@ pub fn call(
         CallName::Update => update(r, line, store, out),
         CallName::Response => response(r, line, store),
         CallName::Drain => drain(r, line, store, out),
-        CallName::Begin => session_lent::begun(r, lines::number_at(line, 1)),
-        CallName::Invalidate => session_lent::invalidated(r),
+        CallName::Begin => export_session::begun(r, log_lines::number_at(line, 1)),
+        CallName::Invalidate => export_session::invalidated(r),
     }
 }
 
 // The session that was saved; a refusal leaves the one that is open.
 pub fn restored(r: Record, bytes: &[u8], store: &mut [u8]) -> SessionReply {
-    let restored = saved::restore(bytes, store);
+    let restored = session_saved::restore(bytes, store);
     let answer = restored.answer;
-    opened(r, session_reply::open_reply(answer, restored.next))
+    opened(r, export_record::open_reply(answer, restored.next))
 }
 
 // The broker's text in the message of a response.
 pub fn show_broker_text(line: &[u8], store: &[u8]) {
     let mut message = io::large_buffer();
-    let n = lines::bytes_at(line, 2, &mut message);
+    let n = log_lines::bytes_at(line, 2, &mut message);
     text(b" text ");
     quoted(
         STDOUT_FILENO,

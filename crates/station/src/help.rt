@@ -1,5 +1,5 @@
 // The help page.
-use call_text::text;
+use log_text::text;
 
 pub fn show() {
     text(

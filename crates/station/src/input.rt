@@ -31,7 +31,7 @@ fn run_lines(
     let mut next = run;
     let mut at: usize = 0;
     while at < lines_read.len() {
-        let end = lines::line_end(lines_read, at);
+        let end = log_lines::line_end(lines_read, at);
         if lines_read.len() <= end {
             return with_waiting(next, lines_read.len() - at);
         }

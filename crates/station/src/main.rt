@@ -38,7 +38,7 @@ mod window;
 const STORE: usize = 2103296;
 
 // The bytes of a session of that store, saved.
-const KEPT: usize = STORE + saved::FRAME;
+const KEPT: usize = STORE + session_saved::FRAME;
 
 // Does what the program's arguments ask: runs the log in standard input on a store, with a window of lost counts and a buffer for a saved session
 // beside it, or shows the help page.

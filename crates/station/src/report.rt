@@ -1,28 +1,28 @@
 // What stands behind a call's name: its answer, the session's record, what changed, and the list that is held.
 use crate::calls::show_broker_text;
-use call_text::decimal;
-use call_text::four_bytes;
-use call_text::labelled;
-use call_text::newline;
-use call_text::space;
-use call_text::text;
+use attach_entries::LogAnswer;
 use charge::ChargeAnswer;
 use churn::ChurnAnswer;
-use command::Command;
+use export_record::Record;
+use export_reply::Reply;
 use hours::EarliestAnswer;
 use hours::OpenAnswer;
-use log_entries::LogAnswer;
-use lookup::SegmentAnswer;
+use key_in_segment::KeyAnswer;
+use key_lookup::SegmentAnswer;
+use log_text::decimal;
+use log_text::four_bytes;
+use log_text::labelled;
+use log_text::newline;
+use log_text::space;
+use log_text::text;
 use output::WriteAnswer;
 use packed::SLOT;
-use reply::Reply;
-use segment_key::KeyAnswer;
 use session::READERS;
-use session_reply::Record;
+use wire_command::Command;
 
 // A refusal; of a broker's, 16, the text too.
 fn show_refused(r: Reply, line: &[u8], store: &[u8]) {
-    call_text::refused_reply(r);
+    log_text::refused_reply(r);
     if r.number == 16 {
         show_broker_text(line, store);
     }
@@ -31,31 +31,31 @@ fn show_refused(r: Reply, line: &[u8], store: &[u8]) {
 // A delta at the front of the output.
 fn show_delta(out: &[u8]) {
     text(b"delta ");
-    list_text::delta_counts(out);
+    log_lists::delta_counts(out);
 }
 
 // The same of a push of the queue, with its place.
 fn show_replay(place: u64, out: &[u8]) {
     labelled(b"replay at ", place);
     space();
-    list_text::delta_counts(out);
+    log_lists::delta_counts(out);
 }
 
 // The answer; a delta stands at the front of the output.
 pub fn show_answer(r: Reply, line: &[u8], store: &[u8], out: &[u8]) {
-    if r.answer == reply::REFUSED {
+    if r.answer == export_reply::REFUSED {
         show_refused(r, line, store);
     }
-    if r.answer == reply::ACCEPTED {
+    if r.answer == export_reply::ACCEPTED {
         text(b"accepted");
     }
-    if r.answer == reply::UNCHANGED {
+    if r.answer == export_reply::UNCHANGED {
         text(b"none");
     }
-    if r.answer == reply::DELTA {
+    if r.answer == export_reply::DELTA {
         show_delta(out);
     }
-    if r.answer == reply::REPLAY {
+    if r.answer == export_reply::REPLAY {
         show_replay(r.first, out);
     }
 }
@@ -64,7 +64,7 @@ pub fn show_answer(r: Reply, line: &[u8], store: &[u8], out: &[u8]) {
 pub fn show_saved(answer: WriteAnswer) {
     match answer {
         WriteAnswer::Written(n) => labelled(b"saved ", n as u64),
-        WriteAnswer::Refused(x) => call_text::refused(x),
+        WriteAnswer::Refused(x) => log_text::refused(x),
     }
 }
 
@@ -73,7 +73,7 @@ pub fn show_segment(answer: SegmentAnswer) {
     match answer {
         SegmentAnswer::Segment(id) => decimal(id.0),
         SegmentAnswer::NoSegment => text(b"none"),
-        SegmentAnswer::Refused(x) => call_text::refused(x),
+        SegmentAnswer::Refused(x) => log_text::refused(x),
     }
 }
 
@@ -82,7 +82,7 @@ pub fn show_key(answer: KeyAnswer) {
     match answer {
         KeyAnswer::Key(k) => four_bytes(k.first, k.second, k.third, k.fourth),
         KeyAnswer::NoKey => text(b"none"),
-        KeyAnswer::Refused(x) => call_text::refused(x),
+        KeyAnswer::Refused(x) => log_text::refused(x),
     }
 }
 
@@ -93,7 +93,7 @@ pub fn show_charge(answer: ChargeAnswer) {
             labelled(b"charged ", cost);
             labelled(b" remainder ", remainder);
         }
-        ChargeAnswer::Refused(x) => call_text::refused(x),
+        ChargeAnswer::Refused(x) => log_text::refused(x),
     }
 }
 
@@ -104,7 +104,7 @@ pub fn show_churn(answer: ChurnAnswer) {
             labelled(b"lost ", t.sum);
             labelled(b" largest ", t.largest);
         }
-        ChurnAnswer::Refused(x) => call_text::refused(x),
+        ChurnAnswer::Refused(x) => log_text::refused(x),
     }
 }
 
@@ -113,7 +113,7 @@ pub fn show_earliest(answer: EarliestAnswer) {
     match answer {
         EarliestAnswer::At(second) => decimal(second),
         EarliestAnswer::NoneOpen => text(b"none"),
-        EarliestAnswer::Refused(x) => call_text::refused(x),
+        EarliestAnswer::Refused(x) => log_text::refused(x),
     }
 }
 
@@ -129,7 +129,7 @@ fn show_yes(b: bool) {
 pub fn show_open(answer: OpenAnswer) {
     match answer {
         OpenAnswer::Told(b) => show_yes(b),
-        OpenAnswer::Refused(x) => call_text::refused(x),
+        OpenAnswer::Refused(x) => log_text::refused(x),
     }
 }
 
@@ -137,7 +137,7 @@ pub fn show_open(answer: OpenAnswer) {
 pub fn show_log(answer: LogAnswer) {
     match answer {
         LogAnswer::Told(b) => show_yes(b),
-        LogAnswer::Refused(x) => call_text::refused(x),
+        LogAnswer::Refused(x) => log_text::refused(x),
     }
 }
 
@@ -151,9 +151,9 @@ fn show_message(name: &[u8], start: usize, len: usize, label: &[u8], id: u64) {
 
 // A command that carries none: its type, and of one of the three the parts of its message.
 fn show_type(label: &[u8], c: Command) {
-    let r = command::command_reply(c);
+    let r = wire_command::command_reply(c);
     text(label);
-    call_text::attached_as(true, r.first);
+    log_text::attached_as(true, r.first);
     if r.count == 2 {
         labelled(b" ", r.second);
     }
@@ -173,7 +173,7 @@ pub fn show_command(c: Command) {
         Command::Watch(start, len, id) => show_message(b"watch", start, len, b" watch ", id),
         Command::Parts(_, _) => show_type(b"parts", c),
         Command::Other(_) => show_type(b"other", c),
-        Command::Refused(x) => call_text::refused(x),
+        Command::Refused(x) => log_text::refused(x),
     }
 }
 
@@ -215,8 +215,8 @@ pub fn show_state(r: Record, window: &[u8]) {
 
 // What an answer's delta loses and gains.
 pub fn show_changes(r: Reply, out: &[u8]) {
-    if r.answer == reply::DELTA || r.answer == reply::REPLAY {
-        list_text::changes(out);
+    if r.answer == export_reply::DELTA || r.answer == export_reply::REPLAY {
+        log_lists::changes(out);
     }
 }
 
@@ -227,6 +227,6 @@ pub fn show_held(is_registered: bool, store: &[u8]) {
         return;
     }
     if session_store::MIN_STORE <= store.len() {
-        list_text::held(&store[2 * SLOT..3 * SLOT]);
+        log_lists::held(&store[2 * SLOT..3 * SLOT]);
     }
 }

@@ -1,16 +1,16 @@
 // Questions about the list that is held: which segment takes a key, and a key that falls in a segment. A station that
 // is not registered holds no segment.
-use lookup::SegmentAnswer;
+use key_in_segment::KeyAnswer;
+use key_lookup::SegmentAnswer;
 use packed::Packed;
 use packed::SLOT;
-use segment_key::KeyAnswer;
 use types::SegmentId;
 
 // The segment of the list at the front of a slot.
 fn in_slot(slot: &[u8], key: &[u8]) -> SegmentAnswer {
     if let Packed::Assignment(size, _) = packed::read_front(slot) {
         if size <= slot.len() {
-            return lookup::segment_for_key(key, &slot[..size]);
+            return key_lookup::segment_for_key(key, &slot[..size]);
         }
     }
     SegmentAnswer::NoSegment
@@ -20,7 +20,7 @@ fn in_slot(slot: &[u8], key: &[u8]) -> SegmentAnswer {
 fn key_in_slot(slot: &[u8], id: SegmentId) -> KeyAnswer {
     if let Packed::Assignment(size, _) = packed::read_front(slot) {
         if size <= slot.len() {
-            return segment_key::key_in_segment(&slot[..size], id);
+            return key_in_segment::key_in_segment(&slot[..size], id);
         }
     }
     KeyAnswer::NoKey
@@ -35,7 +35,7 @@ pub fn segment(is_registered: bool, line: &[u8], store: &[u8]) -> SegmentAnswer 
         return SegmentAnswer::NoSegment;
     }
     let mut key = io::large_buffer();
-    let n = lines::bytes_at(line, 1, &mut key);
+    let n = log_lines::bytes_at(line, 1, &mut key);
     in_slot(&store[2 * SLOT..3 * SLOT], &key[..n])
 }
 
@@ -49,6 +49,6 @@ pub fn key(is_registered: bool, line: &[u8], store: &[u8]) -> KeyAnswer {
     }
     key_in_slot(
         &store[2 * SLOT..3 * SLOT],
-        SegmentId(lines::number_at(line, 1)),
+        SegmentId(log_lines::number_at(line, 1)),
     )
 }

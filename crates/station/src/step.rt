@@ -7,26 +7,26 @@ use crate::questions;
 use crate::report;
 use crate::segments;
 use crate::window;
-use call_line::CallName;
-use call_line::Line;
-use call_text::decimal;
-use call_text::labelled;
-use call_text::newline;
-use call_text::space;
-use call_text::text;
+use attach_entries::LogAnswer;
 use charge::ChargeAnswer;
 use churn::ChurnAnswer;
-use command::Command;
+use export_record::Record;
+use export_record::SessionReply;
+use export_reply::Reply;
 use hours::EarliestAnswer;
 use hours::OpenAnswer;
+use key_in_segment::KeyAnswer;
+use key_lookup::SegmentAnswer;
 use libc::STDOUT_FILENO;
-use log_entries::LogAnswer;
-use lookup::SegmentAnswer;
+use log_calls::CallName;
+use log_calls::Line;
+use log_text::decimal;
+use log_text::labelled;
+use log_text::newline;
+use log_text::space;
+use log_text::text;
 use output::WriteAnswer;
-use reply::Reply;
-use segment_key::KeyAnswer;
-use session_reply::Record;
-use session_reply::SessionReply;
+use wire_command::Command;
 
 // What a run has come to.
 pub struct Run {
@@ -93,7 +93,7 @@ fn settled(run: Run, changed: SessionReply) -> Run {
     let record = changed.state;
     let told = changed.reply;
     next.record = record;
-    if told.answer == reply::REFUSED {
+    if told.answer == export_reply::REFUSED {
         return counted(next, true);
     }
     next.is_open = true;
@@ -120,7 +120,7 @@ fn show_details(options: Options, run: Run, told: Reply, store: &[u8], window: &
 fn show_name(at: u64, line: &[u8]) {
     decimal(at);
     space();
-    text(lines::word(line, 0));
+    text(log_lines::word(line, 0));
     space();
 }
 
@@ -140,7 +140,7 @@ fn run_call(
     store: &mut [u8],
     window: &mut [u8],
 ) -> Run {
-    let mut out = [0u8; difference::LONGEST];
+    let mut out = [0u8; packed_diff::LONGEST];
     let record = run.record;
     let changed = calls::call(record, name, line, store, &mut out);
     let told = changed.reply;
@@ -260,7 +260,7 @@ fn run_command(run: Run, line: &[u8]) -> Run {
 // Saves the session, in place of the one that was saved before.
 fn run_save(run: Run, line: &[u8], store: &[u8], kept: &mut [u8]) -> Run {
     let record = run.record;
-    let answer = saved::save(session_reply::record_of(record), store, kept);
+    let answer = session_saved::save(export_record::record_of(record), store, kept);
     show_name(run.line, line);
     report::show_saved(answer);
     newline();
@@ -308,7 +308,7 @@ fn with_damaged(options: Options, run: Run) -> Run {
 
 // The run behind a line that needs a session where none is open.
 fn without_session(options: Options, run: Run) -> Run {
-    call_line::damaged(run.line, b"no session is open");
+    log_calls::damaged(run.line, b"no session is open");
     with_damaged(options, run)
 }
 
@@ -317,7 +317,7 @@ fn is_passed_over(line: &[u8]) -> bool {
     if line.len() == 0 {
         return true;
     }
-    parts::starts_with(line, b"#")
+    slice::starts_with(line, b"#")
 }
 
 fn opens(name: CallName) -> bool {
@@ -378,13 +378,13 @@ pub fn run_line(
     next.line = one_more(run.line);
     if next.is_cut {
         next.is_cut = false;
-        call_line::damaged(next.line, b"too long");
+        log_calls::damaged(next.line, b"too long");
         return with_damaged(options, next);
     }
     if is_passed_over(line) {
         return next;
     }
-    let tested = call_line::tested(next.line, line);
+    let tested = log_calls::tested(next.line, line);
     if needs_session(tested) && !next.is_open {
         return without_session(options, next);
     }

@@ -1,9 +1,9 @@
 // The window of lost counts that stands beside the session: what a call does to it.
-use call_line::CallName;
-use reply::Reply;
+use export_record::Record;
+use export_record::SessionReply;
+use export_reply::Reply;
+use log_calls::CallName;
 use session::READERS;
-use session_reply::Record;
-use session_reply::SessionReply;
 
 // The window behind an accepted call. A new session, a new link and no link at all have no deltas yet.
 fn accepted(name: CallName, window: &mut [u8]) {
@@ -36,13 +36,13 @@ fn furthest(r: Record) -> usize {
 // The window behind a replay: its count goes into it once, when the first reader is handed it.
 fn replayed(before: Record, next: Record, out: &[u8], window: &mut [u8]) {
     if furthest(before) < furthest(next) {
-        churn::push(window, list_text::lost_count(out));
+        churn::push(window, log_lists::lost_count(out));
     }
 }
 
 // The window behind a restore: no form has lost counts.
 pub fn after_restore(told: Reply, window: &mut [u8]) {
-    if told.answer == reply::ACCEPTED {
+    if told.answer == export_reply::ACCEPTED {
         churn::clear(window);
     }
 }
@@ -50,15 +50,15 @@ pub fn after_restore(told: Reply, window: &mut [u8]) {
 // The window behind a call: the count of a delta goes into it, which stands at the front of the output.
 pub fn after(name: CallName, before: Record, changed: SessionReply, out: &[u8], window: &mut [u8]) {
     let told = changed.reply;
-    if told.answer == reply::DELTA {
-        churn::push(window, list_text::lost_count(out));
+    if told.answer == export_reply::DELTA {
+        churn::push(window, log_lists::lost_count(out));
         return;
     }
-    if told.answer == reply::REPLAY {
+    if told.answer == export_reply::REPLAY {
         replayed(before, changed.state, out, window);
         return;
     }
-    if told.answer == reply::ACCEPTED {
+    if told.answer == export_reply::ACCEPTED {
         accepted(name, window);
     }
 }

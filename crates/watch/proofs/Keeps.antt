@@ -11,32 +11,32 @@ use mathlib.Core.List.{List, [], _∷_, _++_}
 use lib.ListN.{length, take}
 use lib.Dec.{leb, ltb, eqb}
 use borrow.Author.Tests.{eqb-true}
-use Rattle.parts.specs.BoolLaws.{both, both-true}
-use Rattle.parts.proofs.PartLaws.{Bytes, Bytes-take}
+use Rattle.slice.specs.BoolLaws.{both, both-true}
+use Rattle.slice.proofs.PartLaws.{Bytes, Bytes-take}
 use Rattle.refusal.specs.declared.Refusal.{Refusal}
 use Rattle.refusal.specs.declared.Refusal.the-variants.{InvalidWireFormat, WrongWireType, InvalidUtf8}
 use Rattle.refusal.specs.declared.Refusal.the-variants.{MalformedSet, WatchMismatch, SetTooLong, ResultTooLong}
-use Rattle.packed_int.specs.Put.{put}
+use Rattle.slice_int.specs.Put.{put}
 use Rattle.utf8.specs.Table.{isUtf8}
 use Rattle.wire.specs.declared.WireType.{WireType}
 use Rattle.wire.specs.Fields.{Payload, number, bytes, fixed, cut, Field, badKey, field, fieldsOf}
-use Rattle.schema.specs.declared.MessageKind.{MessageKind}
-use Rattle.schema.specs.declared.MessageKind.the-variants.{CommandWatchScalableTopicsUpdate, ScalableTopicsSnapshot, ScalableTopicsDiff}
-use Rattle.schema.specs.declared.ValueKind.{ValueKind}
-use Rattle.schema.specs.declared.ValueKind.the-variants as value
-use Rattle.schema.specs.declared.Checked.{Checked}
-use Rattle.schema.specs.declared.Checked.the-variants.{Valid, Refused}
-use Rattle.schema.specs.Schema.{valueFor, fitsWire}
-use Rattle.schema.specs.FirstFault.{first, checkValue, checkField, checkFields, faultWithin, firstFault}
-use Rattle.values.specs.Values.{partsOf, Member, absent, holds, memberBehind, isMember, memberBy, memberAfter, memberOf}
-use Rattle.readers.specs.Messages.{WireEvent, none, snapshot, diff, eventFields, eventBy, readEvent, WireWatchUpdate, watchUpdateOf}
+use Rattle.wire_schema.specs.declared.MessageKind.{MessageKind}
+use Rattle.wire_schema.specs.declared.MessageKind.the-variants.{CommandWatchScalableTopicsUpdate, ScalableTopicsSnapshot, ScalableTopicsDiff}
+use Rattle.wire_schema.specs.declared.ValueKind.{ValueKind}
+use Rattle.wire_schema.specs.declared.ValueKind.the-variants as value
+use Rattle.wire_schema.specs.declared.Checked.{Checked}
+use Rattle.wire_schema.specs.declared.Checked.the-variants.{Valid, Refused}
+use Rattle.wire_schema.specs.Schema.{valueFor, fitsWire}
+use Rattle.wire_schema.specs.FirstFault.{first, checkValue, checkField, checkFields, faultWithin, firstFault}
+use Rattle.wire_values.specs.Values.{partsOf, Member, absent, holds, memberBehind, isMember, memberBy, memberAfter, memberOf}
+use Rattle.wire_readers.specs.Messages.{WireEvent, none, snapshot, diff, eventFields, eventBy, readEvent, WireWatchUpdate, watchUpdateOf}
 use Rattle.keyed.proofs.KeyedLaws.{choose}
-use Rattle.topics.specs.Topics.{has, rising, allShort}
-use Rattle.topics.specs.Packed.{decodeTopics, isWhole, allUtf8, encodeTopics, sizeTopics, isSet}
-use Rattle.topics.proofs.SetLaws.{rising-insertAll, rising-sorted}
-use Rattle.topics.proofs.EachLaws.{short-insertAll, short-parts, utf8-insertAll, utf8-filter}
-use Rattle.topics.proofs.PackedLaws.{length-encode, read-back, whole-back, read-short}
-use Rattle.topic_window.specs.Lists.{kept}
+use Rattle.watch_topics.specs.Topics.{has, rising, allShort}
+use Rattle.watch_topics.specs.Packed.{decodeTopics, isWhole, allUtf8, encodeTopics, sizeTopics, isSet}
+use Rattle.watch_topics.proofs.SetLaws.{rising-insertAll, rising-sorted}
+use Rattle.watch_topics.proofs.EachLaws.{short-insertAll, short-parts, utf8-insertAll, utf8-filter}
+use Rattle.watch_topics.proofs.PackedLaws.{length-encode, read-back, whole-back, read-short}
+use Rattle.watch_window.specs.Lists.{kept}
 use Rattle.watch.specs.declared.WatchAnswer.the-variants as answer
 use Rattle.watch.specs.Watch.{Change, WatchOutcome, snapshotChange, snapshotBy, diffChange, diffBy, noEvent, refuse}
 use Rattle.watch.specs.Watch.{settle, byEvent, forWatch, whenChecked, handleUpdate}

@@ -10,11 +10,11 @@ use mathlib.Core.List.{List, [], _∷_, _++_, append-assoc, append-nil}
 use lib.ListN.{length, take, drop, set, length-append, length-take, length-drop, take-append-drop, drop-of-length-le}
 use lib.Seq.{length-take-le, take-all, take-at, drop-at, drop-drop, drop-append-le}
 use borrow.Rule.Slice.PartMut.{putMid}
-use Rattle.packed_int.specs.Be.{bytesOf}
-use Rattle.packed_int.specs.Put.{put}
-use Rattle.packed_int.proofs.BeLaws.{length-bytesOf}
-use Rattle.packed_int.proofs.PutLaws.{length-put, put-one, put-before, take-put}
-use Rattle.topic_chunks.proofs.DiffLaws.{put-rest}
+use Rattle.slice_int.specs.Be.{bytesOf}
+use Rattle.slice_int.specs.Put.{put}
+use Rattle.slice_int.proofs.BeLaws.{length-bytesOf}
+use Rattle.slice_int.proofs.PutLaws.{length-put, put-one, put-before, take-put}
+use Rattle.watch_chunks.proofs.DiffLaws.{put-rest}
 
 -- ---- a part of a slice
 

@@ -8,9 +8,9 @@ use mathlib.Core.Bool.{false, _&&_}
 use mathlib.Core.List.{List}
 use lib.ListN.{take}
 use lib.Dec.{leb, ltb}
-use Rattle.topics.specs.Packed.{decodeTopics, sizeTopics}
-use Rattle.topic_window.specs.Lists.{namedIn, addedOf, removedOf}
-use Rattle.topic_merge.specs.Merge.{without}
+use Rattle.watch_topics.specs.Packed.{decodeTopics, sizeTopics}
+use Rattle.watch_window.specs.Lists.{namedIn, addedOf, removedOf}
+use Rattle.watch_merge.specs.Merge.{without}
 use Rattle.watch.specs.declared.Room.{Room}
 use Rattle.watch.specs.declared.Room.the-variants as rooms
 use Rattle.watch.specs.Watch.{diffIn}

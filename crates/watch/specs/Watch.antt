@@ -11,20 +11,20 @@ use lib.Dec.{leb, ltb, eqb}
 use Rattle.refusal.specs.declared.Refusal.{Refusal}
 use Rattle.refusal.specs.declared.Refusal.the-variants.{MalformedSet, WatchMismatch, Broker, EmptyUpdate, SetTooLong, ResultTooLong}
 use Rattle.refusal.specs.Steps.{_>>_, _>>=_, refuseIf, refuseUnless}
-use Rattle.packed_int.specs.Be.{bytesOf}
-use Rattle.packed_int.specs.Put.{put}
+use Rattle.slice_int.specs.Be.{bytesOf}
+use Rattle.slice_int.specs.Put.{put}
 use Rattle.wire.specs.Fields.{Field, fieldsOf}
-use Rattle.values.specs.Values.{partsOf, mergedFields}
-use Rattle.schema.specs.declared.MessageKind.the-variants.{CommandWatchScalableTopicsUpdate}
-use Rattle.schema.specs.declared.Checked.{Checked}
-use Rattle.schema.specs.FirstFault.{firstFault}
-use Rattle.schema.specs.Steps.{refuseFault}
-use Rattle.readers.specs.declared.ErrorCode.{ErrorCode}
-use Rattle.readers.specs.declared.ErrorCode.the-variants.{Given, Absent}
-use Rattle.readers.specs.Messages.{WireEvent, none, snapshot, diff, WireWatchUpdate, watchUpdateOf}
-use Rattle.topics.specs.Topics.{insertAll, sorted, allShort}
-use Rattle.topics.specs.Packed.{decodeTopics, encodeTopics, sizeTopics, isSet}
-use Rattle.topic_window.specs.Lists.{kept, addedOf, removedOf}
+use Rattle.wire_values.specs.Values.{partsOf, mergedFields}
+use Rattle.wire_schema.specs.declared.MessageKind.the-variants.{CommandWatchScalableTopicsUpdate}
+use Rattle.wire_schema.specs.declared.Checked.{Checked}
+use Rattle.wire_schema.specs.FirstFault.{firstFault}
+use Rattle.wire_schema.specs.Steps.{refuseFault}
+use Rattle.wire_readers.specs.declared.ErrorCode.{ErrorCode}
+use Rattle.wire_readers.specs.declared.ErrorCode.the-variants.{Given, Absent}
+use Rattle.wire_readers.specs.Messages.{WireEvent, none, snapshot, diff, WireWatchUpdate, watchUpdateOf}
+use Rattle.watch_topics.specs.Topics.{insertAll, sorted, allShort}
+use Rattle.watch_topics.specs.Packed.{decodeTopics, encodeTopics, sizeTopics, isSet}
+use Rattle.watch_window.specs.Lists.{kept, addedOf, removedOf}
 use Rattle.watch.specs.declared.WatchAnswer.{WatchAnswer}
 use Rattle.watch.specs.declared.WatchAnswer.the-variants as answer
 

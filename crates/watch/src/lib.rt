@@ -4,24 +4,24 @@ ghost use mathlib.Core.Bool.{true, _&&_};
 ghost use Prim.Native.Nat.{_+_, _^_, _≤_, _<_};
 ghost use lib.ListN.{length, take};
 ghost use lib.Dec.{leb, ltb};
-ghost use Rattle.packed_int.specs.Put.{put};
-ghost use Rattle.readers.specs.Messages.{watchUpdateOf};
-ghost use Rattle.topics.specs.Topics.{insertAll, sorted, allShort};
-ghost use Rattle.topics.specs.Packed.{decodeTopics, encodeTopics, sizeTopics, isSet};
-ghost use Rattle.topic_window.specs.Lists.{namedIn};
-ghost use Rattle.topic_window.specs.Window.{OrdersOf};
-ghost use Rattle.topic_merge.specs.Merge.{Apart, Rises};
-ghost use Rattle.topic_sort.specs.Chunks.{SortedTo};
+ghost use Rattle.slice_int.specs.Put.{put};
+ghost use Rattle.wire_readers.specs.Messages.{watchUpdateOf};
+ghost use Rattle.watch_topics.specs.Topics.{insertAll, sorted, allShort};
+ghost use Rattle.watch_topics.specs.Packed.{decodeTopics, encodeTopics, sizeTopics, isSet};
+ghost use Rattle.watch_window.specs.Lists.{namedIn};
+ghost use Rattle.watch_window.specs.Window.{OrdersOf};
+ghost use Rattle.watch_merge.specs.Merge.{Apart, Rises};
+ghost use Rattle.watch_sort.specs.Chunks.{SortedTo};
 ghost use Rattle.watch.specs.Watch.{snapshotIn, diffIn, outcome, done, settle, noEvent, forWatch, handleUpdate};
 ghost use Rattle.watch.specs.Steps.{rest, addedIn, removedIn, OutFits, DiffFits, RoomIs};
-use readers::ErrorCode;
-use readers::Event;
 use refusal::Refusal;
-use schema::Checked;
-use schema::MessageKind;
-use topic_chunks::Lists;
-use topic_window::Listing;
-use topic_window::Orders;
+use watch_chunks::Lists;
+use watch_window::Listing;
+use watch_window::Orders;
+use wire_readers::ErrorCode;
+use wire_readers::Event;
+use wire_schema::Checked;
+use wire_schema::MessageKind;
 
 // A snapshot of fewer bytes has few topics: they are sorted in one window.
 const FEW_BYTES: usize = 4096;
@@ -51,12 +51,12 @@ fn write_topics(orders: Orders, buffer: &mut [u8], p: &[u8], spare: &mut [u8]) -
     ensures { λ r. ⌜ SortedTo (namedIn 2 1 (now (p .entry))) (now (buffer .entry)) (now (spare .entry)) (now (buffer .exit)) (now (spare .exit)) r ⌝ }
 {
     if orders.added {
-        return topic_sort::write_all(p, 2, 1, buffer);
+        return watch_sort::write_all(p, 2, 1, buffer);
     }
     if p.len() < FEW_BYTES {
-        return topic_lists::write_list(Listing::Added, orders, &p[..0], p, 2, buffer);
+        return watch_lists::write_list(Listing::Added, orders, &p[..0], p, 2, buffer);
     }
-    topic_sort::write_sorted(p, 2, 1, buffer, spare)
+    watch_sort::write_sorted(p, 2, 1, buffer, spare)
 }
 
 // The topics of a snapshot, as the set at the front of buffer and as the output. Answers the length of the set.
@@ -70,7 +70,7 @@ fn write_snapshot(buffer: &mut [u8], orders: Orders, p: &[u8], out: &mut [u8]) -
         × (r ≡ sizeTopics (sorted (namedIn 2 1 (now (p .entry))))) ⌝ }
 {
     let n = write_topics(orders, buffer, p, out);
-    packed_int::put_bytes(out, 1, &buffer[..n]);
+    slice_int::put_bytes(out, 1, &buffer[..n]);
     out[0] = 0;
     n
 }
@@ -87,7 +87,7 @@ fn snapshot(buffer: &mut [u8], p: &[u8], out: &mut [u8]) -> WatchAnswer
         × (now (buffer .exit) ≡ settle (now (buffer .entry)) (now (out .entry)) (snapshotIn (now (p .entry))) .buffer)
         × (now (out .exit) ≡ settle (now (buffer .entry)) (now (out .entry)) (snapshotIn (now (p .entry))) .out) ⌝ }
 {
-    let s = topic_lists::survey(p, 2, 1);
+    let s = watch_lists::survey(p, 2, 1);
     if !s.short {
         return WatchAnswer::Refused(Refusal::SetTooLong);
     }
@@ -99,7 +99,7 @@ fn snapshot(buffer: &mut [u8], p: &[u8], out: &mut [u8]) -> WatchAnswer
         let n = write_snapshot(buffer, orders, p, out);
         return WatchAnswer::Changed(n, 1 + n);
     }
-    let z = topic_lists::measure(Listing::Added, orders, &p[..0], p, 2);
+    let z = watch_lists::measure(Listing::Added, orders, &p[..0], p, 2);
     if buffer.len() < z {
         return WatchAnswer::Refused(Refusal::SetTooLong);
     }
@@ -120,8 +120,8 @@ fn write_lists(set: &[u8], orders: Orders, p: &[u8], out: &mut [u8]) -> Lists
         × (r .removed ≡ sizeTopics (removedIn (decodeTopics (now (set .entry))) (now (p .entry))))
         × (now (out .exit) ≡ put (now (out .entry)) 0 (diffIn (decodeTopics (now (set .entry))) (now (p .entry)) .output)) ⌝ }
 {
-    let l = topic_chunks::write_lists(orders, set, p, 3, &mut out[5..]);
-    packed_int::write_u32(out, 1, l.added as u32);
+    let l = watch_chunks::write_lists(orders, set, p, 3, &mut out[5..]);
+    slice_int::write_u32(out, 1, l.added as u32);
     out[0] = 1;
     l
 }
@@ -137,8 +137,8 @@ fn write_set(buffer: &mut [u8], used: usize, added: &[u8], removed: &[u8]) -> us
         × (now (buffer .exit) ≡ put (now (buffer .entry)) 0
         (encodeTopics (insertAll (decodeTopics (now (added .entry))) (rest (now (buffer .entry)) used (now (removed .entry)))))) ⌝ }
 {
-    let k = topic_merge::take_out(&mut buffer[..used], removed);
-    topic_merge::merge(buffer, k, added)
+    let k = watch_merge::take_out(&mut buffer[..used], removed);
+    watch_merge::merge(buffer, k, added)
 }
 
 // The output of a diff fits: its added list has z bytes, its removed list gone.
@@ -207,8 +207,8 @@ fn room_for(set: &[u8], orders: Orders, p: &[u8], room: usize, out: usize) -> Ro
     if fits_lists(p.len(), room - set.len(), out) {
         return Room::Fits;
     }
-    let gone = topic_lists::measure(Listing::Removed, orders, set, p, 3);
-    let z = topic_lists::measure(Listing::Added, orders, set, p, 3);
+    let gone = watch_lists::measure(Listing::Removed, orders, set, p, 3);
+    let z = watch_lists::measure(Listing::Added, orders, set, p, 3);
     if room - (set.len() - gone) < z {
         return Room::NoSet;
     }
@@ -225,11 +225,11 @@ fn diff(buffer: &mut [u8], used: usize, p: &[u8], out: &mut [u8]) -> WatchAnswer
         × (now (buffer .exit) ≡ settle (now (buffer .entry)) (now (out .entry)) (diffIn (decodeTopics (take used (now (buffer .entry)))) (now (p .entry))) .buffer)
         × (now (out .exit) ≡ settle (now (buffer .entry)) (now (out .entry)) (diffIn (decodeTopics (take used (now (buffer .entry)))) (now (p .entry))) .out) ⌝ }
 {
-    let a = topic_lists::survey(p, 3, 1);
+    let a = watch_lists::survey(p, 3, 1);
     if !a.short {
         return WatchAnswer::Refused(Refusal::SetTooLong);
     }
-    let r = topic_lists::survey(p, 3, 2);
+    let r = watch_lists::survey(p, 3, 2);
     if !r.short {
         return WatchAnswer::Refused(Refusal::SetTooLong);
     }
@@ -262,7 +262,7 @@ fn update(id: u64, buffer: &mut [u8], used: usize, message: &[u8], out: &mut [u8
         × (now (buffer .exit) ≡ forWatch (now (buffer .entry)) (now (out .entry)) id (decodeTopics (take used (now (buffer .entry)))) (watchUpdateOf (now (message .entry))) .buffer)
         × (now (out .exit) ≡ forWatch (now (buffer .entry)) (now (out .entry)) id (decodeTopics (take used (now (buffer .entry)))) (watchUpdateOf (now (message .entry))) .out) ⌝ }
 {
-    let head = readers::read_watch_update(message);
+    let head = wire_readers::read_watch_update(message);
     let got = head.watch_id;
     if got != id {
         return WatchAnswer::Refused(Refusal::WatchMismatch { got, expected: id });
@@ -292,10 +292,10 @@ pub fn handle_update(
     if buffer.len() < used {
         return WatchAnswer::Refused(Refusal::MalformedSet);
     }
-    if !topics::is_set(&buffer[..used]) {
+    if !watch_topics::is_set(&buffer[..used]) {
         return WatchAnswer::Refused(Refusal::MalformedSet);
     }
-    match messages::first_fault(MessageKind::CommandWatchScalableTopicsUpdate, message) {
+    match wire_messages::first_fault(MessageKind::CommandWatchScalableTopicsUpdate, message) {
         Checked::Refused(x) => WatchAnswer::Refused(x),
         Checked::Valid => update(watch_id, buffer, used, message, out),
     }
@@ -305,5 +305,5 @@ pub fn handle_update(
 pub fn broker_text<'m, 's>(message: &'m [u8], set: &'s [u8]) -> &'m [u8]
     ensures { λ r. ⌜ now r ≡ watchUpdateOf (now (message .entry)) .message ⌝ }
 {
-    readers::watch_text(message, set)
+    wire_readers::watch_text(message, set)
 }

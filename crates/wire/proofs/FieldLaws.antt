@@ -14,7 +14,7 @@ use mathlib.Core.List.{List}
 use lib.ListN.{length, take, drop, length-drop}
 use lib.Dec.{leb, eqb}
 use borrow.Author.Tests.{le-leb, lt-leb, eq-eqb, ne-eqb, leb-true}
-use Rattle.parts.proofs.PartLaws.{rest}
+use Rattle.slice.proofs.PartLaws.{rest}
 use Rattle.wire.specs.declared.varint.Varint.{Varint}
 use Rattle.wire.specs.declared.varint.Varint.the-variants as varint
 use Rattle.wire.specs.declared.WireType.{WireType}

@@ -20,7 +20,7 @@ use lib.Seq.{drop-cons}
 use lib.Pow.{pow-mono, pow-add}
 use lib.Dec.{ltb, leb}
 use borrow.Author.Tests.{le-ltb, lt-ltb, le-leb, lt-leb, ltb-true, leb-true}
-use Rattle.parts.proofs.PartLaws.{Bytes}
+use Rattle.slice.proofs.PartLaws.{Bytes}
 use Rattle.wire.specs.declared.varint.Varint.{Varint}
 use Rattle.wire.specs.declared.varint.Varint.the-variants.{Value, Broken}
 use Rattle.wire.specs.Varints.{more, ends, varintWithin, varintOf}

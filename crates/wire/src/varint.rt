@@ -4,7 +4,7 @@
 // `read_long_varint` where more are.
 ghost use mathlib.Core.Path.{_≡_};
 ghost use Rattle.wire.specs.Varints.{varintOf};
-use parts::wide;
+use slice::wide;
 
 pub enum Varint {
     // The value, and the varint's length in bytes.

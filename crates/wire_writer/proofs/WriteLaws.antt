@@ -8,8 +8,8 @@ use native.Mathlib.Omega.{arith}
 use mathlib.Core.Path.{_≡_, sym, ap, _∙_}
 use mathlib.Core.List.{List, [], _∷_, _++_}
 use lib.ListN.{length, set, length-append}
-use Rattle.packed_int.specs.Put.{put}
-use Rattle.packed_int.proofs.PutLaws.{length-put, put-one, put-after}
+use Rattle.slice_int.specs.Put.{put}
+use Rattle.slice_int.proofs.PutLaws.{length-put, put-one, put-after}
 use Rattle.wire_writer.specs.Encode.{varintBytes}
 use Rattle.wire_writer.proofs.LeftLaws.{left, Left, left-more, left-next, left-last, left-end}
 

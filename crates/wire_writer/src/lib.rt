@@ -4,7 +4,7 @@
 ghost use mathlib.Core.Path.{_≡_};
 ghost use Prim.Native.Nat.{_+_, _*_, _≤_, _<_, _^_};
 ghost use lib.ListN.{length};
-ghost use Rattle.packed_int.specs.Put.{put};
+ghost use Rattle.slice_int.specs.Put.{put};
 ghost use Rattle.wire_writer.specs.Encode.{varintBytes, numberField, partHead};
 
 // How many bytes the varint of v has.

@@ -12,14 +12,14 @@ use mathlib.Core.List.{List, [], _∷_, _++_, append-assoc, append-nil}
 use lib.ListN.{length, drop, length-append}
 use borrow.Author.Tests.{le-leb, lt-leb}
 use Rattle.types.specs.declared.KeyRange.{KeyRange}
-use Rattle.parts.proofs.PartLaws.{Bytes, Bytes-drop}
+use Rattle.slice.proofs.PartLaws.{Bytes, Bytes-drop}
 use Rattle.wire_writer.specs.Encode.{numberField, partHead, partField}
 use Rattle.packed.specs.Assignment.{AssignedSegment, decodeRange, decodeRanges, decodeSegment, decodeSegments, sizeSegment}
 use Rattle.packed.proofs.AssignmentLaws.{ranges-at, ranges-none, length-rangesOf, size-least, segment-at, segments-at}
 use Rattle.packed.proofs.AssignmentLaws.{Seen, seen-size, Rest, rest-next}
 use Rattle.packed.proofs.RoundLaws.{fit-segment}
-use Rattle.topic.specs.Names.{segmentTopic}
-use Rattle.assignment_message.specs.Message.{rangeMessage, bucketFields, segmentMessage, segmentFields}
+use Rattle.name_topic.specs.Names.{segmentTopic}
+use Rattle.writer_message.specs.Message.{rangeMessage, bucketFields, segmentMessage, segmentFields}
 use Rattle.writer.specs.Write.{roomOf}
 use Rattle.writer.specs.declared.Room.the-variants.{Size, Beyond}
 use Rattle.writer.proofs.SizeLaws.{length-part, buckets-short, length-segment, segment-short}

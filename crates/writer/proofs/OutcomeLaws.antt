@@ -17,11 +17,11 @@ use borrow.Author.Tests.{le-leb, lt-leb, leb-true, leb-false}
 use Rattle.refusal.specs.declared.Refusal.{Refusal}
 use Rattle.refusal.specs.declared.Refusal.the-variants.{MalformedInput, InvalidUtf8, InvalidParent, ResultTooLong}
 use Rattle.utf8.specs.Table.{isUtf8}
-use Rattle.packed_int.specs.Put.{put}
-use Rattle.topic.specs.Build as build
-use Rattle.parents.specs.Parents.{isParent, pathOf}
-use Rattle.topic.specs.declared.NameAnswer.{NameAnswer}
-use Rattle.topic.specs.declared.NameAnswer.the-variants as name
+use Rattle.slice_int.specs.Put.{put}
+use Rattle.name_topic.specs.Build as build
+use Rattle.name_parents.specs.Parents.{isParent, pathOf}
+use Rattle.name_topic.specs.declared.NameAnswer.{NameAnswer}
+use Rattle.name_topic.specs.declared.NameAnswer.the-variants as name
 use Rattle.output.specs.declared.WriteAnswer.the-variants.{Written}
 use Rattle.output.specs.Output.{Outcome, outcome, refuse, written}
 use Rattle.wire_writer.specs.Encode.{numberField}
@@ -29,8 +29,8 @@ use Rattle.packed.specs.declared.Packed.the-variants as packed
 use Rattle.packed.specs.Answers.{wholeRead}
 use Rattle.packed.specs.Assignment.{AssignedSegment, num, decodeSegments, decodeAssignment}
 use Rattle.packed.proofs.WholeLaws.{Whole, not-assignment}
-use Rattle.assignment_message.specs.Message.{segmentFields, assignmentMessage}
-use Rattle.content.specs.Content.{outsideIn}
+use Rattle.writer_message.specs.Message.{segmentFields, assignmentMessage}
+use Rattle.intake_content.specs.Content.{outsideIn}
 use Rattle.writer.specs.declared.Held.the-variants as held
 use Rattle.writer.specs.Write.{withParent, writeOutcome, heldOf, roomOf}
 use Rattle.writer.specs.declared.Room.the-variants.{Size, Beyond}

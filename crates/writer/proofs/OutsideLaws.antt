@@ -11,13 +11,13 @@ use mathlib.Core.Option.{Option}
 use lib.ListN.{drop}
 use Rattle.types.specs.declared.KeyRange.{KeyRange}
 use Rattle.refusal.specs.declared.Refusal.the-variants.{BucketOutsideSegment}
-use Rattle.packed_int.specs.Be.{beAt}
+use Rattle.slice_int.specs.Be.{beAt}
 use Rattle.packed.specs.Assignment.{AssignedSegment, decodeRange, decodeRanges, decodeSegment, decodeSegments, sizeSegment}
 use Rattle.packed.proofs.AssignmentLaws.{ranges-at, ranges-none, segment-at, segments-at, Rest, rest-next}
-use Rattle.content.specs.declared.Outside.{Outside}
-use Rattle.content.specs.declared.Outside.the-variants.{At, Nothing}
-use Rattle.content.specs.Content.{firstOutside, outsideIn, outsideOf}
-use Rattle.content.proofs.OutsideLaws.{outside-low, outside-high, outside-next, place-found, place-none}
+use Rattle.intake_content.specs.declared.Outside.{Outside}
+use Rattle.intake_content.specs.declared.Outside.the-variants.{At, Nothing}
+use Rattle.intake_content.specs.Content.{firstOutside, outsideIn, outsideOf}
+use Rattle.intake_content.proofs.OutsideLaws.{outside-low, outside-high, outside-next, place-found, place-none}
 use Rattle.writer.specs.declared.Held.the-variants as held
 use Rattle.writer.specs.Write.{outsideAt, heldOf}
 

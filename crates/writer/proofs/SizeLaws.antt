@@ -11,12 +11,12 @@ use mathlib.Core.List.{List, [], _∷_}
 use lib.ListN.{length, length-append}
 use Rattle.types.specs.declared.KeyRange.{KeyRange}
 use Rattle.types.specs.declared.SegmentId.{SegmentId}
-use Rattle.topic.specs.Names.{decimalWithin, decimal, segmentTopic}
-use Rattle.topic.proofs.NameLaws.{decimal-length, descriptor-length, segmentTopic-length, decimal-next, decimal-end, digits-fewer}
+use Rattle.name_topic.specs.Names.{decimalWithin, decimal, segmentTopic}
+use Rattle.name_topic.proofs.NameLaws.{decimal-length, descriptor-length, segmentTopic-length, decimal-next, decimal-end, digits-fewer}
 use Rattle.wire_writer.specs.Encode.{varintBytes, numberKey, partKey, numberField, partHead, partField}
 use Rattle.wire_writer.proofs.EncodeLaws.{length-varint-le}
 use Rattle.packed.specs.Assignment.{AssignedSegment}
-use Rattle.assignment_message.specs.Message.{rangeMessage, bucketFields, segmentTopicOf, segmentMessage}
+use Rattle.writer_message.specs.Message.{rangeMessage, bucketFields, segmentTopicOf, segmentMessage}
 
 -- ---- decimal digits
 

@@ -11,9 +11,9 @@ use mathlib.Core.List.{List, [], _∷_, _++_, append-nil}
 use lib.ListN.{length, take, drop, length-append, length-drop, drop-of-length-le}
 use lib.Seq.{drop-drop}
 use borrow.Rule.Slice.PartMut.{putMid}
-use Rattle.parts.proofs.PartLaws.{rest}
-use Rattle.packed_int.specs.Put.{put}
-use Rattle.packed_int.proofs.PutLaws.{length-put, put-nil, put-after}
+use Rattle.slice.proofs.PartLaws.{rest}
+use Rattle.slice_int.specs.Put.{put}
+use Rattle.slice_int.proofs.PutLaws.{length-put, put-nil, put-after}
 
 abbrev pub flat : List (List ℕ) → List ℕ
 flat [] = []

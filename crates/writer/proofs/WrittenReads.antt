@@ -12,21 +12,21 @@ use mathlib.Core.Option.{Option, some, none}
 use lib.ListN.{length, take}
 use lib.Dec.{leb}
 use borrow.Author.Tests.{leb-true}
-use Rattle.parts.specs.BoolLaws.{both-true}
+use Rattle.slice.specs.BoolLaws.{both-true}
 use Rattle.refusal.specs.declared.Refusal.{Refusal}
 use Rattle.refusal.specs.declared.Refusal.the-variants.{MalformedInput, InvalidUtf8, InvalidParent, ResultTooLong}
 use Rattle.refusal.specs.Steps.{refuseDue}
-use Rattle.packed_int.specs.Put.{put}
-use Rattle.packed_int.proofs.PutLaws.{take-put}
+use Rattle.slice_int.specs.Put.{put}
+use Rattle.slice_int.proofs.PutLaws.{take-put}
 use Rattle.utf8.specs.Table.{isUtf8}
-use Rattle.parents.specs.Parents.{isParent, pathOf}
+use Rattle.name_parents.specs.Parents.{isParent, pathOf}
 use Rattle.output.specs.declared.WriteAnswer.the-variants.{Written, Refused}
 use Rattle.output.specs.Output.{Outcome, outcome, refuse, unwritten, written}
 use Rattle.packed.specs.Assignment.{AssignedSegment, ConsumerAssignment, sizeAssignment, okAssignment, decodeAssignment, startsAssignment, isAssignment}
 use Rattle.packed.proofs.RoundLaws.{fit-assignment}
-use Rattle.content.specs.Content.{outsideIn}
-use Rattle.assignment_message.specs.Message.{assignmentMessage}
-use Rattle.assignment_message.proofs.ReadBack as back
+use Rattle.intake_content.specs.Content.{outsideIn}
+use Rattle.writer_message.specs.Message.{assignmentMessage}
+use Rattle.writer_message.proofs.ReadBack as back
 use Rattle.writer.specs.Write.{withParent, writeOutcome}
 use Rattle.writer.specs.Read.{Reads, WrittenReads}
 

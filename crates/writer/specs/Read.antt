@@ -5,15 +5,15 @@ use Prim.Native.Nat.{ℕ, _^_, _<_}
 use mathlib.Core.Path.{_≡_}
 use mathlib.Core.List.{List}
 use lib.ListN.{length, take}
-use Rattle.parts.specs.Bytes.{Bytes}
-use Rattle.schema.specs.declared.MessageKind.the-variants.{CommandScalableTopicAssignmentUpdate, CommandScalableTopicSubscribeResponse}
-use Rattle.schema.specs.declared.Checked.the-variants.{Valid}
-use Rattle.schema.specs.FirstFault.{firstFault}
-use Rattle.readers.specs.Messages.{updateOf, responseOf}
+use Rattle.slice.specs.Bytes.{Bytes}
+use Rattle.wire_schema.specs.declared.MessageKind.the-variants.{CommandScalableTopicAssignmentUpdate, CommandScalableTopicSubscribeResponse}
+use Rattle.wire_schema.specs.declared.Checked.the-variants.{Valid}
+use Rattle.wire_schema.specs.FirstFault.{firstFault}
+use Rattle.wire_readers.specs.Messages.{updateOf, responseOf}
 use Rattle.packed.specs.Assignment.{ConsumerAssignment, decodeAssignment}
-use Rattle.content.specs.Content.{taken, contentOf}
+use Rattle.intake_content.specs.Content.{taken, contentOf}
 use Rattle.output.specs.declared.WriteAnswer.the-variants.{Written}
-use Rattle.assignment_message.specs.Message.{updateMessage, responseMessage}
+use Rattle.writer_message.specs.Message.{updateMessage, responseMessage}
 use Rattle.writer.specs.Write.{writeOutcome}
 
 -- the message reads as the assignment a, by a session whose topic is the parent

@@ -11,12 +11,12 @@ use Rattle.refusal.specs.declared.Refusal.{Refusal}
 use Rattle.refusal.specs.declared.Refusal.the-variants.{MalformedInput, InvalidUtf8, InvalidParent}
 use Rattle.refusal.specs.Steps.{_>>_, refuseUnless, refuseDue}
 use Rattle.utf8.specs.Table.{isUtf8}
-use Rattle.parents.specs.Parents.{isParent, pathOf}
+use Rattle.name_parents.specs.Parents.{isParent, pathOf}
 use Rattle.output.specs.Output.{Outcome, unwritten, written}
 use Rattle.packed.specs.Assignment.{AssignedSegment, decodeAssignment, isAssignment}
-use Rattle.assignment_message.specs.Message.{segmentFields, assignmentMessage}
-use Rattle.content.specs.declared.Outside.{Outside}
-use Rattle.content.specs.Content.{firstOutside, outsideIn, outsideOf}
+use Rattle.writer_message.specs.Message.{segmentFields, assignmentMessage}
+use Rattle.intake_content.specs.declared.Outside.{Outside}
+use Rattle.intake_content.specs.Content.{firstOutside, outsideIn, outsideOf}
 use Rattle.writer.specs.declared.Held.{Held}
 use Rattle.writer.specs.declared.Held.the-variants as held
 use Rattle.writer.specs.declared.Room.{Room}

@@ -6,20 +6,20 @@ ghost use mathlib.Core.Path.{_≡_};
 ghost use Prim.Native.Nat.{_+_, _*_, _≤_, _<_};
 ghost use mathlib.Core.List.{_++_};
 ghost use lib.ListN.{length, drop};
-ghost use Rattle.packed_int.specs.Put.{put};
-ghost use Rattle.topic.specs.Names.{decimal, segmentTopic};
+ghost use Rattle.slice_int.specs.Put.{put};
+ghost use Rattle.name_topic.specs.Names.{decimal, segmentTopic};
 ghost use Rattle.output.specs.Output.{outcome, written};
 ghost use Rattle.packed.specs.Assignment.{num, decodeRanges, decodeSegment, decodeSegments, sizeSegment};
 ghost use Rattle.packed.proofs.AssignmentLaws.{Rest};
 ghost use Rattle.wire_writer.specs.Encode.{numberField};
-ghost use Rattle.assignment_message.specs.Message.{rangeMessage, bucketFields, segmentMessage, segmentFields};
-ghost use Rattle.content.specs.Content.{firstOutside, outsideIn, outsideOf};
+ghost use Rattle.writer_message.specs.Message.{rangeMessage, bucketFields, segmentMessage, segmentFields};
+ghost use Rattle.intake_content.specs.Content.{firstOutside, outsideIn, outsideOf};
 ghost use Rattle.writer.specs.Write.{outsideAt, heldOf, roomOf, writeOutcome};
-use content::Outside;
+use intake_content::Outside;
+use name_topic::NameAnswer;
 use output::WriteAnswer;
 use packed::Packed;
 use refusal::Refusal;
-use topic::NameAnswer;
 use types::KeyRange;
 use types::SegmentId;
 
@@ -64,7 +64,7 @@ fn segment_outside(s: &[u8], p: usize) -> Outside
     ensures { λ r. ⌜ r ≡ outsideAt (decodeSegment (drop p (now (s .entry)))) ⌝ }
 {
     let range = packed::range_at(s, p + 8);
-    let count = packed_int::read_u16(s, p + 12) as usize;
+    let count = slice_int::read_u16(s, p + 12) as usize;
     bucket_outside(s, p + packed::RECORD_HEAD, count, range)
 }
 
@@ -77,10 +77,10 @@ fn segments_outside(s: &[u8], at: usize, m: usize) -> Held
     let mut left = m;
     while 0 < left {
         if let Outside::At(index) = segment_outside(s, p) {
-            let segment_id = SegmentId(records::id_at(s, p));
+            let segment_id = SegmentId(packed_records::id_at(s, p));
             return Held::Refused(Refusal::BucketOutsideSegment { segment_id, index });
         }
-        p = p + records::size_at(s, p);
+        p = p + packed_records::size_at(s, p);
         left = left - 1;
     }
     Held::Inside
@@ -136,9 +136,9 @@ fn segment_size(s: &[u8], p: usize, path: &[u8]) -> usize
     requires { ⌜ p + sizeSegment (decodeSegment (drop p (now s))) ≤ length (now s) ⌝ }
     ensures { λ r. ⌜ r ≡ length (segmentMessage (now (path .entry)) (decodeSegment (drop p (now (s .entry))))) ⌝ }
 {
-    let id = packed_int::read_u64(s, p);
+    let id = slice_int::read_u64(s, p);
     let range = packed::range_at(s, p + 8);
-    let count = packed_int::read_u16(s, p + 12) as usize;
+    let count = slice_int::read_u16(s, p + 12) as usize;
     let topic = topic_size(path, range, id);
     let numbers = wire_writer::number_size(1, id)
         + wire_writer::number_size(2, range.start as u64)
@@ -162,7 +162,7 @@ fn segments_room(s: &[u8], at: usize, m: usize, path: &[u8], limit: usize) -> Ro
             return Room::Beyond;
         }
         size = size + more;
-        p = p + records::size_at(s, p);
+        p = p + packed_records::size_at(s, p);
         left = left - 1;
     }
     Room::Size(size)
@@ -195,7 +195,7 @@ fn write_topic(path: &[u8], range: KeyRange, id: u64, out: &mut [u8], to: usize)
     ensures { λ r. ⌜ (r ≡ to + length (segmentTopic (now (path .entry)) range (record { 0 = id })))
         × (now (out .exit) ≡ put (now (out .entry)) to (segmentTopic (now (path .entry)) range (record { 0 = id }))) ⌝ }
 {
-    match topic::write_segment_topic(path, range, SegmentId(id), &mut out[to..]) {
+    match name_topic::write_segment_topic(path, range, SegmentId(id), &mut out[to..]) {
         NameAnswer::Written(len) => to + len,
         NameAnswer::Refused(_) => to,
     }
@@ -208,9 +208,9 @@ fn write_segment(s: &[u8], p: usize, path: &[u8], out: &mut [u8], to: usize) -> 
     ensures { λ r. ⌜ (r ≡ to + length (segmentMessage (now (path .entry)) (decodeSegment (drop p (now (s .entry))))))
         × (now (out .exit) ≡ put (now (out .entry)) to (segmentMessage (now (path .entry)) (decodeSegment (drop p (now (s .entry)))))) ⌝ }
 {
-    let id = packed_int::read_u64(s, p);
+    let id = slice_int::read_u64(s, p);
     let range = packed::range_at(s, p + 8);
-    let count = packed_int::read_u16(s, p + 12) as usize;
+    let count = slice_int::read_u16(s, p + 12) as usize;
     let start = wire_writer::write_number(out, to, 1, id);
     let end = wire_writer::write_number(out, start, 2, range.start as u64);
     let head = wire_writer::write_number(out, end, 3, range.end as u64);
@@ -233,7 +233,7 @@ fn write_segments(s: &[u8], at: usize, m: usize, path: &[u8], out: &mut [u8], to
         let len = segment_size(s, p, path);
         next = wire_writer::write_part_head(out, next, 2, len);
         next = write_segment(s, p, path, out, next);
-        p = p + records::size_at(s, p);
+        p = p + packed_records::size_at(s, p);
         left = left - 1;
     }
     next
@@ -244,7 +244,7 @@ fn write_message(s: &[u8], m: usize, path: &[u8], out: &mut [u8]) -> WriteAnswer
     requires { ⌜ Rest (now s) 10 m ⌝ }
     ensures { λ r. ⌜ outcome r (now (out .exit)) ≡ written (numberField 1 (num 8 (now (s .entry))) ++ segmentFields (now (path .entry)) (decodeSegments m (drop 10 (now (s .entry))))) (now (out .entry)) ⌝ }
 {
-    let epoch = packed_int::read_u64(s, 0);
+    let epoch = slice_int::read_u64(s, 0);
     let head = wire_writer::number_size(1, epoch);
     if out.len() < head {
         return WriteAnswer::Refused(Refusal::ResultTooLong);
@@ -275,7 +275,7 @@ pub fn to_pb(assignment: &[u8], parent: &[u8], out: &mut [u8]) -> WriteAnswer
     if !utf8::is_utf8(parent) {
         return WriteAnswer::Refused(Refusal::InvalidUtf8);
     }
-    if !topic::is_parent(parent) {
+    if !name_topic::is_parent(parent) {
         return WriteAnswer::Refused(Refusal::InvalidParent);
     }
     write_message(assignment, count, &parent[8..], out)

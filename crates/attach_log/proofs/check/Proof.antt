@@ -4,7 +4,7 @@ use mathlib.Core.Bool.{true}
 use mathlib.Core.Path.{_≡_, sym, _∙_}
 use borrow.Author.Tests.{not-true, not-false}
 use borrow.Author.Needs.{needs}
-use Rattle.log_entries.specs.Log.{areDeltas}
+use Rattle.attach_entries.specs.Log.{areDeltas}
 use Rattle.attach_log.proofs.FollowLaws.{log-odd, log-set, log-good, checked-deltas, checked-log, checked-told}
 use Rattle.attach_log.proofs.check.Statement.{statement}
 use Rattle.attach_log.proofs.check.Tie as tie

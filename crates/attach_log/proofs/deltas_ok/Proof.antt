@@ -6,9 +6,9 @@ use native.Mathlib.Omega.{arith}
 use mathlib.Core.Path.{sym, ap, _∙_}
 use lib.ListN.{length, drop, length-drop}
 use borrow.Author.Needs.{needs}
-use Rattle.parts.proofs.PartLaws.{rest}
-use Rattle.delta.specs.Answers.{frontRead}
-use Rattle.delta.proofs.RoundLaws.{Front, front-answer, not-front}
+use Rattle.slice.proofs.PartLaws.{rest}
+use Rattle.packed_delta.specs.Answers.{frontRead}
+use Rattle.packed_delta.proofs.RoundLaws.{Front, front-answer, not-front}
 use Rattle.attach_log.proofs.WalkLaws.{long, fits, Walk, walk-start, walk-bad, walk-next, walk-end}
 use Rattle.attach_log.proofs.deltas_ok.Statement.{statement}
 use Rattle.attach_log.proofs.deltas_ok.Tie as tie

@@ -6,7 +6,7 @@ use native.Mathlib.Omega.{arith}
 use mathlib.Core.Path.{_≡_, refl, sym, _∙_}
 use lib.ListN.{drop}
 use borrow.Author.Needs.{needs}
-use Rattle.log_entries.specs.Log.{clearIn}
+use Rattle.attach_entries.specs.Log.{clearIn}
 use Rattle.attach_log.proofs.EntryLaws.{clear-set, clear-further, clear-none}
 use Rattle.attach_log.proofs.filling_clear.Statement.{statement}
 use Rattle.attach_log.proofs.filling_clear.Tie as tie

@@ -12,7 +12,7 @@ use Rattle.attach_log.proofs.load_row.Tie as tie
 use Rattle.attach_log.proofs.load_row.Reads as reads
 use Rattle.attach_log.proofs.load_row.Lts as lts
 use Rattle.attach_log.proofs.size_first.Reads as size-first-reads
-use Rattle.packed_int.proofs.read_u64.Reads as read-u64-reads
+use Rattle.slice_int.proofs.read_u64.Reads as read-u64-reads
 
 abbrev Inv-loop : tie.InvT-loop
 Inv-loop s at n attach ids₀ next₀ count₀ ids next count = Loading attach s at n next count ids × (length ids ≡ length ids₀)

@@ -10,10 +10,10 @@ use lib.ListN.{length, drop, length-drop}
 use borrow.Author.Tests.{not-true, not-false}
 use borrow.Author.Needs.{needs}
 use Rattle.packed.specs.Assignment.{decodeSegments, sizeSegments}
-use Rattle.parts.proofs.PartLaws.{rest}
-use Rattle.delta.specs.Answers.{frontRead}
-use Rattle.delta.proofs.RoundLaws.{Front, front-answer, not-front}
-use Rattle.repeats.specs.Repeats.{rises}
+use Rattle.slice.proofs.PartLaws.{rest}
+use Rattle.packed_delta.specs.Answers.{frontRead}
+use Rattle.packed_delta.proofs.RoundLaws.{Front, front-answer, not-front}
+use Rattle.intake_repeats.specs.Repeats.{rises}
 use Rattle.attach_log.specs.Steps.{idsIn, deltaIn}
 use Rattle.attach_log.proofs.PartLaws.{lost-rise, gained-rise}
 use Rattle.attach_log.proofs.FollowLaws.{Follow, follow-start, follow-bad, follow-few}

@@ -12,7 +12,7 @@ use Rattle.attach_log.proofs.rows_in.Tie as tie
 use Rattle.attach_log.proofs.rows_in.Reads as reads
 use Rattle.attach_log.proofs.rows_in.Lts as lts
 use Rattle.attach_log.proofs.load_row.Reads as load-row-reads
-use Rattle.log_rows.proofs.row_in.Reads as row-in-reads
+use Rattle.attach_rows.proofs.row_in.Reads as row-in-reads
 
 abbrev Inv-loop : tie.InvT-loop
 Inv-loop s at n attach log q m ids₀ p₀ left₀ ids p left = (length ids ≡ 4096) × Left attach s at n log q m p left

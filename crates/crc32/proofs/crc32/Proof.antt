@@ -3,7 +3,7 @@
 use Prim.Native.Nat.{ℕ}
 use mathlib.Core.Path.{_≡_, ap}
 use borrow.Author.Needs.{needs}
-use Rattle.murmur3.specs.Words.{xor}
+use Rattle.key_murmur3.specs.Words.{xor}
 use Rattle.crc32.specs.Crc.{crc32}
 use Rattle.crc32.proofs.crc32.Statement.{statement}
 use Rattle.crc32.proofs.crc32.Tie as tie

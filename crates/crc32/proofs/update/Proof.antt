@@ -6,7 +6,7 @@ use mathlib.Core.Path.{_≡_, sym, ap, _∙_}
 use lib.Dec.{lit<}
 use lib.Bits.{bitXor}
 use borrow.Author.Needs.{needs}
-use Rattle.murmur3.specs.Words.{xor}
+use Rattle.key_murmur3.specs.Words.{xor}
 use Rattle.crc32.proofs.CrcLaws.{update-table}
 use Rattle.crc32.proofs.update.Statement.{statement}
 use Rattle.crc32.proofs.update.Tie as tie

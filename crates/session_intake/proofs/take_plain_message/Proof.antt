@@ -4,7 +4,7 @@
 use native.Mathlib.Omega.{arith}
 use mathlib.Core.Path.{subst}
 use borrow.Author.Needs.{needs}
-use Rattle.plain.specs.Plain.{NumberIs, NumberSays, PartField, PartSays}
+use Rattle.wire_ordered.specs.Plain.{NumberIs, NumberSays, PartField, PartSays}
 use Rattle.session_intake.proofs.IntakeLaws.{field-small, topic-text, plain-taken}
 use Rattle.session_intake.proofs.take_plain_message.Statement.{statement}
 use Rattle.session_intake.proofs.take_plain_message.Tie as tie

@@ -3,7 +3,7 @@
 use mathlib.Core.Path.{_≡_, refl, ap, _∙_, subst}
 use mathlib.Core.Bool.{false, not}
 use mathlib.Core.Logic.{inr}
-use Rattle.readers.specs.Messages.{responseOf}
+use Rattle.wire_readers.specs.Messages.{responseOf}
 use Rattle.session.specs.Session.{view, damaged}
 use Rattle.session_store.proofs.StoreLaws.{identity-good}
 use Rattle.session_intake.specs.declared.PlainMessage.{PlainMessage}

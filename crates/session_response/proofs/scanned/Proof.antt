@@ -2,7 +2,7 @@
 -- Assumes nothing.
 use mathlib.Core.Path.{sym, ap, _∙_}
 use mathlib.Core.Bool.{not}
-use Rattle.readers.specs.Messages.{responseOf}
+use Rattle.wire_readers.specs.Messages.{responseOf}
 use Rattle.session_store.proofs.StoreLaws.{identity-good}
 use Rattle.session_response.proofs.CallLaws.{refused-out, given-out, message-bad, message-valid, valid-mismatch}
 use borrow.Author.Needs.{needs}

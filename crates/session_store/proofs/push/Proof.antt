@@ -6,10 +6,10 @@ use mathlib.Core.Path.{_≡_, sym, ap, _∙_}
 use lib.ListN.{length, take}
 use lib.Seq.{length-take-le}
 use borrow.Author.Needs.{needs}
-use Rattle.packed_int.specs.Be.{bytesOf}
-use Rattle.packed_int.specs.Put.{put}
-use Rattle.packed_int.proofs.BeLaws.{length-bytesOf}
-use Rattle.packed_int.proofs.PutLaws.{put-after, length-put}
+use Rattle.slice_int.specs.Be.{bytesOf}
+use Rattle.slice_int.specs.Put.{put}
+use Rattle.slice_int.proofs.BeLaws.{length-bytesOf}
+use Rattle.slice_int.proofs.PutLaws.{put-after, length-put}
 use Rattle.session_store.proofs.StoreLaws.{scratch-fits, scratch-entry}
 use Rattle.session_store.proofs.push.Statement.{statement}
 use Rattle.session_store.proofs.push.Tie as tie

@@ -4,7 +4,7 @@ use Prim.Native.Nat.{_*_}
 use native.Mathlib.Omega.{arith}
 use mathlib.Core.Path.{sym, ap, _∙_}
 use lib.Seq.{length-take-le}
-use Rattle.packed_int.specs.Put.{put}
+use Rattle.slice_int.specs.Put.{put}
 use Rattle.session_store.proofs.StoreLaws.{scratch-fits, scratch-bytes}
 use borrow.Author.Needs.{needs}
 use Rattle.session_store.proofs.write_slot.Statement.{statement}

@@ -2,7 +2,7 @@
 -- Assumes nothing.
 use mathlib.Core.Path.{refl, sym, ap, _∙_}
 use Rattle.types.specs.declared.ControllerIncarnation.{ControllerIncarnation}
-use Rattle.content.specs.Content.{Content}
+use Rattle.intake_content.specs.Content.{Content}
 use Rattle.session.specs.Session.{view}
 use Rattle.session.specs.Tails.{updateContent}
 use Rattle.session.specs.Calls.{effectOf}

@@ -2,8 +2,8 @@
 -- Assumes nothing.
 use mathlib.Core.Path.{refl, sym, ap, _∙_}
 use mathlib.Core.Logic.{inl}
-use Rattle.readers.specs.Messages.{updateOf}
-use Rattle.content.specs.Content.{Content}
+use Rattle.wire_readers.specs.Messages.{updateOf}
+use Rattle.intake_content.specs.Content.{Content}
 use Rattle.session.specs.Session.{view}
 use Rattle.session.specs.Tails.{updateContent}
 use Rattle.session.specs.Calls.{effectOf}

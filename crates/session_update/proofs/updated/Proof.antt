@@ -2,7 +2,7 @@
 -- Assumes nothing.
 use mathlib.Core.Path.{refl, subst}
 use mathlib.Core.Logic.{inl}
-use Rattle.readers.specs.Messages.{updateOf}
+use Rattle.wire_readers.specs.Messages.{updateOf}
 use Rattle.session_store.specs.declared.Tested.{Tested}
 use Rattle.session_store.specs.declared.Tested.the-variants.{Sound}
 use Rattle.session_store.specs.Tests.{StoreTested}

@@ -7,7 +7,7 @@ use mathlib.Core.Path.{_≡_, refl, sym, ap, _∙_}
 use mathlib.Core.List.{List}
 use borrow.Author.Needs.{needs}
 use lib.ListN.{length, drop}
-use Rattle.parts.proofs.PartLaws.{rest}
+use Rattle.slice.proofs.PartLaws.{rest}
 use Rattle.utf8.specs.Table.{sequenceOf, isUtf8}
 use Rattle.utf8.proofs.TextLaws.{text-end, sequence-inside, sequence-stops, sequence-passes}
 use Rattle.utf8.proofs.is_text.Statement.{statement}

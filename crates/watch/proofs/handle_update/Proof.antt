@@ -6,15 +6,15 @@ use lib.Seq.{length-take-le}
 use lib.ListN.{take}
 use borrow.Author.Tests.{not-true, not-false}
 use borrow.Author.Needs.{needs}
-use Rattle.topics.specs.Packed.{isSet}
+use Rattle.watch_topics.specs.Packed.{isSet}
 use Rattle.watch.proofs.UpdateLaws.{set-over, set-bad, checked, told-by}
 use Rattle.watch.proofs.handle_update.Statement.{statement}
 use Rattle.watch.proofs.handle_update.Tie as tie
 use Rattle.watch.proofs.handle_update.Reads as reads
 use Rattle.watch.proofs.handle_update.Lts as lts
 use Rattle.watch.proofs.update.Reads as update-reads
-use Rattle.messages.proofs.first_fault.Reads as first-fault-reads
-use Rattle.topics.proofs.is_set.Reads as is-set-reads
+use Rattle.wire_messages.proofs.first_fault.Reads as first-fault-reads
+use Rattle.watch_topics.proofs.is_set.Reads as is-set-reads
 
 returns : tie.Need-returns
 returns c = sym (set-over _ _ _ _ _ (c .if1 .taken))

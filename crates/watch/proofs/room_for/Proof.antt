@@ -3,8 +3,8 @@
 use mathlib.Core.Path.{_≡_, sym, ap, _∙_}
 use borrow.Author.Tests.{not-true, not-false}
 use borrow.Author.Needs.{needs}
-use Rattle.parts.proofs.PartLaws.{Bytes}
-use Rattle.topics.specs.Packed.{decodeTopics, sizeTopics}
+use Rattle.slice.proofs.PartLaws.{Bytes}
+use Rattle.watch_topics.specs.Packed.{decodeTopics, sizeTopics}
 use Rattle.watch.specs.Steps.{addedIn, removedIn}
 use Rattle.watch.proofs.SettleLaws.{set-whole, gone-least, room-none, room-short, room-fits, room-plain}
 use Rattle.watch.proofs.ListLaws.{list-added, list-removed}
@@ -14,7 +14,7 @@ use Rattle.watch.proofs.room_for.Reads as reads
 use Rattle.watch.proofs.room_for.Lts as lts
 use Rattle.watch.proofs.fits.Reads as fits-reads
 use Rattle.watch.proofs.fits_lists.Reads as fits-lists-reads
-use Rattle.topic_lists.proofs.measure.Reads as measure-reads
+use Rattle.watch_lists.proofs.measure.Reads as measure-reads
 
 abbrev claims : lts.Claims
 claims = (

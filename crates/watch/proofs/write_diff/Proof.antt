@@ -6,8 +6,8 @@ use mathlib.Core.Path.{sym}
 use lib.ListN.{length, take}
 use lib.Seq.{length-take-le}
 use borrow.Author.Needs.{needs}
-use Rattle.parts.proofs.PartLaws.{Bytes}
-use Rattle.topics.specs.Packed.{decodeTopics}
+use Rattle.slice.proofs.PartLaws.{Bytes}
+use Rattle.watch_topics.specs.Packed.{decodeTopics}
 use Rattle.watch.proofs.DiffLaws.{Written, diff-lists, diff-rises, diff-apart, diff-room, diff-written}
 use Rattle.watch.proofs.write_diff.Statement.{statement}
 use Rattle.watch.proofs.write_diff.Tie as tie

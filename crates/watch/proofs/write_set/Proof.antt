@@ -4,14 +4,14 @@ use native.Mathlib.Omega.{arith}
 use mathlib.Core.Path.{sym}
 use lib.Seq.{length-take-le}
 use borrow.Author.Needs.{needs}
-use Rattle.parts.proofs.PartLaws.{Bytes}
+use Rattle.slice.proofs.PartLaws.{Bytes}
 use Rattle.watch.proofs.DiffLaws.{set-rises, taken-long, taken-rises, taken-apart, merged}
 use Rattle.watch.proofs.write_set.Statement.{statement}
 use Rattle.watch.proofs.write_set.Tie as tie
 use Rattle.watch.proofs.write_set.Reads as reads
 use Rattle.watch.proofs.write_set.Lts as lts
-use Rattle.topic_merge.proofs.merge.Reads as merge-reads
-use Rattle.topic_merge.proofs.take_out.Reads as take-out-reads
+use Rattle.watch_merge.proofs.merge.Reads as merge-reads
+use Rattle.watch_merge.proofs.take_out.Reads as take-out-reads
 
 abbrev claims : lts.Claims
 claims = (take-out-reads.Asked, take-out-reads.Learnt, merge-reads.Asked, merge-reads.Learnt)

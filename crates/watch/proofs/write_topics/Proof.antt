@@ -3,9 +3,9 @@
 use native.Mathlib.Omega.{arith}
 use mathlib.Core.Path.{ap}
 use borrow.Author.Needs.{needs}
-use Rattle.topics.specs.Packed.{sizeTopics}
-use Rattle.topics.proofs.SetLaws.{sorted-rising}
-use Rattle.topic_window.specs.Lists.{namedIn}
+use Rattle.watch_topics.specs.Packed.{sizeTopics}
+use Rattle.watch_topics.proofs.SetLaws.{sorted-rising}
+use Rattle.watch_window.specs.Lists.{namedIn}
 use Rattle.watch.proofs.ListLaws.{none-rises, list-all, sorted-all, sorted-list}
 use Rattle.watch.proofs.write_topics.Statement.{statement}
 use Rattle.watch.proofs.write_topics.Tie as tie

@@ -4,7 +4,7 @@ use Prim.Native.Nat.{_+_, _-_}
 use native.Mathlib.Omega.{arith}
 use mathlib.Core.Path.{_≡_, refl, ap, _∙_}
 use lib.ListN.{length, length-set}
-use Rattle.packed_int.specs.Put.{put}
+use Rattle.slice_int.specs.Put.{put}
 use Rattle.wire_writer.specs.Encode.{varintBytes}
 use Rattle.wire_writer.proofs.LeftLaws.{
   left,

@@ -8,7 +8,7 @@ use borrow.Author.Needs.{needs}
 use Rattle.packed.specs.Assignment.{decodeSegment}
 use Rattle.packed.proofs.AssignmentLaws.{Seen}
 use Rattle.wire_writer.specs.Encode.{partHead}
-use Rattle.assignment_message.specs.Message.{segmentMessage}
+use Rattle.writer_message.specs.Message.{segmentMessage}
 use Rattle.writer.proofs.SizeLaws.{number-short}
 use Rattle.writer.proofs.FieldLaws.{head-inside, message-length, message-short, buckets-inside}
 use Rattle.writer.proofs.segment_size.Statement.{statement}

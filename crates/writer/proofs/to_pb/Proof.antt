@@ -6,14 +6,14 @@ use mathlib.Core.Bool.{true}
 use lib.ListN.{drop}
 use borrow.Author.Needs.{needs}
 use borrow.Author.Tests.{not-true, not-false}
-use Rattle.parts.proofs.PartLaws.{rest}
+use Rattle.slice.proofs.PartLaws.{rest}
 use Rattle.utf8.specs.Table.{isUtf8}
-use Rattle.parents.specs.Parents.{isParent}
-use Rattle.parents.proofs.PathLaws.{parent-long}
+use Rattle.name_parents.specs.Parents.{isParent}
+use Rattle.name_parents.proofs.PathLaws.{parent-long}
 use Rattle.packed.specs.Assignment.{decodeSegments}
 use Rattle.packed.proofs.AssignmentLaws.{Rest}
 use Rattle.packed.proofs.WholeLaws.{Whole, whole-read}
-use Rattle.content.specs.Content.{outsideIn}
+use Rattle.intake_content.specs.Content.{outsideIn}
 use Rattle.writer.specs.declared.Held.the-variants as held
 use Rattle.writer.specs.Write.{heldOf}
 use Rattle.writer.proofs.OutcomeLaws.{write-malformed, write-empty, write-outside, write-not-utf8, write-no-parent, write-below}

@@ -1,7 +1,7 @@
 -- `topic_size` meets its contract. Assumes nothing.
 use native.Mathlib.Omega.{arith}
 use borrow.Author.Needs.{needs}
-use Rattle.topic.proofs.NameLaws.{decimal-length}
+use Rattle.name_topic.proofs.NameLaws.{decimal-length}
 use Rattle.writer.proofs.SizeLaws.{length-topic}
 use Rattle.writer.proofs.topic_size.Statement.{statement}
 use Rattle.writer.proofs.topic_size.Tie as tie

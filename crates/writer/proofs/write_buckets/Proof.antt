@@ -6,7 +6,7 @@ use mathlib.Core.List.{List, [], _∷_}
 use lib.ListN.{length, drop}
 use borrow.Author.Needs.{needs}
 use Rattle.packed.specs.Assignment.{decodeRanges}
-use Rattle.assignment_message.specs.Message.{bucketFields}
+use Rattle.writer_message.specs.Message.{bucketFields}
 use Rattle.writer.proofs.WritingLaws.{Writing, writing-start, writing-as, writing-room, writing-next, writing-end}
 use Rattle.writer.proofs.FieldLaws.{bucketPieces, buckets-at, buckets-none}
 use Rattle.writer.proofs.write_buckets.Statement.{statement}

@@ -6,10 +6,10 @@ use mathlib.Core.Path.{_≡_, sym, ap, _∙_}
 use mathlib.Core.List.{List, [], _∷_, _++_, append-nil}
 use lib.ListN.{length, drop}
 use borrow.Author.Needs.{needs}
-use Rattle.packed_int.specs.Be.{beAt}
+use Rattle.slice_int.specs.Be.{beAt}
 use Rattle.wire_writer.specs.Encode.{numberField}
 use Rattle.packed.specs.Assignment.{AssignedSegment, num, decodeSegments}
-use Rattle.assignment_message.specs.Message.{segmentFields}
+use Rattle.writer_message.specs.Message.{segmentFields}
 use Rattle.writer.specs.Write.{roomOf}
 use Rattle.writer.specs.declared.Room.the-variants.{Size}
 use Rattle.writer.proofs.WritingLaws.{Writing, writing-start, writing-as, writing-room, writing-next, writing-end}

@@ -7,7 +7,7 @@ use lib.ListN.{drop}
 use borrow.Author.Needs.{needs}
 use Rattle.packed.specs.Assignment.{decodeSegment}
 use Rattle.packed.proofs.AssignmentLaws.{Seen}
-use Rattle.assignment_message.specs.Message.{segmentMessage}
+use Rattle.writer_message.specs.Message.{segmentMessage}
 use Rattle.writer.proofs.WritingLaws.{Writing, writing-start, writing-as, writing-room, writing-next, writing-end}
 use Rattle.writer.proofs.FieldLaws.{head-inside, segmentPieces, message-at, buckets-inside}
 use Rattle.writer.proofs.write_segment.Statement.{statement}

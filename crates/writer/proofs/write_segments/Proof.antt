@@ -7,7 +7,7 @@ use mathlib.Core.List.{List, [], _∷_}
 use lib.ListN.{length, drop}
 use Rattle.packed.specs.Assignment.{decodeSegment, decodeSegments, sizeSegment}
 use Rattle.packed.proofs.AssignmentLaws.{Rest, rest-head, rest-next}
-use Rattle.assignment_message.specs.Message.{segmentFields}
+use Rattle.writer_message.specs.Message.{segmentFields}
 use Rattle.writer.proofs.WritingLaws.{Writing, writing-start, writing-as, writing-room, writing-next, writing-end}
 use Rattle.writer.proofs.FieldLaws.{head-inside, fieldPieces, fields-at, fields-none}
 use Rattle.writer.proofs.write_segments.Statement.{statement}

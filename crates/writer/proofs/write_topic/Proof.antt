@@ -6,10 +6,10 @@ use mathlib.Core.List.{List}
 use lib.ListN.{length, take, drop}
 use borrow.Author.Needs.{needs}
 use borrow.Rule.Slice.PartMut.{putMid}
-use Rattle.packed_int.specs.Put.{put}
-use Rattle.topic.specs.Names.{segmentTopic}
-use Rattle.topic.specs.Build.{nameOutcome, written}
-use Rattle.topic.specs.declared.NameAnswer.{NameAnswer}
+use Rattle.slice_int.specs.Put.{put}
+use Rattle.name_topic.specs.Names.{segmentTopic}
+use Rattle.name_topic.specs.Build.{nameOutcome, written}
+use Rattle.name_topic.specs.declared.NameAnswer.{NameAnswer}
 use Rattle.writer.proofs.WritingLaws.{rest-long, put-rest}
 use Rattle.writer.proofs.OutcomeLaws.{name-written, name-refused}
 use Rattle.writer.proofs.write_topic.Statement.{statement}

@@ -1,7 +1,7 @@
 -- `cuddrewyn_command` meets its contract: what the call under it gives, in numbers.
 -- Assumes nothing.
 use mathlib.Core.Path.{ap, _∙_}
-use Rattle.command.specs.Replies.{commandReply}
+use Rattle.wire_command.specs.Replies.{commandReply}
 use borrow.Author.Needs.{needs}
 use Rattle.export.proofs.command_calls.cuddrewyn_command.Statement.{statement}
 use Rattle.export.proofs.command_calls.cuddrewyn_command.Tie as tie

@@ -1,7 +1,7 @@
 -- `key_reply` meets its contract: four values, none of which is negative.
 -- Assumes nothing.
 use mathlib.Core.Path.{refl}
-use Rattle.reply.specs.Replies.{replyWith, wordAt, wordOf}
+use Rattle.export_reply.specs.Replies.{replyWith, wordAt, wordOf}
 use Rattle.export.specs.Exports.{keyReply}
 use borrow.Author.Needs.{needs}
 use Rattle.export.proofs.key_calls.key_reply.Statement.{statement}

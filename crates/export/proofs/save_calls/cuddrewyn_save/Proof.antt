@@ -3,7 +3,7 @@
 use Prim.Native.Nat.{ℕ}
 use mathlib.Core.Path.{_≡_, ap, _∙_}
 use Rattle.session.specs.declared.SessionRecord.{SessionRecord}
-use Rattle.saved.specs.Saved.{saveOutcome}
+use Rattle.session_saved.specs.Saved.{saveOutcome}
 use Rattle.export.proofs.ExportLaws.{write-call}
 use borrow.Author.Needs.{needs}
 use Rattle.export.proofs.save_calls.cuddrewyn_save.Statement.{statement}

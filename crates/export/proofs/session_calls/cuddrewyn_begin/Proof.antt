@@ -1,19 +1,19 @@
 -- `cuddrewyn_begin` meets its contract: a walk of its MIR by hand (session_lent's proofs/Lent). Of `begun` only its contract is used.
 -- Assumes nothing.
-use Rattle.marks.proofs.Words.{refl, none, some, List, [], _∷_, URA, id⊢, Heap, Model, Running, GhostRules, givenOf, tablesOf, Given}
-use Rattle.marks.proofs.Words.{_$_, !, and-then, no-more, params1, pass1, pass0, init}
+use Rattle.ranges_marks.proofs.Words.{refl, none, some, List, [], _∷_, URA, id⊢, Heap, Model, Running, GhostRules, givenOf, tablesOf, Given}
+use Rattle.ranges_marks.proofs.Words.{_$_, !, and-then, no-more, params1, pass1, pass0, init}
 use lib.ListN.{drop}
 use contract.Lifetimes.{Lfts}
 use denote.Builtin.{u64}
 use denote.Laws.{Spells}
 use denote.Signature.{Slot, plain, typesAt}
 use denote.Triple.Clauses.{Clauses}
-use Rattle.marks.proofs.Walk.{low, fits, mine}
-use Rattle.session_lent.proofs.Types.{word}
-use Rattle.session_lent.proofs.Lent.{copies-record, hands-on, Walked, lent-proved}
-use Rattle.session_lent.proofs.begun as g
-use Rattle.session_lent.proofs.begun.Symbol as g-def
-use Rattle.session_lent.proofs.begun.Met as g-thm
+use Rattle.ranges_marks.proofs.Walk.{low, fits, mine}
+use Rattle.export_session.proofs.Types.{word}
+use Rattle.export_session.proofs.Lent.{copies-record, hands-on, Walked, lent-proved}
+use Rattle.export_session.proofs.begun as g
+use Rattle.export_session.proofs.begun.Symbol as g-def
+use Rattle.export_session.proofs.begun.Met as g-thm
 use Rattle.export.proofs.session_calls.cuddrewyn_begin as f
 use Rattle.export.proofs.session_calls.cuddrewyn_begin.Key as f-key
 use Rattle.export.proofs.session_calls.cuddrewyn_begin.Statement as stated
@@ -42,7 +42,7 @@ module _ {M : Type 1} (𝓤 : URA M) (H : Heap 𝓤) (𝓜 : Model 𝓤 H) (𝓖
       params1 ! $ pass1 ! (init ! 7 refl (tt, tt)) $ pass1 ! (init ! 9 refl (fits word W (rest .0) (are .0))) $ pass0 ! $
       copies-record ! (κs .0) (qs .0) r refl refl refl refl (λ is.
       hands-on 𝓤 H 𝓜 𝓖 𝓡 code.env ss c κs qs r rest (spelt κs) tt (drop 2 steps.locals) m ss′ (g.clauses 𝓤 H (𝓖 .A) (𝓜 .mem) (𝓡 .run))
-      rest _ tt ! g-def.name g-def.routine code.calls-session-lent·begun (g-thm.met 𝓤 H 𝓜 𝓖 𝓡)
+      rest _ tt ! g-def.name g-def.routine code.calls-export-session·begun (g-thm.met 𝓤 H 𝓜 𝓖 𝓡)
       (id⊢ 𝓤 _, (λ u ws. (ws, id⊢ 𝓤 _, id⊢ 𝓤 _))) is 1 (some _ ∷ none ∷ some _ ∷ [])
       (and-then ! (mine ! 5 refl) (and-then ! (mine ! 5 refl) (no-more !))) (refl, refl, (λ v. refl), (λ v. refl)))
 

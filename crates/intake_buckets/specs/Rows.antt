@@ -1,0 +1,25 @@
+-- Internal: no claim cites it; whoever reads the claims may skip it.
+--
+-- What the functions of src/ answer: a segment's bucket ranges in rows.
+-- Assumes nothing.
+use Prim.Native.Nat.{ℕ, _≤_, _<_}
+use mathlib.Core.Path.{_≡_}
+use mathlib.Core.List.{List, [], _++_, map}
+use lib.ListN.{length, take, drop}
+use Rattle.types.specs.declared.KeyRange.{KeyRange}
+use Rattle.wire.specs.Fields.{fieldsOf}
+use Rattle.wire_values.specs.Values.{partsOf}
+use Rattle.wire_readers.specs.Messages.{intRangeOf}
+use Rattle.intake_content.specs.Content.{bucketOf}
+use Rattle.intake_buckets.specs.declared.Loaded.{Loaded}
+
+-- the bucket ranges of the segment p, from a place of its bytes on
+abbrev pub bucketsFrom : List ℕ → ℕ → List KeyRange
+bucketsFrom p at = map bucketOf (map intRangeOf (partsOf 5 (fieldsOf (drop at p))))
+
+-- the next ranges, at most 506, and the place behind them; fewer only where none is left behind them
+pub record LoadedIs (p : List ℕ) (at : ℕ) (r : Loaded) : Type 0 where
+  pub few : r .count ≤ 506
+  pub long : length (r .row) ≡ 506
+  pub split : bucketsFrom p at ≡ take (r .count) (r .row) ++ bucketsFrom p (r .next)
+  pub last : r .count < 506 → bucketsFrom p (r .next) ≡ []

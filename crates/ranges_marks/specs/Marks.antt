@@ -1,0 +1,49 @@
+-- Public: a row of 1,024 words in which each value of the key space has a place: the value v is marked where place v %
+-- 64 of the word v / 64 is set.
+-- Assumes nothing.
+use Prim.Native.Nat.{ℕ, _<_, _≤_, _/_, _%_}
+use mathlib.Core.Path.{_≡_}
+use mathlib.Core.Bool.{Bool, true, false}
+use mathlib.Core.List.{List, [], _∷_, _++_}
+use lib.ListN.{length, getD}
+use Rattle.types.specs.declared.KeyRange.{KeyRange}
+use Rattle.ranges.specs.Overlap.{overlapsAny, anyOverlap}
+use Rattle.ranges.specs.Meaning.{Within}
+use Rattle.ranges_marks.specs.Bits.{bit}
+
+-- the value is marked
+unfoldable pub marked : List ℕ → ℕ → Bool
+marked m v = bit (getD m (v / 64) 0) (v % 64)
+
+-- the range that has one value
+abbrev pub point : ℕ → KeyRange
+point v = record { start = v; end = v }
+
+-- the range lies in the key space and is not reversed
+pub record Good (r : KeyRange) : Type 0 where
+  pub in-order : r .start ≤ r .end
+  pub small : r .end < 65536
+
+pub data AllGood : List KeyRange → Type 0 where
+  none : AllGood []
+  more : {r : KeyRange} {rs : List KeyRange} → Good r → AllGood rs → AllGood (r ∷ rs)
+
+-- just the values of the ranges xs are marked
+pub record Holds (m : List ℕ) (xs : List KeyRange) : Type 0 where
+  pub long : length m ≡ 1024
+  pub same : (v : ℕ) → v < 65536 → marked m v ≡ overlapsAny (point v) xs
+
+-- the range r marked in m: whether a value of it was marked before, and the marks then
+pub record Marking (m : List ℕ) (r : KeyRange) (t : Bool) (m′ : List ℕ) : Type 0 where
+  pub long : length m′ ≡ length m
+  pub found : Good r → t ≡ true → ((v : ℕ) → Within v r → marked m v ≡ false) → ⊥
+  pub free : Good r → t ≡ false → (v : ℕ) → Within v r → marked m v ≡ false
+  pub wrote : Good r → t ≡ false → (v : ℕ) → Within v r → marked m′ v ≡ true
+  pub below : Good r → t ≡ false → (v : ℕ) → v < r .start → marked m′ v ≡ marked m v
+  pub above : Good r → t ≡ false → (v : ℕ) → r .end < v → marked m′ v ≡ marked m v
+
+-- the row marked in m, where xs without overlap were marked: whether two of xs and the row share a value
+pub record RowMarking (m : List ℕ) (row : List KeyRange) (t : Bool) (m′ : List ℕ) : Type 0 where
+  pub long : length m′ ≡ length m
+  pub told : (xs : List KeyRange) → Holds m xs → AllGood (xs ++ row) → anyOverlap xs ≡ false → t ≡ anyOverlap (xs ++ row)
+  pub holds : (xs : List KeyRange) → Holds m xs → AllGood (xs ++ row) → anyOverlap xs ≡ false → t ≡ false → Holds m′ (xs ++ row)

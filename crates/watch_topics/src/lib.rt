@@ -1,0 +1,189 @@
+// Topics in byte order, and a packed set of them: each topic a length of 16 bits and its bytes.
+ghost use mathlib.Core.Path.{_≡_};
+ghost use mathlib.Core.Bool.{true, _&&_};
+ghost use Prim.Native.Nat.{_-_, _≤_};
+ghost use lib.ListN.{length, take};
+ghost use Rattle.watch_topics.specs.Topics.{order, before, rising};
+ghost use Rattle.watch_topics.specs.Alike.{Shorter};
+ghost use Rattle.watch_topics.specs.Packed.{decodeTopics, isWhole, allUtf8, isSet, topicPlace};
+
+// How one topic stands to another.
+pub enum Order {
+    Less,
+    Equal,
+    Greater,
+}
+
+// Where a topic stands in a packed set, or would stand.
+pub struct Place {
+    pub at: usize,
+    pub present: bool,
+}
+
+// How a stands to b in byte order, byte by byte.
+fn compare_bytes(a: &[u8], b: &[u8]) -> Order
+    ensures { λ r. ⌜ r ≡ order (now (a .entry)) (now (b .entry)) ⌝ }
+{
+    let mut i: usize = 0;
+    while i < a.len() {
+        if b.len() <= i {
+            return Order::Greater;
+        }
+        let x = a[i];
+        let y = b[i];
+        if x < y {
+            return Order::Less;
+        }
+        if y < x {
+            return Order::Greater;
+        }
+        i += 1;
+    }
+    if i < b.len() {
+        Order::Less
+    } else {
+        Order::Equal
+    }
+}
+
+// The shorter of two lengths.
+fn shorter(a: usize, b: usize) -> usize
+    ensures { λ r. ⌜ Shorter a b r ⌝ }
+{
+    if a < b { a } else { b }
+}
+
+// How a stands to b in byte order, by the last word of the shorter one, whose n bytes are alike before it, and by the lengths.
+fn compare_end(a: &[u8], b: &[u8], n: usize) -> Order
+    requires { ⌜ (8 ≤ n) × Shorter (length (now a)) (length (now b)) n ⌝ }
+    requires { ⌜ take (n - 8) (now a) ≡ take (n - 8) (now b) ⌝ }
+    ensures { λ r. ⌜ r ≡ order (now (a .entry)) (now (b .entry)) ⌝ }
+{
+    let x = slice_int::read_u64(a, n - 8);
+    let y = slice_int::read_u64(b, n - 8);
+    if x < y {
+        return Order::Less;
+    }
+    if y < x {
+        return Order::Greater;
+    }
+    if a.len() < b.len() {
+        return Order::Less;
+    }
+    if b.len() < a.len() {
+        return Order::Greater;
+    }
+    Order::Equal
+}
+
+// How a stands to b in byte order. Of two words, most significant byte first, the lower one stands first; bytes that do not fill a word are
+// compared with those before them, which are alike.
+pub fn compare(a: &[u8], b: &[u8]) -> Order
+    ensures { λ r. ⌜ r ≡ order (now (a .entry)) (now (b .entry)) ⌝ }
+{
+    let n = shorter(a.len(), b.len());
+    if n < 8 {
+        return compare_bytes(a, b);
+    }
+    let mut i: usize = 0;
+    while 8 <= n - i {
+        let x = slice_int::read_u64(a, i);
+        let y = slice_int::read_u64(b, i);
+        if x != y {
+            if x < y {
+                return Order::Less;
+            }
+            return Order::Greater;
+        }
+        i += 8;
+    }
+    compare_end(a, b, n)
+}
+
+// Whether a stands before b.
+pub fn is_before(a: &[u8], b: &[u8]) -> bool
+    ensures { λ r. ⌜ r ≡ before (now (a .entry)) (now (b .entry)) ⌝ }
+{
+    match compare(a, b) {
+        Order::Less => true,
+        Order::Equal => false,
+        Order::Greater => false,
+    }
+}
+
+// The lengths lead to the end of the slice, and each topic is UTF-8.
+fn is_list(s: &[u8]) -> bool
+    ensures { λ r. ⌜ r ≡ (isWhole (now (s .entry)) && allUtf8 (decodeTopics (now (s .entry)))) ⌝ }
+{
+    let mut at: usize = 0;
+    while at < s.len() {
+        if s.len() - at < 2 {
+            return false;
+        }
+        let n = slice_int::read_u16(s, at) as usize;
+        if s.len() - at - 2 < n {
+            return false;
+        }
+        let from = at + 2;
+        let end = from + n;
+        if !utf8::is_utf8(&s[from..end]) {
+            return false;
+        }
+        at = end;
+    }
+    true
+}
+
+// Each topic of a packed list stands before the next.
+fn is_rising(s: &[u8]) -> bool
+    requires { ⌜ isWhole (now s) ≡ true ⌝ }
+    ensures { λ r. ⌜ r ≡ rising (decodeTopics (now (s .entry))) ⌝ }
+{
+    let mut at: usize = 0;
+    while at < s.len() {
+        let n = slice_int::read_u16(s, at) as usize;
+        let from = at + 2;
+        let end = from + n;
+        if end < s.len() {
+            let m = slice_int::read_u16(s, end) as usize;
+            let next = end + 2;
+            if !is_before(&s[from..end], &s[next..next + m]) {
+                return false;
+            }
+        }
+        at = end;
+    }
+    true
+}
+
+// The bytes are a packed set.
+pub fn is_set(s: &[u8]) -> bool
+    ensures { λ r. ⌜ r ≡ isSet (now (s .entry)) ⌝ }
+{
+    if is_list(s) { is_rising(s) } else { false }
+}
+
+// Where a topic stands in a packed set.
+pub fn find(s: &[u8], t: &[u8]) -> Place
+    requires { ⌜ isWhole (now s) ≡ true ⌝ }
+    ensures { λ r. ⌜ r ≡ topicPlace (now (t .entry)) 0 (decodeTopics (now (s .entry))) ⌝ }
+{
+    let mut at: usize = 0;
+    while at < s.len() {
+        let n = slice_int::read_u16(s, at) as usize;
+        let from = at + 2;
+        let end = from + n;
+        match compare(t, &s[from..end]) {
+            Order::Less => {
+                return Place { at, present: false };
+            }
+            Order::Equal => {
+                return Place { at, present: true };
+            }
+            Order::Greater => {
+                at = end;
+            }
+        }
+    }
+    Place { at, present: false }
+}
