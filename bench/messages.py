@@ -85,6 +85,8 @@ MESSAGES = {
 }
 
 SIZES = (10, 1000, 2500, 5000, 10000, 20000)
+# topics of the long snapshots; the long diffs have as many, on a set of twice as many
+LONG = 110_000
 
 
 def topic(number):
@@ -141,6 +143,18 @@ def growing():
         yield f"text-{count}", german * (count // len(german)) + b"." * (count % len(german))
 
 
+def long():
+    """Messages of some 5 MB, in the orders that cost most."""
+    segments = [segment(i, 0, 65535) for i in range(115_000)]
+    yield "long-falling", update(segments[::-1])
+    yield "long-repeat", update(segments[:-1] + segments[:1])
+    falling = [(i, i) for i in reversed(range(65536))]
+    yield "long-buckets", update([segment(i, 0, 65535, falling) for i in range(8)])
+    orders = ("rising", "shuffled", "falling")
+    yield from ((name, one) for name, one in watch_updates(LONG).items() if name.endswith(orders) and "half" not in name)
+    yield from ((name, one) for name, one in watch_updates(2 * LONG).items() if "half" in name or name.endswith("rising"))
+
+
 for count in SIZES:
     MESSAGES |= watch_updates(count)
 
@@ -155,7 +169,7 @@ MESSAGES |= {f"text-{name}": text.encode() for name, text in TEXTS.items()}
 
 def write_all(folder):
     folder.mkdir(parents=True, exist_ok=True)
-    for name, message in (MESSAGES | dict(growing())).items():
+    for name, message in (MESSAGES | dict(growing()) | dict(long())).items():
         (folder / f"{name}.bin").write_bytes(message)
 
 

@@ -19,7 +19,7 @@
 #include "calls.h"
 #include "stack.h"
 
-enum { ROOM = 1 << 21 };
+enum { ROOM = 1 << 24 };
 
 typedef struct {
     uint8_t bytes[ROOM];
@@ -56,7 +56,12 @@ static void watch(const message *m) {
 }
 
 // Request 1 answered by a list with no segments at epoch 0.
-static const message EMPTY = {{0x08, 0x01, 0x22, 0x02, 0x08, 0x00}, 6};
+static const message *empty(void) {
+    static const uint8_t bytes[] = {0x08, 0x01, 0x22, 0x02, 0x08, 0x00};
+    static message made;
+    memcpy(made.bytes, bytes, made.length = sizeof bytes);
+    return &made;
+}
 
 // A session with so many pushes in its queue, drained where it is registered.
 static void prepare_updates(bool registered, size_t queued) {
@@ -67,7 +72,7 @@ static void prepare_updates(bool registered, size_t queued) {
     for (size_t push = 1; push < queued; push++) memcpy(queue + entry * push, queue, entry);
     record.queue_count = queued;
     if (registered) {
-        respond(&EMPTY);
+        respond(empty());
         record.drain_positions[0] = queued;
     }
     update(&messages[1]);
@@ -144,7 +149,7 @@ static void *watch_once(void *m) { return watch(m), NULL; }
 static size_t deepest(const char *call, size_t queued) {
     if (!strcmp(call, "watch")) return prepare_watch(), stack_of(watch_once, &messages[1]);
     open_session();
-    if (!strcmp(call, "update")) return respond(&EMPTY), stack_of(update_once, &messages[0]);
+    if (!strcmp(call, "update")) return respond(empty()), stack_of(update_once, &messages[0]);
     queue_updates(queued);
     if (!strcmp(call, "response")) return stack_of(respond_once, &messages[2]);
     respond(&messages[2]);

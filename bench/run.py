@@ -72,6 +72,17 @@ HOSTILE = [
     ("the same in falling order (15)", "update", "segments-20000-falling", "0 0 0", "* 0 0"),
     ("20,000 segments, the last id has come before (14)", "update", "repeat-20000", "* 0 0", "* 0 0"),
 ]
+# Messages of some 5 MB: what it is; the call and its messages; what the port says.
+LONG = [
+    ("an update of 115,000 segments, falling (15)", ("update", "long-falling", "long-falling", 1, 0), "* 0 0"),
+    ("the same, rising, the last id has come before (14)", ("update", "long-repeat", "long-repeat", 1, 0), "* 0 0"),
+    ("the same, addressed to another link (23)", ("stray", "long-repeat", "long-repeat", 1, 0), "* 0 0"),
+    ("an update of eight segments with 65,536 falling buckets each (15)", ("update", "long-buckets", "long-buckets", 1, 0), "* 0 0"),
+    *((f"a watch snapshot of 110,000 topics, {order}", ("watch", "w-110000-rising", f"w-110000-{order}", f"w-110000-{order}"), "0 110000 0")
+      for order in ("rising", "shuffled", "falling")),
+    *((f"a watch diff of 110,000 topics on 220,000, {order}", ("watch", "w-220000-rising", f"w-220000-{name}", f"w-220000-{name}-back"), "0 55000 55000")
+      for order, name in (("rising", "half"), ("shuffled", "half-shuffled"), ("falling", "half-falling"))),
+]
 # Pushes that wait for the response; turns that are counted.
 RECONNECTS = [(0, TURNS), (16, TURNS), (FULL, 1)]
 # What it is; the call; how many pushes wait; how many segments its delta loses and gains.
@@ -300,6 +311,17 @@ def hostile_table(bench):
     return rows(["update", "bytes", *MEASURED], lines)
 
 
+def long_table(bench):
+    """One call of the port over a message of some 5 MB."""
+    lines = []
+    for what, (call, *names), told in each("long", LONG):
+        files = [bench.file(name) if isinstance(name, str) else name for name in names]
+        words, message = bench.sides(call, *files)[1], files[1]
+        taken = microseconds(told, words, 2) / 1000 if bench.times else None
+        lines.append([what, size_of(message), f"{instructions(told, words, 2):,}", shown(taken, ",.1f")])
+    return rows(["call", "bytes", "port, instructions", "port, ms"], lines)
+
+
 def reconnect_table(bench):
     lines = []
     for queued, turns in each("reconnect", RECONNECTS):
@@ -422,7 +444,7 @@ def size_table(bench):
 
 
 TABLES = {
-    "update": update_table, "hostile": hostile_table, "reconnect": reconnect_table, "queue": queue_table, "scan": scan_table, "intake": intake_table,
+    "update": update_table, "hostile": hostile_table, "long": long_table, "reconnect": reconnect_table, "queue": queue_table, "scan": scan_table, "intake": intake_table,
     "plain": plain_table, "text": text_table, "watch": watch_table, "keys": key_table, "logs": log_table, "growth": growth_table, "memory": memory_table,
     "sizes": size_table,
 }
