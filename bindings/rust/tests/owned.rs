@@ -164,6 +164,29 @@ fn a_session_is_cloned_and_kept() {
 }
 
 #[test]
+fn a_session_is_saved_and_restored() {
+    let mut session = open();
+    session.handle_assignment_update(&update(3, &list(&[1]))).unwrap();
+    let waiting = session.save().unwrap();
+    session.handle_subscribe_response(&response(2, &list(&[4]))).unwrap();
+    let saved = session.save().unwrap();
+
+    let mut again = ScalableConsumerSession::restore(&saved).unwrap();
+    assert_eq!((again.assignment(), again.record()), (session.assignment(), session.record()));
+    assert_eq!(again.take_replayed_updates(), session.take_replayed_updates());
+    let mut before = ScalableConsumerSession::restore(&waiting).unwrap();
+    assert_eq!(before.assignment(), None);
+    before.handle_subscribe_response(&response(2, &list(&[4]))).unwrap();
+    assert_eq!(before.assignment(), session.assignment());
+
+    let mut damaged = saved.clone();
+    damaged[2 * cuddrewyn::SLOT] ^= 1;
+    assert_eq!(ScalableConsumerSession::restore(&damaged).unwrap_err(), AssignmentError::MalformedSave);
+    assert_eq!(ScalableConsumerSession::restore(&saved[..saved.len() - 1]).unwrap_err(), AssignmentError::MalformedSave);
+    assert_eq!(ScalableConsumerSession::restore(&[]).unwrap_err(), AssignmentError::MalformedSave);
+}
+
+#[test]
 fn what_is_shown() {
     let mut session = open();
     session.handle_subscribe_response(&response(6, &[segment(1, 0, 9, &[(2, 3)])])).unwrap();

@@ -1,5 +1,6 @@
 //! The session that owns its store: how it is opened, kept and read. Its calls are in `calls`.
 
+use alloc::string::String;
 use alloc::vec;
 use alloc::vec::Vec;
 use core::fmt;
@@ -10,7 +11,7 @@ use crate::owned::{AssignmentError, ConsumerAssignment};
 use crate::raw::{self, Record};
 use crate::session::ScalableConsumerSession as Lent;
 use crate::types::{ControllerIncarnation, ScalableConsumerType};
-use crate::{BASELINE, LIST, MAX_STORE, MIN_STORE, store_len};
+use crate::{BASELINE, LIST, MAX_STORE, MIN_STORE, SAVED_HEAD, store_len};
 
 /// A consumer's registration with the controller: what it holds, with a store of its own.
 ///
@@ -77,6 +78,35 @@ impl ScalableConsumerSession {
     pub fn resume(record: Record, mut store: Vec<u8>, incarnation: ControllerIncarnation) -> Result<Self, AssignmentError> {
         let record = Lent::resume(record, &mut store, incarnation)?.record();
         Ok(Self { record, store, limit: MAX_STORE, assignment: None })
+    }
+
+    /// The session as bytes, to be kept where power is lost: the record, and what is in use of the store, with a length and a checksum.
+    ///
+    /// # Errors
+    ///
+    /// [`AssignmentError::MalformedStore`] (22), which a session of calls alone never gives.
+    pub fn save(&self) -> Result<Vec<u8>, AssignmentError> {
+        let mut out = vec![0; SAVED_HEAD + self.store.len()];
+        let reply = call::save(self.record, &self.store, &mut out);
+        if reply.answer != raw::WRITTEN {
+            return Err(AssignmentError::from_reply(reply, String::new()));
+        }
+        out.truncate(usize::try_from(reply.first).unwrap_or(usize::MAX));
+        Ok(out)
+    }
+
+    /// The session that [`Self::save`] wrote: all of its bytes and no more.
+    ///
+    /// # Errors
+    ///
+    /// [`AssignmentError::MalformedSave`] (64) where the bytes are cut short, damaged or none of a session; [`AssignmentError::MalformedStore`] (22)
+    /// where what they hold is no session.
+    pub fn restore(bytes: &[u8]) -> Result<Self, AssignmentError> {
+        let mut store = vec![0; bytes.len().saturating_sub(SAVED_HEAD).max(MIN_STORE)];
+        let record = Lent::restore(bytes, &mut store)?.record();
+        let mut session = Self { record, store, limit: MAX_STORE, assignment: None };
+        session.refresh()?;
+        Ok(session)
     }
 
     /// Record and store. Keep both to go on with the session later, also in another process.
