@@ -35,8 +35,8 @@ use Rattle.wire_schema.specs.declared.MessageKind.the-variants.{ScalableConsume
 use Rattle.wire_schema.specs.FirstFault.{Sound}
 use Rattle.wire_schema.proofs.SoundLaws.{range-sound}
 use Rattle.wire_ordered.specs.Plain.{NumberIs, PartField}
-use Rattle.intake_bucket.specs.Buckets.{BucketAt}
-use Rattle.intake_bucket.proofs.BucketLaws.{row-end}
+use Rattle.intake_ordered_bucket.specs.Buckets.{BucketAt}
+use Rattle.intake_ordered_bucket.proofs.BucketLaws.{row-end}
 use Rattle.wire_readers.specs.Messages.{WireAssignment, readAssignment}
 use Rattle.packed.specs.Assignment.{AssignedSegment, ConsumerAssignment, slotSize, encodeRange, encodeRanges, encodeSegment, encodeSegments}
 use Rattle.packed.specs.Assignment.{decodeRanges, okBuckets, decodeSegments, encodeAssignment, sizeSegment, sizeSegments, sizeAssignment, okSegment, okFrom, okAssignment}

@@ -14,8 +14,8 @@ ghost use Rattle.name_parents.specs.Parents.{isParent};
 ghost use Rattle.packed.specs.Assignment.{decodeRanges, okBuckets};
 ghost use Rattle.intake_ordered.specs.Walk.{BucketsSay, HeadSays, SegmentSays, SegmentsSay};
 ghost use Rattle.intake_ordered.specs.Taken.{PlainSays};
-use intake_bucket::Bucket;
-use intake_bucket::MAX_HASH;
+use intake_ordered_bucket::Bucket;
+use intake_ordered_bucket::MAX_HASH;
 use types::KeyRange;
 use types::SegmentId;
 use wire_ordered::NumberAt;
@@ -84,7 +84,7 @@ fn take_buckets(
     let mut to = place;
     let mut rising = true;
     while at < p.len() {
-        let Bucket::Found(start, end, next) = intake_bucket::bucket_at(p, at) else {
+        let Bucket::Found(start, end, next) = intake_ordered_bucket::bucket_at(p, at) else {
             return Buckets::Other;
         };
         if start < lowest {

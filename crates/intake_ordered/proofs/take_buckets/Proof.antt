@@ -10,7 +10,7 @@ use lib.ListN.{length}
 use borrow.Author.Needs.{needs}
 use Rattle.slice_int.proofs.BeLaws.{length-bytesOf}
 use Rattle.slice_int.proofs.PutLaws.{length-put}
-use Rattle.intake_bucket.specs.Buckets.{BucketAt, BucketSays}
+use Rattle.intake_ordered_bucket.specs.Buckets.{BucketAt, BucketSays}
 use Rattle.intake_ordered.specs.Walk.{BucketsFrom}
 use Rattle.intake_ordered.proofs.TakeLaws.{buckets-end, buckets-next}
 use Rattle.intake_ordered.proofs.take_buckets.Statement.{statement}

@@ -23,7 +23,7 @@ use Rattle.wire.proofs.FieldLaws.{part-fits}
 use Rattle.wire.proofs.FieldsLaws.{fields-nil}
 use Rattle.wire_ordered.specs.Plain.{NumberIs, PartField}
 use Rattle.wire_ordered.proofs.PlainLaws.{number-field, part-field}
-use Rattle.intake_bucket.specs.Buckets.{RangeRow, WordIs, BucketAt}
+use Rattle.intake_ordered_bucket.specs.Buckets.{RangeRow, WordIs, BucketAt}
 
 -- nothing is left of a row
 pub row-end : (s : List ℕ) (at : ℕ) → length s ≤ at → fieldsOf (drop at s) ≡ []

@@ -3,7 +3,7 @@
 // A bucket whose numbers have three bytes each is told by one word, any other field by field. What is told is so; nothing is told of a bucket in any other
 // form, of one that is reversed, or of one that ends beyond the key space.
 ghost use Prim.Native.Nat.{_<_};
-ghost use Rattle.intake_bucket.specs.Buckets.{RangeSays, WordIs, WideSays, BucketSays};
+ghost use Rattle.intake_ordered_bucket.specs.Buckets.{RangeSays, WordIs, WideSays, BucketSays};
 use wire_ordered::NumberAt;
 use wire_ordered::Part;
 

@@ -2,10 +2,10 @@
 use native.Mathlib.Omega.{arith}
 use mathlib.Core.Path.{refl}
 use borrow.Author.Needs.{needs}
-use Rattle.intake_bucket.specs.Buckets.{WordIs}
-use Rattle.intake_bucket.proofs.BucketLaws.{wide-bucket}
-use Rattle.intake_bucket.proofs.wide_bucket.Statement.{statement}
-use Rattle.intake_bucket.proofs.wide_bucket.Tie as tie
+use Rattle.intake_ordered_bucket.specs.Buckets.{WordIs}
+use Rattle.intake_ordered_bucket.proofs.BucketLaws.{wide-bucket}
+use Rattle.intake_ordered_bucket.proofs.wide_bucket.Statement.{statement}
+use Rattle.intake_ordered_bucket.proofs.wide_bucket.Tie as tie
 
 -- the word is there
 worded : (c : tie.Else8)

@@ -11,10 +11,10 @@ use Rattle.slice_int.specs.Be.{beAt}
 use Rattle.wire.specs.declared.WireType.the-variants as wire
 use Rattle.wire.specs.Fields.{number, field, fieldsOf}
 use Rattle.wire_ordered.specs.Plain.{PartField}
-use Rattle.intake_bucket.specs.declared.RangeIn.{RangeIn}
-use Rattle.intake_bucket.specs.declared.RangeIn.the-variants as range-in
-use Rattle.intake_bucket.specs.declared.Bucket.{Bucket}
-use Rattle.intake_bucket.specs.declared.Bucket.the-variants as bucket
+use Rattle.intake_ordered_bucket.specs.declared.RangeIn.{RangeIn}
+use Rattle.intake_ordered_bucket.specs.declared.RangeIn.the-variants as range-in
+use Rattle.intake_ordered_bucket.specs.declared.Bucket.{Bucket}
+use Rattle.intake_ordered_bucket.specs.declared.Bucket.the-variants as bucket
 
 -- the part q is a range of the key space, and nothing else
 pub record RangeRow (q : List ℕ) (start end : ℕ) : Type 0 where

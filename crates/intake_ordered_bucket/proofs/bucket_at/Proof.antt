@@ -4,9 +4,9 @@ use native.Mathlib.Omega.{arith}
 use mathlib.Core.Path.{subst}
 use borrow.Author.Needs.{needs}
 use Rattle.wire_ordered.specs.Plain.{PartField, PartSays}
-use Rattle.intake_bucket.specs.Buckets.{RangeSays, WideSays, BucketAt}
-use Rattle.intake_bucket.proofs.bucket_at.Statement.{statement}
-use Rattle.intake_bucket.proofs.bucket_at.Tie as tie
+use Rattle.intake_ordered_bucket.specs.Buckets.{RangeSays, WideSays, BucketAt}
+use Rattle.intake_ordered_bucket.proofs.bucket_at.Statement.{statement}
+use Rattle.intake_ordered_bucket.proofs.bucket_at.Tie as tie
 
 -- one word tells it
 told : (c : tie.After-known-told)

@@ -1,10 +1,10 @@
 -- `range_in` meets its contract: two numbers, and nothing behind them. Assumes nothing.
 use mathlib.Core.Path.{subst}
 use Rattle.wire_ordered.specs.Plain.{NumberSays}
-use Rattle.intake_bucket.proofs.BucketLaws.{range-row}
+use Rattle.intake_ordered_bucket.proofs.BucketLaws.{range-row}
 use borrow.Author.Needs.{needs}
-use Rattle.intake_bucket.proofs.range_in.Statement.{statement}
-use Rattle.intake_bucket.proofs.range_in.Tie as tie
+use Rattle.intake_ordered_bucket.proofs.range_in.Statement.{statement}
+use Rattle.intake_ordered_bucket.proofs.range_in.Tie as tie
 
 returns-6 : tie.Need-returns-6
 returns-6 c =
