@@ -14,6 +14,9 @@ told : (c : tie.After-known-told)
     BucketAt (a .p .now) (a .at) (c .before .start .given .0 .0) (c .before .start .given .0 .1 .0) (a .at + 10)
 told c = subst (WideSays _ _) (c .before .start .given .1) (c .before .before .before .wide-bucket .ensures)
 
+returns : tie.Need-returns
+returns c = told c
+
 -- field 5 is there
 found : (c : tie.After-known-told2)
     → let a = c .before .before .before .before .before .before .before .before .args in
@@ -37,7 +40,7 @@ bucket-at-spec =
     (λ c κs. search needs)
     (λ c. search needs)
     (λ c. let h = told c in omega (arith, h .part .within))
-    told
+    returns
     -- enum-told, part-at-requires, enum-known-from, enum-told-2, returns-2
     (λ c. search needs)
     (λ c κs. search needs)
