@@ -86,7 +86,7 @@ MESSAGES = {
 
 SIZES = (10, 1000, 2500, 5000, 10000, 20000)
 # topics of the long snapshots; the long diffs have as many, on a set of twice as many
-LONG = 110_000
+MANY = 110_000
 
 
 def topic(number):
@@ -151,8 +151,8 @@ def long():
     falling = [(i, i) for i in reversed(range(65536))]
     yield "long-buckets", update([segment(i, 0, 65535, falling) for i in range(8)])
     orders = ("rising", "shuffled", "falling")
-    yield from ((name, one) for name, one in watch_updates(LONG).items() if name.endswith(orders) and "half" not in name)
-    yield from ((name, one) for name, one in watch_updates(2 * LONG).items() if "half" in name or name.endswith("rising"))
+    yield from ((name, one) for name, one in watch_updates(MANY).items() if name.endswith(orders) and "half" not in name)
+    yield from ((name, one) for name, one in watch_updates(2 * MANY).items() if "half" in name or name.endswith("rising"))
 
 
 for count in SIZES:
