@@ -4,6 +4,7 @@
 //   port PARENT stray FIRST SECOND REGISTERED QUEUED TIMES     the same, addressed to another link
 //   port PARENT reconnect FIRST SECOND RESPONSE QUEUED TIMES   a new link, QUEUED updates that wait, the response, drains until none is left
 //   port PARENT watch SET FIRST SECOND TIMES                   updates of a watch by two messages in turn
+//   port PARENT tight SET FIRST SECOND TIMES                   the same, with an output that has no byte more than what is written
 //   port PARENT queue push|response|first|last FIRST SECOND RESPONSE QUEUED TIMES   one call over QUEUED updates that wait: an update more, the
 //                                                       response, the first drain or the last
 //   port PARENT stack update|response|drain|watch ..    the deepest stack of one such call; the words are those of update, reconnect or watch
@@ -28,7 +29,7 @@ typedef struct {
 
 static message messages[3];
 static uint8_t set[ROOM], out[ROOM];
-static size_t used, written;
+static size_t used, written, room = ROOM;
 static const char *parent;
 
 static void read_message(message *m, const char *path) {
@@ -49,7 +50,7 @@ static void respond(const message *m) { call_response(m->bytes, m->length); }
 static bool drain(void) { return call_drain(0, out).answer == CUDDREWYN_REPLAY; }
 
 static void watch(const message *m) {
-    cuddrewyn_reply told = cuddrewyn_watch(7, set, sizeof set, used, m->bytes, m->length, out, sizeof out);
+    cuddrewyn_reply told = cuddrewyn_watch(7, set, sizeof set, used, m->bytes, m->length, out, room);
     refused += told.answer == CUDDREWYN_REFUSED;
     used = told.answer == CUDDREWYN_REFUSED ? used : told.first;
     written = told.second;
@@ -164,8 +165,9 @@ static void run_updates(char **word, size_t queued, int times) {
     print_delta();
 }
 
-static void run_watch(int times) {
+static void run_watch(bool tight, int times) {
     prepare_watch();
+    room = tight ? written : ROOM;
     for (int turn = 0; turn < times; turn++) watch(&messages[1 + turn % 2]);
     print_topics();
 }
@@ -187,13 +189,13 @@ int main(int count, char **words) {
     bool stack = !strcmp(words[2], "stack"), queue = !strcmp(words[2], "queue");
     char **word = words + 2 + (stack || queue);
     if (count < 7 + (stack || queue)) return 2;
-    bool is_update = !strcmp(word[0], "update") || !strcmp(word[0], "stray"), is_watch = !strcmp(word[0], "watch");
+    bool is_update = !strcmp(word[0], "update") || !strcmp(word[0], "stray"), tight = !strcmp(word[0], "tight");
     for (int which = 0; which < (is_update ? 2 : 3); which++) read_message(&messages[which], word[1 + which]);
     int times = atoi(words[count - 1]);
     size_t queued = (size_t)atoi(words[count - 2]);
     if (stack) run_stack(word[0], queued);
     else if (queue) queue_calls(word[0], queued, times), print_delta();
-    else if (is_watch) run_watch(times);
+    else if (tight || !strcmp(word[0], "watch")) run_watch(tight, times);
     else if (is_update) run_updates(word, queued, times);
     else run_reconnects(queued, times);
     return 0;

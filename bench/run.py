@@ -82,6 +82,8 @@ LONG = [
       for order in ("rising", "shuffled", "falling")),
     *((f"a watch diff of 110,000 topics on 220,000, {order}", ("watch", "w-220000-rising", f"w-220000-{name}", f"w-220000-{name}-back"), "0 55000 55000")
       for order, name in (("rising", "half"), ("shuffled", "half-shuffled"), ("falling", "half-falling"))),
+    *((f"the same, {order}, into an output without a byte to spare", ("tight", "w-220000-rising", f"w-220000-{name}", f"w-220000-{name}-back"), "0 55000 55000")
+      for order, name in (("rising", "half"), ("shuffled", "half-shuffled"), ("falling", "half-falling"))),
 ]
 # Pushes that wait for the response; turns that are counted.
 RECONNECTS = [(0, TURNS), (16, TURNS), (FULL, 1)]
