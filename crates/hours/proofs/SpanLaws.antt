@@ -1,6 +1,7 @@
 -- Laws of spans read where they lie, and of what bytes are as a contract.
 --
--- In order: spans at a place (`span-read`, `spans-at`, `spans-none`); the tests of the first of a row (`ok-first`,
+-- In order: spans at a place (`span-read`, `spans-at`, `spans-none`); a walk that asks each (`Turn`, `turn-end`,
+-- `turn-first`, `turn-next`); the tests of the first of a row (`ok-first`,
 -- `holds-found`, ..); the cases of `shapeOf` (`shape-short` to `shape-good`) and what it says (`Shaped`, `shaped`,
 -- `not-shaped`).
 -- Assumes nothing.
@@ -45,6 +46,26 @@ spans-at s p n x h e =
 pub spans-none : (n : ℕ) (l : List ℕ) → n ≤ 0 → spansOf n l ≡ []
 unfolding spansOf
 spans-none n l h = let e : n ≡ 0 = omega arith in ap (λ (k : ℕ). spansOf k l) e
+
+-- ---- a walk over a row: the spans that are left, from the place p on, decide what f says of them all
+
+pub record Turn (f : List Span → Bool) (s : List ℕ) (at n p left : ℕ) : Type 0 where
+  pub place : p + 16 * left ≡ at + 16 * n
+  pub decides : f (spansOf n (drop at s)) ≡ f (spansOf left (drop p s))
+
+module _ {f : List Span → Bool} {s : List ℕ} {at n p left : ℕ} (v : Turn f s at n p left) where
+  pub turn-end : left ≤ 0 → f [] ≡ f (spansOf n (drop at s))
+  turn-end h = sym (v .decides ∙ ap f (spans-none left (drop p s) h))
+
+  module _ (x : Span) (h : 0 < left) (e : x ≡ spanOf (drop p s)) where
+    abbrev xs : List Span
+    xs = spansOf (left - 1) (drop (p + 16) s)
+
+    pub turn-first : f (x ∷ xs) ≡ f (spansOf n (drop at s))
+    turn-first = sym (v .decides ∙ ap f (spans-at s p left x h e))
+
+    pub turn-next : f (x ∷ xs) ≡ f xs → Turn f s at n (p + 16) (left - 1)
+    turn-next g = record { place = omega (arith, v .place); decides = sym turn-first ∙ g }
 
 -- ---- a row by its first span
 
