@@ -3,6 +3,7 @@ ghost use mathlib.Core.Path.{_≡_};
 ghost use Rattle.output.specs.Output.{outcome};
 ghost use Rattle.packed_apply.specs.ApplyOutcome.{applyOutcome};
 use output::WriteAnswer;
+use packed::ASSIGNMENT_HEAD;
 use packed::Packed;
 use packed_delta::DeltaRead;
 use packed_overlay::Fit;
@@ -21,7 +22,7 @@ pub fn apply(assignment: &[u8], delta: &[u8], out: &mut [u8]) -> WriteAnswer
         return WriteAnswer::Refused(Refusal::MalformedInput);
     };
     let kept = Row {
-        at: packed::ASSIGNMENT_HEAD,
+        at: ASSIGNMENT_HEAD,
         left: count,
     };
     let lost = Row {
@@ -38,23 +39,15 @@ pub fn apply(assignment: &[u8], delta: &[u8], out: &mut [u8]) -> WriteAnswer
         delta,
         lost,
         gained,
-        packed::SLOT - packed::ASSIGNMENT_HEAD,
+        packed::SLOT - ASSIGNMENT_HEAD,
     ) else {
         return WriteAnswer::Refused(Refusal::AssignmentTooLong);
     };
-    if out.len() < packed::ASSIGNMENT_HEAD + size {
+    if out.len() < ASSIGNMENT_HEAD + size {
         return WriteAnswer::Refused(Refusal::ResultTooLong);
     }
-    packed_overlay::write_overlay(
-        assignment,
-        kept,
-        delta,
-        lost,
-        gained,
-        out,
-        packed::ASSIGNMENT_HEAD,
-    );
+    packed_overlay::write_overlay(assignment, kept, delta, lost, gained, out, ASSIGNMENT_HEAD);
     slice_int::write_u16(out, 8, n as u16);
     slice_int::write_u64(out, 0, slice_int::read_u64(delta, 0));
-    WriteAnswer::Written(packed::ASSIGNMENT_HEAD + size)
+    WriteAnswer::Written(ASSIGNMENT_HEAD + size)
 }
