@@ -10,7 +10,7 @@ use lib.Dec.{ltb}
 use Rattle.refusal.specs.declared.Refusal.the-variants.{InvalidWindow}
 use Rattle.churn.specs.declared.ChurnAnswer.{ChurnAnswer}
 use Rattle.churn.specs.declared.ChurnAnswer.the-variants.{Counted, Refused}
-use Rattle.churn.specs.Window.{places, windowSize, isWindow, countsOf}
+use Rattle.churn.specs.Window.{places, mostLost, windowSize, isWindow, countsOf}
 use Rattle.churn.specs.Churn.{ChurnOutcome, totalsOf, push, clear, current}
 
 -- what the station does with a window
@@ -46,7 +46,7 @@ latest n l = drop (length l - n) l
 
 -- "counts not refused since the last clearing", after a step
 unfoldable pub after : List ℕ → Step → List ℕ
-after kept (count c) = cond (ltb 65535 c) kept (kept ++ (c ∷ []))
+after kept (count c) = cond (ltb mostLost c) kept (kept ++ (c ∷ []))
 after kept clearing = []
 
 unfoldable pub keptAfter : List ℕ → List Step → List ℕ
@@ -59,7 +59,7 @@ reckoning kept = Counted (totalsOf (latest places kept))
 
 -- 38, else the reckoning with the step
 unfoldable pub freshAnswer : List ℕ → Step → ChurnAnswer
-freshAnswer kept (count c) = cond (ltb 65535 c) (Refused InvalidWindow) (reckoning (after kept (count c)))
+freshAnswer kept (count c) = cond (ltb mostLost c) (Refused InvalidWindow) (reckoning (after kept (count c)))
 freshAnswer kept clearing = reckoning (after kept clearing)
 
 unfoldable pub freshAnswers : List ℕ → List Step → List ChurnAnswer
