@@ -8,7 +8,7 @@ use lib.ListN.{length}
 use lib.Dec.{ltb}
 use Rattle.packed.specs.Assignment.{startsAssignment}
 use Rattle.packed_delta.specs.Change.{deltaBetween}
-use Rattle.session.specs.Store.{slot, queueIn, queueReads, queueEnd}
+use Rattle.session.specs.Store.{minStore, maxQueue, slot, queueIn, queueReads, queueEnd}
 use Rattle.session.specs.Drain.{Found, end, entry}
 use Rattle.session_store.specs.Places.{Lies, entryIn, listBefore}
 use Rattle.session_drain.specs.declared.Reached.{Reached}
@@ -19,10 +19,10 @@ foundAt store n i = cond (ltb i n) (entry i (deltaBetween (listBefore store i) (
 
 -- baseline and n queue entries are packed assignments
 pub record Entries (store : List ℕ) (n : ℕ) : Type 0 where
-  pub big : 6144 ≤ length store
+  pub big : minStore ≤ length store
   pub baseline : startsAssignment (slot store 1) ≡ true
   pub queue : queueReads store n ≡ true
-  pub few : n ≤ 1024
+  pub few : n ≤ maxQueue
 
 -- entry i begins where the entries before it end, and the list before it lies where it is said to
 pub record Reaches (store : List ℕ) (r : Reached) : Type 0 where

@@ -8,7 +8,8 @@ ghost use lib.ListN.{length};
 ghost use Rattle.wire.specs.Fields.{fieldsOf};
 ghost use Rattle.wire_values.specs.Values.{mergedFields};
 ghost use Rattle.wire_readers.specs.Messages.{readAssignment};
-ghost use Rattle.session.specs.Store.{slot};
+ghost use Rattle.packed.specs.Assignment.{slotSize};
+ghost use Rattle.session.specs.Store.{minStore, slot};
 ghost use Rattle.session.specs.Identity.{isIdentity};
 ghost use Rattle.session_intake.specs.Taken.{AssignmentField, contentIn, TopicEnd, Answers, PlainMessageSays};
 use intake::Intake;
@@ -26,7 +27,7 @@ pub enum PlainMessage {
 
 // Where the topic ends, which starts at the place 7 of the store.
 fn topic_end(store: &[u8]) -> usize
-    requires { ⌜ (6144 ≤ length (now store)) × (isIdentity (slot (now store) 0) ≡ true) ⌝ }
+    requires { ⌜ (minStore ≤ length (now store)) × (isIdentity (slot (now store) 0) ≡ true) ⌝ }
     ensures { λ r. ⌜ TopicEnd (now (store .entry)) r ⌝ }
 {
     7 + slice_int::read_u16(store, 0) as usize
@@ -34,8 +35,8 @@ fn topic_end(store: &[u8]) -> usize
 
 // A message of field 1, a number, and field n, its assignment, and nothing else. What the buffer holds where nothing is told is free.
 pub fn take_plain_message(store: &[u8], m: &[u8], n: u8, b: &mut [u8]) -> PlainMessage
-    requires { ⌜ (6144 ≤ length (now store)) × (isIdentity (slot (now store) 0) ≡ true) ⌝ }
-    requires { ⌜ AssignmentField n × (length (now b) ≡ 2048) ⌝ }
+    requires { ⌜ (minStore ≤ length (now store)) × (isIdentity (slot (now store) 0) ≡ true) ⌝ }
+    requires { ⌜ AssignmentField n × (length (now b) ≡ slotSize) ⌝ }
     ensures { λ r. ⌜ PlainMessageSays (now (store .entry)) (now (m .entry)) n r (now (b .exit)) ⌝ }
 {
     let NumberAt::Found(head, at) = wire_ordered::number_at(1, m, 0) else {
@@ -56,8 +57,8 @@ pub fn take_plain_message(store: &[u8], m: &[u8], n: u8, b: &mut [u8]) -> PlainM
 
 // The assignment in field n of any message, whose epoch is given. What a refusal leaves in the buffer is free.
 pub fn take_assignment(store: &[u8], m: &[u8], n: u64, epoch: u64, b: &mut [u8]) -> Intake
-    requires { ⌜ (6144 ≤ length (now store)) × (isIdentity (slot (now store) 0) ≡ true) ⌝ }
-    requires { ⌜ AssignmentField n × (length (now b) ≡ 2048) ⌝ }
+    requires { ⌜ (minStore ≤ length (now store)) × (isIdentity (slot (now store) 0) ≡ true) ⌝ }
+    requires { ⌜ AssignmentField n × (length (now b) ≡ slotSize) ⌝ }
     requires { ⌜ epoch ≡ readAssignment (mergedFields n (fieldsOf (now m))) .layoutEpoch ⌝ }
     ensures { λ r. ⌜ Answers r (now (b .exit)) (contentIn (now (store .entry)) n (now (m .entry))) ⌝ }
 {

@@ -5,6 +5,8 @@ ghost use Prim.Native.Nat.{_+_, _≤_};
 ghost use lib.ListN.{length};
 ghost use lib.Dec.{leb};
 ghost use Rattle.slice_int.specs.Put.{put};
+ghost use Rattle.packed.specs.Assignment.{slotSize};
+ghost use Rattle.session.specs.Store.{minStore};
 ghost use Rattle.session.specs.Identity.{kindByte, encodeIdentity, isIdentity};
 ghost use Rattle.session.specs.Calls.{freshRecord, openOutcome, sameIdentity, matchOf};
 use refusal::Refusal;
@@ -52,7 +54,7 @@ fn write_identity(
     store: &mut [u8],
 )
     requires { ⌜ length (now topic) + length (now subscription) + length (now name) ≤ 2041 ⌝ }
-    requires { ⌜ 6144 ≤ length (now store) ⌝ }
+    requires { ⌜ minStore ≤ length (now store) ⌝ }
     ensures { λ _. ⌜ now (store .exit) ≡ put (now (store .entry)) 0 (encodeIdentity (record { topic = now (topic .entry); subscription = now (subscription .entry); consumerName = now (name .entry); consumerType = kind })) ⌝ }
 {
     let second = 7 + topic.len();
@@ -125,7 +127,7 @@ fn same_identity(
     name: &[u8],
     kind: ScalableConsumerType,
 ) -> bool
-    requires { ⌜ length (now s) ≡ 2048 ⌝ }
+    requires { ⌜ length (now s) ≡ slotSize ⌝ }
     requires { ⌜ isIdentity (now s) ≡ true ⌝ }
     ensures { λ r. ⌜ r ≡ sameIdentity (now (s .entry)) (record { topic = now (topic .entry); subscription = now (subscription .entry); consumerName = now (name .entry); consumerType = kind }) ⌝ }
 {

@@ -10,7 +10,7 @@ ghost use lib.ListN.{length};
 ghost use Rattle.wire_schema.specs.FirstFault.{firstFault};
 ghost use Rattle.wire_readers.specs.Messages.{WireResponse, responseOf};
 ghost use Rattle.packed.specs.Assignment as packed-form;
-ghost use Rattle.session.specs.Store.{slot, queueIn, queueReads};
+ghost use Rattle.session.specs.Store.{minStore, slot, queueIn, queueReads};
 ghost use Rattle.session.specs.Identity.{identityTopic, isIdentity};
 ghost use Rattle.session.specs.Session.{view, damaged};
 ghost use Rattle.session.specs.Tails.{responseAssignment, responseValid, responseChecked};
@@ -40,8 +40,8 @@ enum Stale {
 
 // The first of n queue entries whose epoch lies below the one before it, which for the first is a given one.
 fn first_stale(store: &[u8], epoch: u64, n: usize) -> Stale
-    requires { ⌜ (6144 ≤ length (now store)) × (queueReads (now store) n ≡ true) ⌝ }
-    ensures { λ r. ⌜ r ≡ staleOf 6144 6144 epoch (queueIn (now (store .entry)) n) ⌝ }
+    requires { ⌜ (minStore ≤ length (now store)) × (queueReads (now store) n ≡ true) ⌝ }
+    ensures { λ r. ⌜ r ≡ staleOf minStore minStore epoch (queueIn (now (store .entry)) n) ⌝ }
 {
     let mut prev = epoch;
     let mut last = MIN_STORE;
@@ -64,10 +64,10 @@ fn first_stale(store: &[u8], epoch: u64, n: usize) -> Stale
 
 // Copies the last list of the replay of n queue entries, whose last begins at a byte place, over the assignment of size bytes in b, and answers its size.
 fn load_last(store: &[u8], n: usize, at: usize, b: &[u8], size: usize, last: &mut [u8]) -> usize
-    requires { ⌜ (6144 ≤ length (now store)) × (queueReads (now store) n ≡ true) ⌝ }
+    requires { ⌜ (minStore ≤ length (now store)) × (queueReads (now store) n ≡ true) ⌝ }
     requires { ⌜ LastBegins (now store) n at ⌝ }
     requires { ⌜ Scratch (now b) size ⌝ }
-    requires { ⌜ length (now last) ≡ 2048 ⌝ }
+    requires { ⌜ length (now last) ≡ packed-form.slotSize ⌝ }
     ensures { λ r. ⌜ LastIs (now (store .entry)) (now (b .entry)) n r (now (last .exit)) ⌝ }
 {
     if n == 0 {
@@ -115,14 +115,14 @@ fn register(
     count: usize,
     at: usize,
 ) -> Changed
-    requires { ⌜ (6144 ≤ length (now store)) × (damaged (view r (now store)) ≡ false) ⌝ }
+    requires { ⌜ (minStore ≤ length (now store)) × (damaged (view r (now store)) ≡ false) ⌝ }
     requires { ⌜ Scratch (now b) size ⌝ }
     requires { ⌜ count ≡ cond (r .registered) 0 (r .«queue_count») ⌝ }
     requires { ⌜ LastBegins (now store) count at ⌝ }
     ensures { λ x. ⌜ ((out : List ℕ) → callOutcome (x .answer) (x .next) (now (store .exit)) out
         ≡ effectOf (registered (view r (now (store .entry))) (packed-form.decodeAssignment (now (b .entry)))) (now (store .entry)) out) ⌝ }
 {
-    let mut last = [0u8; 2048];
+    let mut last = [0u8; SLOT];
     let len = load_last(store, count, at, b, size, &mut last);
     let epoch = slice_int::read_u64(&last, 0);
     session_store::write_slot(store, 1, b, size);
@@ -136,7 +136,7 @@ fn register(
 
 // A response with the assignment of size bytes in the buffer b: 26, then 27.
 fn assigned(r: SessionRecord, store: &mut [u8], b: &[u8], size: usize) -> Changed
-    requires { ⌜ (6144 ≤ length (now store)) × (damaged (view r (now store)) ≡ false) ⌝ }
+    requires { ⌜ (minStore ≤ length (now store)) × (damaged (view r (now store)) ≡ false) ⌝ }
     requires { ⌜ Scratch (now b) size ⌝ }
     ensures { λ x. ⌜ ((out : List ℕ) → callOutcome (x .answer) (x .next) (now (store .exit)) out
         ≡ effectOf (responseAssignment (view r (now (store .entry))) (packed-form.decodeAssignment (now (b .entry)))) (now (store .entry)) out) ⌝ }
@@ -172,8 +172,8 @@ fn denial(error: ErrorCode, request_id: u64) -> Refusal
 
 // What a response comes to: its assignment, taken into the buffer or refused, or else 16 or 17.
 fn take_response(store: &[u8], message: &[u8], b: &mut [u8]) -> Intake
-    requires { ⌜ (6144 ≤ length (now store)) × (isIdentity (slot (now store) 0) ≡ true) ⌝ }
-    requires { ⌜ length (now b) ≡ 2048 ⌝ }
+    requires { ⌜ (minStore ≤ length (now store)) × (isIdentity (slot (now store) 0) ≡ true) ⌝ }
+    requires { ⌜ length (now b) ≡ packed-form.slotSize ⌝ }
     ensures { λ x. ⌜ Answers x (now (b .exit)) (responseSays (identityTopic (slot (now (store .entry)) 0)) (responseOf (now (message .entry)))) ⌝ }
 {
     let head = wire_readers::read_response(message);
@@ -193,7 +193,7 @@ fn answered(
     intake: Intake,
     b: &[u8],
 ) -> Changed
-    requires { ⌜ (6144 ≤ length (now store)) × (damaged (view r (now store)) ≡ false) ⌝ }
+    requires { ⌜ (minStore ≤ length (now store)) × (damaged (view r (now store)) ≡ false) ⌝ }
     requires { ⌜ Ready intake (now b) ⌝ }
     ensures { λ x. ⌜ ((w : WireResponse) → responseSays (identityTopic (slot (now (store .entry)) 0)) w ≡ contentFrom intake (now (b .entry))
         → (out : List ℕ) → callOutcome (x .answer) (x .next) (now (store .exit)) out
@@ -223,8 +223,8 @@ fn scanned(
     incarnation: ControllerIncarnation,
     b: &mut [u8],
 ) -> Changed
-    requires { ⌜ (6144 ≤ length (now store)) × (damaged (view r (now store)) ≡ false) ⌝ }
-    requires { ⌜ length (now b) ≡ 2048 ⌝ }
+    requires { ⌜ (minStore ≤ length (now store)) × (damaged (view r (now store)) ≡ false) ⌝ }
+    requires { ⌜ length (now b) ≡ packed-form.slotSize ⌝ }
     ensures { λ x. ⌜ ((out : List ℕ) → callOutcome (x .answer) (x .next) (now (store .exit)) out
         ≡ effectOf (responseChecked (view r (now (store .entry))) incarnation (now (message .entry)) (firstFault MessageKind.CommandScalableTopicSubscribeResponse (now (message .entry)))) (now (store .entry)) out) ⌝ }
 {
@@ -263,7 +263,7 @@ pub fn responded(
     if !session_store::is_sound(r, store) {
         return session_record::refuse(r, Refusal::MalformedStore);
     }
-    let mut b = [0u8; 2048];
+    let mut b = [0u8; SLOT];
     match session_intake::take_plain_message(store, message, 4, &mut b) {
         PlainMessage::Taken(_, size) => { answered(r, store, incarnation, Intake::Taken(size), &b) }
         PlainMessage::Other => scanned(r, store, message, incarnation, &mut b),

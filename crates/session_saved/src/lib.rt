@@ -5,6 +5,7 @@ ghost use lib.ListN.{length};
 ghost use Rattle.slice_int.specs.Be.{beAt};
 ghost use Rattle.slice_int.specs.Put.{put};
 ghost use Rattle.output.specs.Output.{outcome, written};
+ghost use Rattle.session.specs.Store.{minStore};
 ghost use Rattle.session.specs.declared.Answer.the-variants.{Refused};
 ghost use Rattle.session_store.specs.Places.{QueueEnds};
 ghost use Rattle.session_saved.specs.Form.{encodePositions, encodeRecord, encodeSaved, recordIn, isSaved};
@@ -152,7 +153,7 @@ fn refused(x: Refusal) -> Changed
 
 // Writes the part of a form, whose record is next, to the front of the store: 22 where the two are damaged, 1 where the store is shorter.
 fn put_part(next: SessionRecord, part: &[u8], store: &mut [u8]) -> Changed
-    requires { ⌜ 6144 ≤ length (now part) ⌝ }
+    requires { ⌜ minStore ≤ length (now part) ⌝ }
     ensures { λ x. ⌜ record { answer = x .answer; next = x .next; store = now (store .exit) } ≡ restorePart next (now (part .entry)) (now (store .entry)) ⌝ }
 {
     if !session_store::is_sound(next, part) {

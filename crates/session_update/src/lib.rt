@@ -9,10 +9,10 @@ ghost use Prim.Native.Nat.{ℕ, _≤_};
 ghost use lib.ListN.{length};
 ghost use Rattle.wire_schema.specs.FirstFault.{firstFault};
 ghost use Rattle.wire_readers.specs.Messages.{WireUpdate};
-ghost use Rattle.packed.specs.Assignment.{startsAssignment};
+ghost use Rattle.packed.specs.Assignment.{slotSize, startsAssignment};
 ghost use Rattle.packed.specs.Assignment as packed-form;
 ghost use Rattle.intake_content.specs.Content.{taken, contentOf};
-ghost use Rattle.session.specs.Store.{slot};
+ghost use Rattle.session.specs.Store.{minStore, minOutput, maxQueue, slot};
 ghost use Rattle.session.specs.Identity.{identityTopic};
 ghost use Rattle.session.specs.Session.{view};
 ghost use Rattle.session.specs.Update.{updateUnregistered, updateRegistered};
@@ -42,7 +42,7 @@ const LIST: usize = 4096;
 
 // An update of an unregistered session: the assignment of n bytes in the buffer joins the queue, which ends at a byte place.
 fn enqueued(r: SessionRecord, store: &mut [u8], end: usize, b: &[u8], n: usize) -> Changed
-    requires { ⌜ r .«queue_count» ≤ 1024 ⌝ }
+    requires { ⌜ r .«queue_count» ≤ maxQueue ⌝ }
     requires { ⌜ QueueEnds (now store) (r .«queue_count») end ⌝ }
     requires { ⌜ Scratch (now b) n ⌝ }
     ensures { λ x. ⌜ ((out : List ℕ) → callOutcome (x .answer) (x .next) (now (store .exit)) out
@@ -74,7 +74,7 @@ fn enqueued(r: SessionRecord, store: &mut [u8], end: usize, b: &[u8], n: usize) 
 
 // An update of a registered session: the assignment of n bytes in the buffer is held, and its delta answered.
 fn held(r: SessionRecord, store: &mut [u8], b: &[u8], n: usize, out: &mut [u8]) -> Changed
-    requires { ⌜ (6144 ≤ length (now store)) × (3210 ≤ length (now out)) ⌝ }
+    requires { ⌜ (minStore ≤ length (now store)) × (minOutput ≤ length (now out)) ⌝ }
     requires { ⌜ startsAssignment (slot (now store) 2) ≡ true ⌝ }
     requires { ⌜ Scratch (now b) n ⌝ }
     ensures { λ x. ⌜ callOutcome (x .answer) (x .next) (now (store .exit)) (now (out .exit))
@@ -136,7 +136,7 @@ fn received(
     b: &[u8],
     out: &mut [u8],
 ) -> Changed
-    requires { ⌜ (6144 ≤ length (now store)) × (3210 ≤ length (now out)) ⌝ }
+    requires { ⌜ (minStore ≤ length (now store)) × (minOutput ≤ length (now out)) ⌝ }
     requires { ⌜ StoreTested r (now store) (Tested.Sound end) ⌝ }
     requires { ⌜ Ready intake (now b) ⌝ }
     ensures { λ x. ⌜ callOutcome (x .answer) (x .next) (now (store .exit)) (now (out .exit))
@@ -164,7 +164,7 @@ fn addressed(
     n: usize,
     out: &mut [u8],
 ) -> Changed
-    requires { ⌜ (6144 ≤ length (now store)) × (3210 ≤ length (now out)) ⌝ }
+    requires { ⌜ (minStore ≤ length (now store)) × (minOutput ≤ length (now out)) ⌝ }
     requires { ⌜ StoreTested r (now store) (Tested.Sound end) ⌝ }
     requires { ⌜ Scratch (now b) n ⌝ }
     ensures { λ x. ⌜ ((u : WireUpdate) → «consumer_id» ≡ u .consumerId
@@ -188,9 +188,9 @@ fn scanned(
     b: &mut [u8],
     out: &mut [u8],
 ) -> Changed
-    requires { ⌜ (6144 ≤ length (now store)) × (3210 ≤ length (now out)) ⌝ }
+    requires { ⌜ (minStore ≤ length (now store)) × (minOutput ≤ length (now out)) ⌝ }
     requires { ⌜ StoreTested r (now store) (Tested.Sound end) ⌝ }
-    requires { ⌜ length (now b) ≡ 2048 ⌝ }
+    requires { ⌜ length (now b) ≡ slotSize ⌝ }
     ensures { λ x. ⌜ callOutcome (x .answer) (x .next) (now (store .exit)) (now (out .exit))
         ≡ effectOf (updateChecked (view r (now (store .entry))) incarnation (now (message .entry)) (firstFault MessageKind.CommandScalableTopicAssignmentUpdate (now (message .entry)))) (now (store .entry)) (now (out .entry)) ⌝ }
 {
@@ -235,7 +235,7 @@ pub fn updated(
     let Tested::Sound(end) = session_store::test_store(r, store) else {
         return session_record::refuse(r, Refusal::MalformedStore);
     };
-    let mut b = [0u8; 2048];
+    let mut b = [0u8; SLOT];
     match session_intake::take_plain_message(store, message, 2, &mut b) {
         PlainMessage::Taken(id, n) => { addressed(r, store, end, id, incarnation, &b, n, out) }
         PlainMessage::Other => scanned(r, store, end, message, incarnation, &mut b, out),
