@@ -1,14 +1,13 @@
 -- A segment's key over records that are read where they lie.
 --
 -- In order: size and least hash of the record at a place, by its range and its count (`at-size`, `at-whole`,
--- `at-bucketed`); the records from a place on decide the whole (`Turn`: `turn-start`, `turn-good`, `turn-found`,
--- `turn-next`, `turn-end`); the cases of `keyInSegment` (`key-malformed`, `key-whole`).
+-- `at-bucketed`); records by the first of them (`key-found`, `key-further`, `key-none`); the cases of `keyInSegment`
+-- (`key-malformed`, `key-whole`).
 -- Assumes nothing.
-use Prim.Native.Nat.{ℕ, _+_, _-_, _*_, _≤_, _<_}
-use native.Mathlib.Omega.{arith}
-use mathlib.Core.Path.{_≡_, refl, sym, ap, ap₂, _∙_, subst}
+use Prim.Native.Nat.{ℕ, _+_, _*_, _≤_}
+use mathlib.Core.Path.{_≡_, refl, sym, ap, ap₂, _∙_}
 use mathlib.Core.Bool.{true, false}
-use mathlib.Core.List.{List, []}
+use mathlib.Core.List.{List, [], _∷_}
 use lib.ListN.{length, drop}
 use lib.Dec.{leb}
 use borrow.Author.Tests.{leb-true, eq-eqb, ne-eqb}
@@ -17,8 +16,8 @@ use Rattle.types.specs.declared.KeyRange.{KeyRange}
 use Rattle.refusal.specs.declared.Refusal.the-variants.{MalformedInput}
 use Rattle.keyed.specs.Keyed.{find}
 use Rattle.slice_int.specs.Be.{beAt}
-use Rattle.packed.specs.Assignment.{AssignedSegment, idOf, decodeRange, decodeRanges, decodeSegment, decodeSegments, sizeSegment, okSegment, okFrom, isAssignment}
-use Rattle.packed.proofs.AssignmentLaws.{length-rangesOf, segment-at, segments-at, seen-size, ok-good, Rest, rest-next}
+use Rattle.packed.specs.Assignment.{AssignedSegment, idOf, decodeRange, decodeRanges, decodeSegment, decodeSegments, sizeSegment, okSegment, isAssignment}
+use Rattle.packed.proofs.AssignmentLaws.{length-rangesOf, segment-at, seen-size}
 use Rattle.packed.proofs.WholeLaws.{Whole}
 use Rattle.key_in_segment.specs.declared.Least.the-variants.{Value}
 use Rattle.key_in_segment.specs.declared.KeyAnswer.the-variants.{NoKey, Refused}
@@ -58,43 +57,20 @@ module _ (s : List ℕ) (p : ℕ) (r : KeyRange) (n : ℕ) (er : r ≡ decodeRan
       λ e. z (sym (length-rangesOf n (drop (p + 14) s)) ∙ ap length (sym buckets-are ∙ e)) in
       ap₂ leastIn (sym range-is) (sym buckets-are) ∙ least-bucketed g some
 
--- ---- one turn over the records
+-- ---- records by the first of them
 
--- those that are left, from the place p on, decide the whole
-pub record Turn (s : List ℕ) (m id p left : ℕ) : Type 0 where
-  pub rest : Rest s p left
-  pub decides : keyIn (find idOf id (decodeSegments m (drop 10 s))) ≡ keyIn (find idOf id (decodeSegments left (drop p s)))
+module _ (id : ℕ) (g : AssignedSegment) (gs : List AssignedSegment) where
+  pub key-found : id ≡ g .segmentId → keyAt (leastTaken g) ≡ keyIn (find idOf id (g ∷ gs))
+  unfolding keyIn
+  key-found e = rw (eq-eqb id (g .segmentId) e)
 
-pub turn-start : (s : List ℕ) (m id : ℕ) → Rest s 10 m → Turn s m id 10 m
-turn-start s m id r = record { rest = r; decides = refl }
+  pub key-further : (id ≡ g .segmentId → ⊥) → keyIn (find idOf id (g ∷ gs)) ≡ keyIn (find idOf id gs)
+  unfolding keyIn
+  key-further e = rw (ne-eqb id (g .segmentId) e)
 
-module _ (s : List ℕ) (m id p left : ℕ) (v : Turn s m id p left) where
-  pub turn-end : left ≤ 0 → NoKey ≡ keyIn (find idOf id (decodeSegments m (drop 10 s)))
-  unfolding keyIn decodeSegments
-  turn-end h = let e : left ≡ 0 = omega arith in sym (v .decides ∙ ap (λ (n : ℕ). keyIn (find idOf id (decodeSegments n (drop p s)))) e)
-
-  module _ (h : 0 < left) where
-    pub turn-good : okSegment (decodeSegment (drop p s)) ≡ true
-    turn-good =
-        ok-good 0 (decodeSegment (drop p s)) _ (subst (λ (l : List AssignedSegment). okFrom 0 l ≡ true) (segments-at s p left _ h refl) (v .rest .ok))
-
-    pub turn-found : id ≡ decodeSegment (drop p s) .segmentId
-        → keyAt (leastTaken (decodeSegment (drop p s))) ≡ keyIn (find idOf id (decodeSegments m (drop 10 s)))
-    unfolding keyIn
-    turn-found e =
-        sym (v .decides
-        ∙ ap (λ (l : List AssignedSegment). keyIn (find idOf id l)) (segments-at s p left _ h refl)
-        ∙ rw (eq-eqb id (decodeSegment (drop p s) .segmentId) e))
-
-    pub turn-next : (z : ℕ) → (id ≡ decodeSegment (drop p s) .segmentId → ⊥) → z ≡ sizeSegment (decodeSegment (drop p s)) → Turn s m id (p + z) (left - 1)
-    turn-next z e ez =
-        record {
-          rest = rest-next s p left z h ez (v .rest);
-          decides =
-              v .decides
-              ∙ ap (λ (l : List AssignedSegment). keyIn (find idOf id l)) (segments-at s p left z h ez)
-              ∙ rw (ne-eqb id (decodeSegment (drop p s) .segmentId) e);
-        }
+pub key-none : (id : ℕ) → NoKey ≡ keyIn (find idOf id [])
+unfolding keyIn
+key-none id = refl
 
 -- ---- the cases of `keyInSegment`
 

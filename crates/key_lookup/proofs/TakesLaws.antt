@@ -1,22 +1,21 @@
 -- Laws of `takes` and `firstTaking` over records that are read where they lie.
 --
 -- In order: a row of ranges by its first (`any-found`, `any-further`); a record by its range and its count (`counted-size`,
--- `takes-outside`, `takes-whole`, `takes-bucketed`); the records from a place on decide the whole (`Turn`: `turn-start`,
--- `turn-found`, `turn-next`, `turn-end`); the cases of `segmentForKey` (`for-long`, `for-malformed`, `for-whole`).
+-- `takes-outside`, `takes-whole`, `takes-bucketed`); records by the first of them (`first-found`, `first-further`,
+-- `first-none`); the cases of `segmentForKey` (`for-long`, `for-malformed`, `for-whole`).
 -- Assumes nothing.
-use Prim.Native.Nat.{ℕ, zero, suc, _+_, _-_, _*_, _≤_, _<_}
-use native.Mathlib.Omega.{arith}
+use Prim.Native.Nat.{ℕ, zero, suc, _+_, _*_, _≤_, _<_}
 use mathlib.Core.Path.{_≡_, refl, sym, ap, _∙_}
 use mathlib.Core.Bool.{Bool, true, false, _&&_, _||_}
-use mathlib.Core.List.{List, _∷_}
+use mathlib.Core.List.{List, [], _∷_}
 use lib.ListN.{length, drop}
 use borrow.Author.Tests.{lt-ltb, le-ltb}
 use Rattle.types.specs.declared.KeyRange.{KeyRange}
 use Rattle.refusal.specs.declared.Refusal.the-variants.{KeyTooLong, MalformedInput}
 use Rattle.ranges_calls.specs.Calls.{holds}
 use Rattle.slice_int.specs.Be.{beAt}
-use Rattle.packed.specs.Assignment.{decodeRange, decodeRanges, decodeSegment, decodeSegments, sizeSegment, isAssignment}
-use Rattle.packed.proofs.AssignmentLaws.{segment-at, segments-at, seen-size, Rest, rest-next}
+use Rattle.packed.specs.Assignment.{AssignedSegment, decodeRange, decodeRanges, decodeSegment, decodeSegments, sizeSegment, isAssignment}
+use Rattle.packed.proofs.AssignmentLaws.{segment-at, seen-size}
 use Rattle.key_lookup.specs.Lookup.{longestKey, keyHash, anyHolds, inBuckets, takes, firstTaking, segmentForKey}
 use Rattle.key_lookup.specs.declared.SegmentAnswer.the-variants.{Segment, NoSegment, Refused}
 use Rattle.packed.proofs.WholeLaws.{Whole}
@@ -63,33 +62,20 @@ module _ (s : List ℕ) (p hash : ℕ) (r : KeyRange) (er : r ≡ decodeRange (d
         some zero l z = absurd (z refl)
         some (suc k) l z = refl
 
--- ---- one turn over the records: those that are left, from the place p on, decide the whole
+-- ---- records by the first of them
 
-pub record Turn (s : List ℕ) (m hash p left : ℕ) : Type 0 where
-  pub rest : Rest s p left
-  pub decides : firstTaking hash (decodeSegments m (drop 10 s)) ≡ firstTaking hash (decodeSegments left (drop p s))
+module _ (hash : ℕ) (g : AssignedSegment) (gs : List AssignedSegment) where
+  pub first-found : takes hash g ≡ true → Segment (record { 0 = g .segmentId }) ≡ firstTaking hash (g ∷ gs)
+  unfolding firstTaking
+  first-found e = rw e
 
-pub turn-start : (s : List ℕ) (m hash : ℕ) → Rest s 10 m → Turn s m hash 10 m
-turn-start s m hash r = record { rest = r; decides = refl }
+  pub first-further : takes hash g ≡ false → firstTaking hash (g ∷ gs) ≡ firstTaking hash gs
+  unfolding firstTaking
+  first-further e = rw e
 
-module _ (s : List ℕ) (m hash p left : ℕ) (v : Turn s m hash p left) where
-  pub turn-end : left ≤ 0 → NoSegment ≡ firstTaking hash (decodeSegments m (drop 10 s))
-  unfolding firstTaking decodeSegments
-  turn-end h = let e : left ≡ 0 = omega arith in sym (v .decides ∙ ap (λ (n : ℕ). firstTaking hash (decodeSegments n (drop p s))) e)
-
-  module _ (h : 0 < left) (t : Bool) (et : t ≡ takes hash (decodeSegment (drop p s))) where
-    pub turn-found : (id : ℕ) → t ≡ true → id ≡ decodeSegment (drop p s) .segmentId
-        → Segment (record { 0 = id }) ≡ firstTaking hash (decodeSegments m (drop 10 s))
-    unfolding firstTaking
-    turn-found id e f = sym (v .decides ∙ ap (firstTaking hash) (segments-at s p left _ h refl) ∙ rw (sym et ∙ e, f))
-
-    pub turn-next : (z : ℕ) → t ≡ false → z ≡ sizeSegment (decodeSegment (drop p s)) → Turn s m hash (p + z) (left - 1)
-    unfolding firstTaking
-    turn-next z e ez =
-        record {
-          rest = rest-next s p left z h ez (v .rest);
-          decides = v .decides ∙ ap (firstTaking hash) (segments-at s p left z h ez) ∙ rw (sym et ∙ e);
-        }
+pub first-none : (hash : ℕ) → NoSegment ≡ firstTaking hash []
+unfolding firstTaking
+first-none hash = refl
 
 -- ---- the cases of `segmentForKey`
 

@@ -1,3 +1,4 @@
 pub mod CompareLaws
 pub mod InsertLaws
 pub mod PlaceLaws
+pub mod WalkLaws

@@ -1,77 +1,58 @@
--- `lookup::first_taking` meets its contract. The invariant is `Turn` of proofs/TakesLaws; the measure is how many records
--- are left. Assumes nothing.
+-- `lookup::first_taking` meets its contract. The invariant is `Turn` of packed_records/proofs/WalkLaws; the measure is how
+-- many records are left. Assumes nothing.
 use native.Mathlib.Omega.{arith}
-use mathlib.Core.Path.{refl}
-use lib.ListN.{drop}
-use Rattle.key_lookup.proofs.TakesLaws.{Turn, turn-start, turn-found, turn-next, turn-end}
-use Rattle.packed.specs.Assignment.{decodeSegment}
-use Rattle.packed.proofs.AssignmentLaws.{rest-head, size-least}
+use mathlib.Core.Path.{refl, sym, ap, _∙_}
+use Rattle.types.specs.declared.SegmentId.{SegmentId}
+use Rattle.packed_records.proofs.WalkLaws.{Turn, turn-start, turn-end, turn-head, turn-inside, turn-found, turn-next}
+use Rattle.key_lookup.specs.Lookup.{firstTaking}
+use Rattle.key_lookup.specs.declared.SegmentAnswer.the-variants.{Segment}
+use Rattle.key_lookup.proofs.TakesLaws.{first-found, first-further, first-none}
 use Rattle.key_lookup.proofs.first_taking.Statement.{statement}
 use Rattle.key_lookup.proofs.first_taking.Tie as tie
 
 abbrev Inv-loop : tie.InvT-loop
-Inv-loop s m hash p₀ left₀ p left = Turn s m hash p left
+Inv-loop s m hash p₀ left₀ p left = Turn (firstTaking hash) s m p left
 
 abbrev μ-loop : tie.MeasureT-loop
 μ-loop s m hash p₀ left₀ p left = left
 
 loop-holds : tie.Need-loop-holds Inv-loop μ-loop
-loop-holds c = let i = c .before in turn-start (i .args .s .now) (i .args .m) (i .args .hash) (i .pre)
+loop-holds c = let i = c .before in turn-start (firstTaking (i .args .hash)) (i .args .s .now) (i .args .m) (i .pre)
 
 segment-takes-requires : tie.Need-segment-takes-requires Inv-loop μ-loop
-segment-takes-requires c κs =
-    let l = c .before in
-    let s = l .before .before .args .s .now in
-    rest-head s (l .loop .p) (l .loop .left) _ (c .loop-test .taken) refl (l .loop .inv .rest)
+segment-takes-requires c κs = turn-inside (c .before .loop .inv) (c .loop-test .taken) _ refl
 
 id-at-requires : tie.Need-id-at-requires Inv-loop μ-loop
-id-at-requires c κs =
-    let i = c .before .before in
-    let l = i .before in
-    let s = l .before .before .args .s .now in
-    omega (arith, rest-head s (l .loop .p) (l .loop .left) _ (i .loop-test .taken) refl (l .loop .inv .rest), size-least (decodeSegment (drop (l .loop .p) s)))
+id-at-requires c κs = let i = c .before .before in omega (arith, turn-head (i .before .loop .inv) (i .loop-test .taken))
 
 returns : tie.Need-returns Inv-loop μ-loop
 returns c =
     let t = c .before .before in
     let i = t .before in
     let l = i .before in
-    let a = l .before .before .args in
-    turn-found (a .s .now) (a .m) (a .hash) (l .loop .p) (l .loop .left) (l .loop .inv) (i .loop-test .taken) (t .segment-takes .result)
-    (t .segment-takes .ensures) (c .id-at .result) (c .before .if1 .taken) (c .id-at .ensures)
+    ap (λ id. Segment (record { 0 = id })) (c .id-at .ensures)
+    ∙ turn-found (l .loop .inv) (i .loop-test .taken)
+    (λ gs. first-found (l .before .before .args .hash) _ gs (sym (t .segment-takes .ensures) ∙ c .before .if1 .taken))
 
 size-at-requires : tie.Need-size-at-requires Inv-loop μ-loop
-size-at-requires c κs =
-    let i = c .before .before in
-    let l = i .before in
-    let s = l .before .before .args .s .now in
-    omega (arith, rest-head s (l .loop .p) (l .loop .left) _ (i .loop-test .taken) refl (l .loop .inv .rest), size-least (decodeSegment (drop (l .loop .p) s)))
+size-at-requires c κs = let i = c .before .before in turn-head (i .before .loop .inv) (i .loop-test .taken)
 
 add-p : tie.Need-add-p Inv-loop μ-loop
 add-p c =
     let i = c .before .before .before in
     let l = i .before in
-    let b = l .before .before in
-    omega (
-      arith,
-      b .good,
-      rest-head (b .args .s .now) (l .loop .p) (l .loop .left) (c .size-at .result) (i .loop-test .taken) (c .size-at .ensures) (l .loop .inv .rest),
-    )
+    omega (arith, l .before .before .good, turn-inside (l .loop .inv) (i .loop-test .taken) (c .size-at .result) (c .size-at .ensures))
 
 loop-again : tie.Need-loop-again Inv-loop μ-loop
 loop-again c =
     let t = c .before .before in
     let i = t .before in
     let l = i .before in
-    let a = l .before .before .args in
-    turn-next (a .s .now) (a .m) (a .hash) (l .loop .p) (l .loop .left) (l .loop .inv) (i .loop-test .taken) (t .segment-takes .result)
-    (t .segment-takes .ensures) (c .size-at .result) (c .before .if1 .left) (c .size-at .ensures)
+    turn-next (l .loop .inv) (i .loop-test .taken) (c .size-at .result) (c .size-at .ensures)
+    (λ gs. first-further (l .before .before .args .hash) _ gs (sym (t .segment-takes .ensures) ∙ c .before .if1 .left))
 
 returns-2 : tie.Need-returns-2 Inv-loop μ-loop
-returns-2 c =
-    let l = c .before in
-    let a = l .before .before .args in
-    turn-end (a .s .now) (a .m) (a .hash) (l .loop .p) (l .loop .left) (l .loop .inv) (omega arith)
+returns-2 c = let l = c .before in first-none (l .before .before .args .hash) ∙ turn-end (l .loop .inv) (omega arith)
 
 pub first-taking-spec : {M : Type 1} → statement M
 first-taking-spec =
