@@ -147,3 +147,14 @@ module _ (o : List ℕ) (from to z : ℕ) where
 
     pub up-rest : to + z ≤ length o → put b (from + z) (take (i - from) (drop from b)) ≡ put o (from + z) (take (to - from) (drop from o))
     up-rest l = let k : from ≤ i = v .above in up-turn from (i - from) (omega arith) (omega arith) l .bytes
+
+-- one place further up: v takes the place that is free
+module _ (o : List ℕ) (from to : ℕ) (b : List ℕ) (i : ℕ) (r : Raised o from to 1 b i) where
+  pub up-put : (v : ℕ) → i ≤ from → to < length o → set b from v ≡ put o from (v ∷ take (to - from) (drop from o))
+  up-put v e h =
+      let W : List ℕ = take (to - from) (drop from o) in
+      let m : from ≤ to = omega (arith, r .above, r .below) in
+      let l : length W ≡ to - from = length-take-le (to - from) (drop from o) (rw length-drop (omega arith)) in
+      put-one b from v (omega (arith, r .long))
+      ∙ ap (λ (x : List ℕ). put x from (v ∷ [])) (up-end o from to 1 b i r e)
+      ∙ put-before o from (from + 1) (v ∷ []) W refl (omega arith)
