@@ -53,21 +53,21 @@ pub fn word(v: i32) -> u64
 pub fn plain(answer: u8) -> Reply
     ensures { λ r. ⌜ r ≡ takenReply answer [] ⌝ }
 {
-    values(answer, 0, 0, 0, 0)
+    values(answer, 0, 0, 0)
 }
 
 // An answer with one value.
 pub fn one(answer: u8, first: u64) -> Reply
     ensures { λ r. ⌜ r ≡ takenReply answer (pos first ∷ []) ⌝ }
 {
-    values(answer, 0, 1, first, 0)
+    values(answer, 1, first, 0)
 }
 
 // An answer with two values.
 pub fn two(answer: u8, first: u64, second: u64) -> Reply
     ensures { λ r. ⌜ r ≡ takenReply answer (pos first ∷ pos second ∷ []) ⌝ }
 {
-    values(answer, 0, 2, first, second)
+    values(answer, 2, first, second)
 }
 
 // Yes or no.
@@ -77,11 +77,11 @@ pub fn test(b: bool) -> Reply
     if b { plain(YES) } else { plain(NO) }
 }
 
-// A reply of at most two values.
-fn values(answer: u8, number: u8, count: u8, first: u64, second: u64) -> Reply
+// An answer of at most two values that is no refusal.
+fn values(answer: u8, count: u8, first: u64, second: u64) -> Reply
     ensures { λ r. ⌜ r ≡ record {
       answer = answer;
-      number = number;
+      number = 0;
       count = count;
       first = first;
       second = second;
@@ -91,7 +91,7 @@ fn values(answer: u8, number: u8, count: u8, first: u64, second: u64) -> Reply
 {
     Reply {
         answer,
-        number,
+        number: 0,
         count,
         first,
         second,
@@ -156,36 +156,31 @@ pub fn refused(x: Refusal) -> Reply
             start,
             end,
         } => more(n, 4, segment_id.0, index as u64, word(start), word(end)),
-        Refusal::OverlappingBucketRanges { segment_id } => values(REFUSED, n, 1, segment_id.0, 0),
-        Refusal::AttachmentMismatch { segment_id } => values(REFUSED, n, 1, segment_id.0, 0),
-        Refusal::DuplicateSegment { segment_id } => values(REFUSED, n, 1, segment_id.0, 0),
-        Refusal::Broker { code } => values(REFUSED, n, 1, word(code), 0),
-        Refusal::Empty { request_id } => values(REFUSED, n, 1, request_id, 0),
-        Refusal::EmptyUpdate { watch_id } => values(REFUSED, n, 1, watch_id, 0),
+        Refusal::OverlappingBucketRanges { segment_id } => more(n, 1, segment_id.0, 0, 0, 0),
+        Refusal::AttachmentMismatch { segment_id } => more(n, 1, segment_id.0, 0, 0, 0),
+        Refusal::DuplicateSegment { segment_id } => more(n, 1, segment_id.0, 0, 0, 0),
+        Refusal::Broker { code } => more(n, 1, word(code), 0, 0, 0),
+        Refusal::Empty { request_id } => more(n, 1, request_id, 0, 0, 0),
+        Refusal::EmptyUpdate { watch_id } => more(n, 1, watch_id, 0, 0, 0),
         Refusal::SegmentIdMismatch {
             segment_id,
             topic_id,
-        } => values(REFUSED, n, 2, segment_id.0, topic_id.0),
-        Refusal::IncarnationMismatch { got, expected } => values(REFUSED, n, 2, got.0, expected.0),
-        Refusal::ConsumerMismatch { got, expected } => values(REFUSED, n, 2, got, expected),
-        Refusal::NonAdvancingIncarnation { got, prev } => values(REFUSED, n, 2, got.0, prev.0),
-        Refusal::CrossIncarnationEpochRegression { got, floor } => values(
-            REFUSED,
-            n,
-            2,
-            got,
-            floor,
-        ),
-        Refusal::StaleEpoch { got, prev } => values(REFUSED, n, 2, got, prev),
-        Refusal::PreBaselineBufferFull { max } => values(REFUSED, n, 1, max as u64, 0),
-        Refusal::WatchMismatch { got, expected } => values(REFUSED, n, 2, got, expected),
-        Refusal::BucketOutsideSegment { segment_id, index } => values(
-            REFUSED,
+        } => more(n, 2, segment_id.0, topic_id.0, 0, 0),
+        Refusal::IncarnationMismatch { got, expected } => more(n, 2, got.0, expected.0, 0, 0),
+        Refusal::ConsumerMismatch { got, expected } => more(n, 2, got, expected, 0, 0),
+        Refusal::NonAdvancingIncarnation { got, prev } => more(n, 2, got.0, prev.0, 0, 0),
+        Refusal::CrossIncarnationEpochRegression { got, floor } => more(n, 2, got, floor, 0, 0),
+        Refusal::StaleEpoch { got, prev } => more(n, 2, got, prev, 0, 0),
+        Refusal::PreBaselineBufferFull { max } => more(n, 1, max as u64, 0, 0, 0),
+        Refusal::WatchMismatch { got, expected } => more(n, 2, got, expected, 0, 0),
+        Refusal::BucketOutsideSegment { segment_id, index } => more(
             n,
             2,
             segment_id.0,
             index as u64,
+            0,
+            0,
         ),
-        _ => values(REFUSED, n, 0, 0, 0),
+        _ => more(n, 0, 0, 0, 0, 0),
     }
 }
