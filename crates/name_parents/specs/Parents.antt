@@ -2,14 +2,13 @@
 -- "All three are non-empty; the rest does not end in `/` and has no `?` or `#`." By 02 h tenant and namespace have none
 -- either.
 -- Assumes nothing.
-use Prim.Native.Nat.{ℕ, _+_, _-_, _≤_}
-use mathlib.Core.Path.{_≡_}
+use Prim.Native.Nat.{ℕ, suc, _-_}
 use mathlib.Core.Bool.{Bool, true, cond, not, _&&_}
 use mathlib.Core.List.{List, [], _∷_}
 use lib.ListN.{length, drop, getD}
-use lib.Dec.{ltb}
+use lib.Dec.{ltb, leb}
 use Rattle.slice.specs.Same.{startsWith}
-use Rattle.name_parents.specs.Classes.{isSlash, isMark}
+use Rattle.name_parents.specs.Classes.{classOf, isSlash, isDash, isMark}
 
 -- "topic://"
 abbrev pub topicScheme : List ℕ
@@ -68,9 +67,11 @@ pathOf s = drop 8 s
 
 -- ---- what a helper of src/ answers
 
--- r is the place of the first '/' from the place from on, or the end
-pub record SlashAt (s : List ℕ) (from r : ℕ) : Type 0 where
-  pub low : from ≤ r
-  pub high : r ≤ length s
-  pub before : length (beforeSlash (drop from s)) ≡ r - from
-  pub after : behindSlash (drop from s) ≡ drop (r + 1) s
+-- the byte stops a walk: its class is the lowest or one above it, '-' aside
+abbrev pub stops : (lowest b : ℕ) → Bool
+stops lowest b = leb lowest (classOf b) && not (isDash b)
+
+-- how many bytes stand before the first that stops
+unfoldable pub passed : (lowest : ℕ) → List ℕ → ℕ
+passed lowest [] = 0
+passed lowest (b ∷ l) = cond (stops lowest b) 0 (suc (passed lowest l))

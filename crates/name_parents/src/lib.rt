@@ -3,13 +3,12 @@
 mod class;
 
 ghost use mathlib.Core.Path.{_≡_};
-ghost use Prim.Native.Nat.{_≤_};
+ghost use Prim.Native.Nat.{_+_, _≤_};
 ghost use lib.ListN.{length, drop};
 ghost use Rattle.name_parents.specs.Classes.{Sorts};
-ghost use Rattle.name_parents.specs.Parents.{clean, isPath, isParent, SlashAt};
+ghost use Rattle.name_parents.specs.Parents.{isPath, isParent, passed};
 pub use class::DASH;
 pub use class::DIGIT;
-use class::HASH;
 pub use class::HEX_LETTER;
 use class::QUESTION;
 pub use class::SLASH;
@@ -17,75 +16,78 @@ use class::class_in;
 pub use class::class_of;
 use class::classes;
 
-// The place of the first '/' from a place on, or the end.
-fn slash_from(table: &[u8; 256], s: &[u8], from: usize) -> usize
+// "topic://" as a number of 8 bytes.
+const TOPIC_SCHEME: u64 = 0x746F_7069_633A_2F2F;
+
+// The place of the first byte from a place on whose class is the lowest or one above it, '-' aside, or the end.
+fn stop_from(table: &[u8; 256], s: &[u8], from: usize, lowest: u8) -> usize
     requires { ⌜ from ≤ length (now s) ⌝ }
     requires { ⌜ Sorts (now table) ⌝ }
-    ensures { λ r. ⌜ SlashAt (now (s .entry)) from r ⌝ }
+    ensures { λ r. ⌜ r ≡ from + passed lowest (drop from (now (s .entry))) ⌝ }
 {
     let mut i = from;
     while i < s.len() {
-        if class_in(table, s[i]) == SLASH {
-            return i;
+        let class = class_in(table, s[i]);
+        if lowest <= class {
+            if class != DASH {
+                return i;
+            }
         }
         i = i + 1;
     }
     i
 }
 
-// No byte from a place on is '?' or '#'.
-fn is_clean(table: &[u8; 256], s: &[u8], from: usize) -> bool
-    requires { ⌜ Sorts (now table) ⌝ }
-    ensures { λ r. ⌜ r ≡ clean (drop from (now (s .entry))) ⌝ }
+// What stands behind a place is a path of tenant, namespace and local name: none is empty, none has '?' or '#', and the last does not end in '/'. Each
+// byte is looked at once: tenant and namespace end at a '/', the local name has no '?' or '#' up to the end.
+fn is_path_from(s: &[u8], from: usize) -> bool
+    requires { ⌜ from ≤ length (now s) ⌝ }
+    ensures { λ r. ⌜ r ≡ isPath (drop from (now (s .entry))) ⌝ }
 {
-    let mut i = from;
-    while i < s.len() {
-        let class = class_in(table, s[i]);
-        if class == QUESTION {
-            return false;
-        }
-        if class == HASH {
-            return false;
-        }
-        i = i + 1;
-    }
-    true
-}
-
-// The part is a path of tenant, namespace and local name: none is empty, none has '?' or '#', and the last does not end in '/'. A '/' is no
-// mark, so the whole path is clean where its parts are.
-pub fn is_path(p: &[u8]) -> bool
-    ensures { λ r. ⌜ r ≡ isPath (now (p .entry)) ⌝ }
-{
-    let end = p.len();
+    let end = s.len();
     let table = classes();
-    let a = slash_from(&table, p, 0);
-    if a == 0 {
+    let a = stop_from(&table, s, from, SLASH);
+    if a == from {
         return false;
     }
     if end <= a {
         return false;
     }
-    let b = slash_from(&table, p, a + 1);
+    if class_in(&table, s[a]) != SLASH {
+        return false;
+    }
+    let b = stop_from(&table, s, a + 1, SLASH);
     if b == a + 1 {
         return false;
     }
     if end <= b + 1 {
         return false;
     }
-    if class_in(&table, p[end - 1]) == SLASH {
+    if class_in(&table, s[b]) != SLASH {
         return false;
     }
-    is_clean(&table, p, 0)
+    if class_in(&table, s[end - 1]) == SLASH {
+        return false;
+    }
+    stop_from(&table, s, b + 1, QUESTION) == end
+}
+
+// The part is a path.
+pub fn is_path(p: &[u8]) -> bool
+    ensures { λ r. ⌜ r ≡ isPath (now (p .entry)) ⌝ }
+{
+    is_path_from(p, 0)
 }
 
 // The text is a parent.
 pub fn is_parent(s: &[u8]) -> bool
     ensures { λ r. ⌜ r ≡ isParent (now (s .entry)) ⌝ }
 {
-    if slice::starts_with(s, b"topic://") {
-        is_path(&s[8..])
-    } else {
-        false
+    if s.len() < 8 {
+        return false;
     }
+    if slice_int::read_u64(s, 0) != TOPIC_SCHEME {
+        return false;
+    }
+    is_path_from(s, 8)
 }
