@@ -1,4 +1,5 @@
 pub mod FreshLaws
-mod GatherLaws
+mod LoadLaws
+mod SettleLaws
 pub mod SortLaws
 mod WriteLaws
