@@ -2,7 +2,7 @@
 --
 -- In order: the range and the ranges at a place (`range-at`, `ranges-at`), the record and the records there (`segment-at`, `segments-at`),
 -- and how many there are; a row by its first range (`overlaps-found` to `ok-pass`), and a row that rises (`rising-ok`); segments by their
--- first (`ok-good`, `ok-head`, `ok-tail`, `ok-weaken`); what `record_at` reads (`Seen`) and answers (`record-short` to `record-bare`), and
+-- first (`ok-good`, `ok-head`, `ok-tail`, `ok-weaken`); what `record_at` reads (`Seen`) and answers (`record-short` to `record-good`), and
 -- what its answer says (`Got`, `got`); one turn of reading segments (`size-turn`, `cut`, `stale`, `onward`); a walk over a packed
 -- assignment (specs/Rest): `rest-start`, `rest-head`, `rest-next`.
 --
@@ -197,7 +197,10 @@ module _ (s : List ℕ) (at i : ℕ) (r : KeyRange) (n : ℕ) (x : Seen s at i r
   unfolding sizeSegment
   seen-size = ap sizeSegment seen-segment ∙ ap (λ (k : ℕ). 14 + 4 * k) (length-rangesOf n (drop (at + 14) s))
 
-  seen-ok : okSegment (decodeSegment (drop at s)) ≡ (inOrder r && okBuckets (decodeRanges n (drop (at + 14) s)))
+  pub seen-id : i ≡ decodeSegment (drop at s) .segmentId
+  seen-id = ap (λ (g : AssignedSegment). g .segmentId) (sym seen-segment)
+
+  pub seen-ok : okSegment (decodeSegment (drop at s)) ≡ (inOrder r && okBuckets (decodeRanges n (drop (at + 14) s)))
   unfolding okSegment
   seen-ok = ap okSegment seen-segment
 
@@ -220,14 +223,6 @@ module _ (s : List ℕ) (at i : ℕ) (r : KeyRange) (n : ℕ) (x : Seen s at i r
           let q : leb (at + (14 + 4 * n)) end ≡ true = le-leb (at + (14 + 4 * n)) end (omega arith) in
           let d : decodeSegment (drop at s) .segmentId ≡ i = ap (λ (g : AssignedSegment). g .segmentId) seen-segment in
           simp (q, o, seen-size, d)
-
-    -- without buckets
-    pub record-bare : r .start ≤ r .end → n ≡ 0 → at + 14 ≤ end → Record i 14 ≡ recordRead s at end
-    unfolding okBuckets decodeRanges allInOrder anyOverlap
-    record-bare h z k =
-        let e : true ≡ okBuckets (decodeRanges n (drop (at + 14) s)) = rw z in
-        let w : 14 ≡ 14 + 4 * n = omega (arith, z) in
-        ap (Record i) w ∙ record-good h true e refl (omega (arith, z, k))
 
 -- ---- what the answer of `record_at` says
 
@@ -274,7 +269,7 @@ unfolding sizeSegments
 size-turn s p n z h e = ap (λ (l : List AssignedSegment). p + sizeSegments l) (segments-at s p n z h e) ∙ omega arith
 
 module _ (s : List ℕ) (p n low end : ℕ) (h : 0 < n) where
-  ok-turn : (z : ℕ) → z ≡ sizeSegment (decodeSegment (drop p s))
+  pub ok-turn : (z : ℕ) → z ≡ sizeSegment (decodeSegment (drop p s))
       → okFrom low (decodeSegments n (drop p s))
       ≡ (okSegment (decodeSegment (drop p s)) && (leb low (decodeSegment (drop p s) .segmentId)
       && okFrom (suc (decodeSegment (drop p s) .segmentId)) (decodeSegments (n - 1) (drop (p + z) s))))

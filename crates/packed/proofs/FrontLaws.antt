@@ -1,83 +1,110 @@
--- Laws of `frontRead` and `wholeRead`, as the readers of src/ meet them.
+-- Laws of `frontSize`, `frontRead` and `wholeRead`, as the readers of src/ meet them.
 --
--- In order: the cases of `frontRead` (`front-refused`, `front-short`); the least id that may follow (`lowest`); what is known in a turn of
--- reading the segments (`Turn`), at the start (`turn-start`), a record further (`turn-next`), and at the end (`turn-end`); the cases of
--- `wholeRead` by the answer of `read_front` (`whole-all`, `whole-more`, `whole-refused`).
+-- In order: `frontSize` by the records at the front (`size-is`, `size-short` to `size-records`), and what it says of the bytes (`size-none`, `Sized`, `size-some`), so of
+-- `startsAssignment` (`starts-told`), of `isAssignment` (`whole-not`, `whole-is`) and of `frontRead` (`front-none`, `front-some`); the cases of `wholeRead` by the answer of `read_front` (`whole-all`,
+-- `whole-more`, `whole-refused`).
 -- Assumes nothing.
-use Prim.Native.Nat.{ℕ, suc, _+_, _-_, _≤_, _<_, min}
-use native.Mathlib.Nat.{add-zero}
+use Prim.Native.Nat.{ℕ, _+_, _*_, _≤_, _<_, min}
+use native.Mathlib.Decide.{decLe}
 use native.Mathlib.Omega.{arith}
 use mathlib.Core.Path.{_≡_, refl, sym, ap, _∙_}
-use mathlib.Core.Bool.{Bool, true, false, _&&_}
+use mathlib.Core.Bool.{Bool, true, false, not, _&&_}
 use mathlib.Core.List.{List}
 use lib.ListN.{length, drop}
-use lib.Dec.{leb}
-use borrow.Author.Tests.{le-leb, lt-leb, eq-eqb, ne-eqb}
+use lib.Dec.{leb, eqb}
+use borrow.Author.Tests.{le-leb, lt-leb, leb-true, eq-eqb, ne-eqb}
+use Rattle.slice.specs.BoolLaws.{both-true}
 use Rattle.slice_int.specs.Be.{beAt}
 use Rattle.packed.specs.Assignment.{AssignedSegment, slotSize, decodeSegments, decodeAssignment, sizeSegments, sizeAssignment, okFrom}
-use Rattle.packed.specs.Assignment.{startsAssignment, isAssignment}
-use Rattle.packed.specs.Answers.{frontRead, wholeRead}
+use Rattle.packed.specs.Assignment.{okAssignment, startsAssignment, isAssignment}
+use Rattle.packed.specs.Answers.{recordsEnd, frontSize, frontRead, wholeRead}
 use Rattle.packed.specs.declared.Packed.the-variants.{Assignment, Malformed}
-use Rattle.packed.proofs.AssignmentLaws.{length-segmentsOf, first-segments, starts, Got, rest, size-turn, onward}
+use Rattle.packed.proofs.AssignmentLaws.{length-segmentsOf, first-segments, starts}
+use Rattle.packed.proofs.EndLaws.{rest-short, end-none}
 
--- ---- the front
+-- ---- the size
 
-pub front-refused : (s : List ℕ) → startsAssignment s ≡ false → Malformed ≡ frontRead s
-unfolding frontRead
-front-refused s e = simp e
+size-refused : (s : List ℕ) → startsAssignment s ≡ false → 0 ≡ frontSize s
+unfolding frontSize
+size-refused s e = simp e
 
-pub front-short : (s : List ℕ) → min (length s) slotSize < 10 → Malformed ≡ frontRead s
+pub size-short : (s : List ℕ) → min (length s) slotSize < 10 → 0 ≡ frontSize s
 unfolding sizeAssignment
-front-short s h =
-    front-refused s (starts s ∙ simp (lt-leb (10 + sizeSegments (decodeAssignment s .segments)) (min (length s) slotSize) (omega arith)))
+size-short s h =
+    size-refused s (starts s ∙ simp (lt-leb (10 + sizeSegments (decodeAssignment s .segments)) (min (length s) slotSize) (omega arith)))
 
--- the least id that may follow: any at first, then those above the one before
-abbrev pub lowest : Bool → ℕ → ℕ
-lowest true prev = 0
-lowest false prev = suc prev
+module _ (s : List ℕ) (end n : ℕ) (e : end ≡ min (length s) slotSize) (k : n ≡ beAt 2 s 8) where
+  size-is : recordsEnd s 10 n end ≡ frontSize s
+  unfolding recordsEnd frontSize sizeAssignment
+  size-is =
+      let f : decodeSegments n (drop 10 s) ≡ decodeAssignment s .segments = sym (first-segments s n k) in
+      simp (f, e, starts s)
 
--- at the place p, before the end, with `left` segments of `count` to read: these decide the whole
-pub record Turn (s : List ℕ) (end count p left : ℕ) (first : Bool) (prev : ℕ) : Type 0 where
-  pub bound : p ≤ end
-  pub in-s : end ≤ length s
-  pub counted : length (decodeAssignment s .segments) ≡ count
-  pub sized : sizeAssignment (decodeAssignment s) ≡ p + sizeSegments (decodeSegments left (drop p s))
-  pub decides : startsAssignment s ≡ rest s end p left (lowest first prev)
+  pub size-room : end < 10 + 14 * n → 0 ≡ frontSize s
+  size-room h = end-none s 10 n end (rest-short s end 10 n 0 h) ∙ size-is
 
-pub turn-start : (s : List ℕ) (end n : ℕ) → end ≡ min (length s) slotSize → 10 ≤ end → n ≡ beAt 2 s 8 → Turn s end n 10 n true 0
-unfolding sizeAssignment
-turn-start s end n e h k =
-    let f : decodeAssignment s .segments ≡ decodeSegments n (drop 10 s) = first-segments s n k in
-    record {
-      bound = h;
-      in-s = omega arith;
-      counted = ap length f ∙ length-segmentsOf n (drop 10 s);
-      sized = ap (λ (l : List AssignedSegment). 10 + sizeSegments l) f;
-      decides =
-          starts s
-          ∙ ap (λ (m : ℕ). leb (sizeAssignment (decodeAssignment s)) m && okFrom 0 (decodeAssignment s .segments)) (sym e)
-          ∙ ap (λ (l : List AssignedSegment). leb (10 + sizeSegments l) end && okFrom 0 l) f;
-    }
+  pub size-empty : n ≡ 0 → 10 ≤ end → 10 ≡ frontSize s
+  unfolding recordsEnd decodeSegments sizeSegments okFrom
+  size-empty z h =
+      let r : 10 ≡ recordsEnd s 10 0 end = simp (le-leb 10 end h) in
+      r ∙ ap (λ (m : ℕ). recordsEnd s 10 m end) (sym z) ∙ size-is
 
-module _ (s : List ℕ) (end n p left : ℕ) (first : Bool) (prev : ℕ) (I : Turn s end n p left first prev) where
-  pub turn-next : (i z : ℕ) → 0 < left → Got s p end i z → lowest first prev ≤ i → Turn s end n (p + z) (left - 1) false i
-  turn-next i z h g k =
-      record {
-        bound = omega (arith, g .fits, g .size-is);
-        in-s = I .in-s;
-        counted = I .counted;
-        sized = I .sized ∙ size-turn s p left z h (g .size-is);
-        decides = I .decides ∙ onward s p left (lowest first prev) end h i z g k;
-      }
+  pub size-records : {r : ℕ} → r ≡ recordsEnd s 10 n end → r ≡ frontSize s
+  size-records h = h ∙ size-is
 
-  pub turn-end : left ≡ 0 → Assignment p n ≡ frontRead s
-  unfolding frontRead decodeSegments sizeSegments okFrom
-  turn-end e =
-      let a : sizeAssignment (decodeAssignment s) ≡ p =
-      I .sized ∙ ap (λ (m : ℕ). p + sizeSegments (decodeSegments m (drop p s))) e ∙ add-zero p in
-      let b : startsAssignment s ≡ true =
-      I .decides ∙ ap (λ (m : ℕ). rest s end p m (lowest first prev)) e ∙ simp (add-zero, le-leb p end (I .bound)) in
-      simp (b, a, I .counted)
+-- what a size says
+pub record Sized (s : List ℕ) (z : ℕ) : Type 0 where
+  pub starts-is : startsAssignment s ≡ true
+  pub size-is : sizeAssignment (decodeAssignment s) ≡ z
+  pub room : 10 ≤ length s
+
+module _ (s : List ℕ) {z : ℕ} (e : z ≡ frontSize s) where
+  size-none : z ≡ 0 → startsAssignment s ≡ false
+  unfolding frontSize sizeAssignment
+  size-none h = go (startsAssignment s) refl
+    where
+      go : (t : Bool) → startsAssignment s ≡ t → startsAssignment s ≡ false
+      go true k = let f : z ≡ 10 + sizeSegments (decodeAssignment s .segments) = e ∙ rw k in absurd (omega arith)
+      go false k = k
+
+  pub size-some : (z ≡ 0 → ⊥) → Sized s z
+  unfolding frontSize startsAssignment sizeAssignment
+  size-some h = go (startsAssignment s) refl
+    where
+      go : (t : Bool) → startsAssignment s ≡ t → Sized s z
+      go true k =
+          let f : z ≡ 10 + sizeSegments (decodeAssignment s .segments) = e ∙ rw k in
+          let b = leb-true (10 + sizeSegments (decodeAssignment s .segments)) (length s) (both-true _ _ k .0) in
+          record { starts-is = k; size-is = sym f; room = omega (arith, b) }
+      go false k = absurd (h (e ∙ rw k))
+
+  pub starts-told : not (eqb z 0) ≡ startsAssignment s
+  starts-told = go (decLe z 0)
+    where
+      go : Dec (z ≤ 0) → not (eqb z 0) ≡ startsAssignment s
+      go (yes h) = let f : z ≡ 0 = omega arith in ap not (eq-eqb z 0 f) ∙ sym (size-none f)
+      go (no h) =
+          let f : z ≡ 0 → ⊥ = λ k. h (omega (arith, k)) in
+          ap not (ne-eqb z 0 f) ∙ sym (size-some f .starts-is)
+
+  pub whole-not : z ≡ 0 → false ≡ isAssignment s
+  unfolding isAssignment
+  whole-not h = simp (size-none h)
+
+  pub whole-is : (z ≡ 0 → ⊥) → eqb z (length s) ≡ isAssignment s
+  unfolding isAssignment
+  whole-is h = let f : Sized s z = size-some h in simp (f .starts-is, f .size-is)
+
+  pub front-none : z ≡ 0 → Malformed ≡ frontRead s
+  unfolding frontRead
+  front-none h = simp (size-none h)
+
+  pub front-some : (z ≡ 0 → ⊥) → (n : ℕ) → n ≡ beAt 2 s 8 → Assignment z n ≡ frontRead s
+  unfolding frontRead
+  front-some h n k =
+      let f : Sized s z = size-some h in
+      let c : length (decodeAssignment s .segments) ≡ n = ap length (first-segments s n k) ∙ length-segmentsOf n (drop 10 s) in
+      simp (f .starts-is, f .size-is, c)
 
 -- ---- the whole
 

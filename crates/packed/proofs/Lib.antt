@@ -1,4 +1,5 @@
 pub mod AssignmentLaws
+mod EndLaws
 pub mod EqualLaws
 mod FrontLaws
 mod MarkedLaws

@@ -2,9 +2,10 @@
 --
 -- In order: the place 24 or 56 of a difference (`low-place`, `high-place`); what `word_rises` tells (`word-rises`); the word at a
 -- place (`parted` to `two`), and what it tells of a row (`rising-word`); what the words before a place tell (`Split`, `Told`), from the start
--- (`told-start`) by turns (`told-words`, `told-next`), and what follows from it (`split-first` to `split-end`).
+-- (`told-start`) by turns (`told-words`, `told-next`), and what follows from it (`flags-most` to `split-end`).
 -- Assumes nothing.
 use Prim.Native.Nat.{ℕ, suc, _+_, _-_, _*_, _/_, _%_, _^_, _≤_, _<_}
+use native.Mathlib.Nat.{le-trans}
 use native.Mathlib.Decide.{decLe}
 use native.Mathlib.Omega.{arith}
 use mathlib.Core.Path.{_≡_, refl, sym, ap, _∙_, subst}
@@ -12,8 +13,8 @@ use mathlib.Core.Bool.{Bool, true, false, _&&_, and-false}
 use mathlib.Core.List.{List, [], _∷_}
 use lib.ListN.{length, take, drop, length-take}
 use lib.Dec.{leb, eqb}
-use lib.Bits.{bitAnd}
-use borrow.Author.Tests.{le-leb, lt-leb}
+use lib.Bits.{bitAnd, and-le-l}
+use borrow.Author.Tests.{le-leb, lt-leb, eqb-true}
 use Rattle.types.specs.declared.KeyRange.{KeyRange}
 use Rattle.types.specs.KeyRanges.{keyRange}
 use Rattle.ranges.specs.Overlap.{risingFrom}
@@ -204,31 +205,29 @@ module _ {s : List ℕ} {at n x y low p left : ℕ} (T : Told s at n x y low p l
     split = subst (λ (i : ℕ). Split s at n 72057594054705152 i (p + 16) (left - 4)) (sym u) z;
   }
 
--- the flags of a turn decide, or leave it to the ranges that are left
+-- the flags of a turn are no other places
+pub flags-most : (a b : ℕ) → bitAnd (bitAnd 72057594054705152 a) b ≤ 72057594054705152
+flags-most a b = le-trans (and-le-l (bitAnd 72057594054705152 a) b) (and-le-l 72057594054705152 a)
+
+-- they decide, or leave it to the ranges that are left
 module _ {s : List ℕ} {at n word low p left : ℕ} (S : Split s at n word low p left) where
-  pub split-first : eqb (word / 72057594037927936 % 2) 1 ≡ false → false ≡ risingFrom 0 (decodeRanges n (drop at s))
+  pub split-none : word ≤ 72057594054705152 → (word ≡ 72057594054705152 → ⊥) → false ≡ risingFrom 0 (decodeRanges n (drop at s))
   unfolding bit
-  split-first e =
-      sym (S .equal ∙ ap (λ (t : Bool). (t && bit word 24) && risingFrom (low % 4294967296) (decodeRanges left (drop p s))) e)
+  split-none h k = sym (S .equal ∙ go (bit word 56) (bit word 24) refl refl)
+    where
+      R : Bool
+      R = risingFrom (low % 4294967296) (decodeRanges left (drop p s))
 
-  pub split-second : eqb (word / 16777216 % 2) 1 ≡ false → false ≡ risingFrom 0 (decodeRanges n (drop at s))
-  unfolding bit
-  split-second e =
-      sym
-      (S .equal
-      ∙ ap (λ (t : Bool). (bit word 56 && t) && risingFrom (low % 4294967296) (decodeRanges left (drop p s))) e
-      ∙ ap (λ (t : Bool). t && risingFrom (low % 4294967296) (decodeRanges left (drop p s))) (and-false (bit word 56)))
+      go : (t u : Bool) → bit word 56 ≡ t → bit word 24 ≡ u → (bit word 56 && bit word 24) && R ≡ false
+      go true true e f =
+          let a : word / 72057594037927936 % 2 ≡ 1 = eqb-true _ _ e in
+          let b : word / 16777216 % 2 ≡ 1 = eqb-true _ _ f in
+          absurd (k (omega arith))
+      go true false e f = ap (λ (t : Bool). (bit word 56 && t) && R) f ∙ ap (λ (t : Bool). t && R) (and-false (bit word 56))
+      go false u e f = ap (λ (t : Bool). (t && bit word 24) && R) e
 
-  pub split-both : eqb (word / 72057594037927936 % 2) 1 ≡ true → eqb (word / 16777216 % 2) 1 ≡ true
-      → Split s at n 72057594054705152 low p left
-  unfolding bit
-  split-both e f =
-      record {
-        equal =
-            S .equal
-            ∙ ap (λ (t : Bool). (t && bit word 24) && risingFrom (low % 4294967296) (decodeRanges left (drop p s))) e
-            ∙ ap (λ (t : Bool). t && risingFrom (low % 4294967296) (decodeRanges left (drop p s))) f;
-      }
+  pub split-all : word ≡ 72057594054705152 → Split s at n 72057594054705152 low p left
+  split-all e = subst (λ (w : ℕ). Split s at n w low p left) e S
 
 pub split-end : {s : List ℕ} {at n low p left : ℕ} → Split s at n 72057594054705152 low p left → {t : Bool}
     → t ≡ risingFrom (low % 4294967296) (decodeRanges left (drop p s)) → t ≡ risingFrom 0 (decodeRanges n (drop at s))

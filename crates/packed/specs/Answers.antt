@@ -11,7 +11,8 @@ use Rattle.packed.specs.declared.RecordRead.{RecordRead}
 use Rattle.packed.specs.declared.RecordRead.the-variants as read
 use Rattle.packed.specs.declared.Packed.{Packed}
 use Rattle.packed.specs.declared.Packed.the-variants as packed
-use Rattle.packed.specs.Assignment.{decodeSegment, sizeSegment, okSegment, decodeAssignment, sizeAssignment, startsAssignment, isAssignment}
+use Rattle.packed.specs.Assignment.{decodeSegment, decodeSegments, sizeSegment, sizeSegments, okSegment, okFrom}
+use Rattle.packed.specs.Assignment.{decodeAssignment, sizeAssignment, startsAssignment, isAssignment}
 
 -- a good record stands at the place at and ends by the place end
 unfoldable pub recordGood : List ℕ → ℕ → ℕ → Bool
@@ -22,7 +23,16 @@ unfoldable pub recordRead : (s : List ℕ) (at end : ℕ) → RecordRead
 recordRead s at end =
     cond (recordGood s at end) (read.Record (decodeSegment (drop at s) .segmentId) (sizeSegment (decodeSegment (drop at s)))) read.Malformed
 
--- the packed assignment at the front of a slot: its size and how many segments it has
+-- where n records end that stand from the place at on, 0 where they are not good or do not end by the place end
+unfoldable pub recordsEnd : (s : List ℕ) (at n end : ℕ) → ℕ
+recordsEnd s at n end =
+    cond (leb (at + sizeSegments (decodeSegments n (drop at s))) end && okFrom 0 (decodeSegments n (drop at s))) (at + sizeSegments (decodeSegments n (drop at s))) 0
+
+-- the size of the packed assignment at the front of a slot, 0 where there is none
+unfoldable pub frontSize : List ℕ → ℕ
+frontSize l = cond (startsAssignment l) (sizeAssignment (decodeAssignment l)) 0
+
+-- the same, and how many segments it has
 unfoldable pub frontRead : List ℕ → Packed
 frontRead l =
     cond (startsAssignment l) (packed.Assignment (sizeAssignment (decodeAssignment l)) (length (decodeAssignment l .segments))) packed.Malformed

@@ -3,13 +3,13 @@
 // `read_front` tests the one at the front of a slot, `read_whole` one that is lent alone. Both are linear. Buckets that rise are told in one pass; others are
 // compared pairwise where they are few, and marked where they are many.
 ghost use mathlib.Core.Path.{_≡_};
-ghost use Prim.Native.Nat.{_+_, _*_, _%_, _≤_, min};
+ghost use Prim.Native.Nat.{_+_, _*_, _%_, _≤_, _<_, min};
 ghost use mathlib.Core.Bool.{not, _&&_};
 ghost use lib.ListN.{length, drop};
 ghost use Rattle.types.specs.KeyRanges.{keyRange};
 ghost use Rattle.ranges.specs.Overlap.{overlapsAny, risingFrom};
-ghost use Rattle.packed.specs.Assignment.{decodeRange, decodeRanges, okBuckets};
-ghost use Rattle.packed.specs.Answers.{recordRead, frontRead, wholeRead};
+ghost use Rattle.packed.specs.Assignment.{decodeRange, decodeRanges, okBuckets, startsAssignment, isAssignment};
+ghost use Rattle.packed.specs.Answers.{recordRead, recordsEnd, frontSize, frontRead, wholeRead};
 ghost use Rattle.packed.specs.Words.{topsOf, WordRises};
 use types::KeyRange;
 
@@ -109,10 +109,7 @@ fn rise_by_words(s: &[u8], at: usize, n: usize) -> bool
     let mut left = n;
     while 7 < left {
         let word = PLACES & word_rises(x, low) & word_rises(y, tops(x));
-        if word / 72057594037927936 % 2 != 1 {
-            return false;
-        }
-        if word / 16777216 % 2 != 1 {
+        if word != PLACES {
             return false;
         }
         low = tops(y);
@@ -226,60 +223,94 @@ pub fn record_at(s: &[u8], at: usize, end: usize) -> RecordRead
     }
 }
 
-// The same, at once where the record has no buckets.
-fn read_record(s: &[u8], at: usize, end: usize) -> RecordRead
-    requires { ⌜ (at ≤ end) × (end ≤ length (now s)) ⌝ }
-    ensures { λ r. ⌜ r ≡ recordRead (now (s .entry)) at end ⌝ }
-{
-    if end - at < RECORD_HEAD {
-        return RecordRead::Malformed;
-    }
-    let id = slice_int::read_u64(s, at);
-    let range = range_at(s, at + 8);
-    let count = slice_int::read_u16(s, at + 12);
-    if count != 0 {
-        return record_at(s, at, end);
-    }
-    if range.end < range.start {
-        return RecordRead::Malformed;
-    }
-    RecordRead::Record(id, RECORD_HEAD)
-}
-
 fn least(a: usize, b: usize) -> usize
     ensures { λ r. ⌜ r ≡ min a b ⌝ }
 {
     if a < b { a } else { b }
 }
 
-// The packed assignment at the front of a slot; what follows it is not looked at.
-pub fn read_front(s: &[u8]) -> Packed
-    ensures { λ r. ⌜ r ≡ frontRead (now (s .entry)) ⌝ }
+// The place behind the n records from a place on, which have to end by the place end; 0 where they are not good. `stop` is where they end if no further one has
+// buckets: one comparison tells both that none is left and that the next one has room.
+fn records_end(s: &[u8], at: usize, n: usize, end: usize) -> usize
+    requires { ⌜ (0 < n) × (at + 14 * n ≤ end) × (end ≤ length (now s)) ⌝ }
+    ensures { λ r. ⌜ r ≡ recordsEnd (now (s .entry)) at n end ⌝ }
+{
+    let mut p = at;
+    let mut stop = at + RECORD_HEAD * n;
+    let mut id = slice_int::read_u64(s, at);
+    loop {
+        if slice_int::read_u16(s, p + 10) < slice_int::read_u16(s, p + 8) {
+            return 0;
+        }
+        let count = slice_int::read_u16(s, p + 12) as usize;
+        p = p + RECORD_HEAD;
+        if count != 0 {
+            stop = stop + BUCKET * count;
+            if end < stop {
+                return 0;
+            }
+            if !buckets_ok(s, p, count) {
+                return 0;
+            }
+            p = p + BUCKET * count;
+        }
+        if p == stop {
+            return p;
+        }
+        let next = slice_int::read_u64(s, p);
+        if next <= id {
+            return 0;
+        }
+        id = next;
+    }
+}
+
+// The size of the packed assignment at the front of a slot, 0 where there is none; what follows it is not looked at.
+pub fn front_size(s: &[u8]) -> usize
+    ensures { λ r. ⌜ r ≡ frontSize (now (s .entry)) ⌝ }
 {
     let end = least(s.len(), SLOT);
     if end < ASSIGNMENT_HEAD {
-        return Packed::Malformed;
+        return 0;
     }
     let count = slice_int::read_u16(s, 8) as usize;
-    let mut p: usize = ASSIGNMENT_HEAD;
-    let mut left = count;
-    let mut first = true;
-    let mut prev: u64 = 0;
-    while 0 < left {
-        let RecordRead::Record(id, size) = read_record(s, p, end) else {
-            return Packed::Malformed;
-        };
-        if !first {
-            if id <= prev {
-                return Packed::Malformed;
-            }
-        }
-        first = false;
-        prev = id;
-        p = p + size;
-        left = left - 1;
+    if end < ASSIGNMENT_HEAD + RECORD_HEAD * count {
+        return 0;
     }
-    Packed::Assignment(p, count)
+    if count == 0 {
+        return ASSIGNMENT_HEAD;
+    }
+    records_end(s, ASSIGNMENT_HEAD, count, end)
+}
+
+// A packed assignment is at the front of the bytes.
+pub fn is_front(s: &[u8]) -> bool
+    ensures { λ r. ⌜ r ≡ startsAssignment (now (s .entry)) ⌝ }
+{
+    front_size(s) != 0
+}
+
+// The bytes are a packed assignment; none may be left over.
+pub fn is_whole(s: &[u8]) -> bool
+    ensures { λ r. ⌜ r ≡ isAssignment (now (s .entry)) ⌝ }
+{
+    let size = front_size(s);
+    if size == 0 {
+        return false;
+    }
+    size == s.len()
+}
+
+// The packed assignment at the front of a slot, and how many segments it has.
+pub fn read_front(s: &[u8]) -> Packed
+    ensures { λ r. ⌜ r ≡ frontRead (now (s .entry)) ⌝ }
+{
+    let size = front_size(s);
+    if size == 0 {
+        return Packed::Malformed;
+    }
+    let segments = slice_int::read_u16(s, 8) as usize;
+    Packed::Assignment(size, segments)
 }
 
 // The packed assignment that the bytes are; none may be left over.

@@ -17,35 +17,9 @@ use borrow.Author.Tests.{le-leb, lt-leb, leb-true, eqb-true}
 use Rattle.slice.specs.BoolLaws.{both-true}
 use Rattle.slice_int.specs.Be.{beAt}
 use Rattle.packed.specs.Assignment.{num, decodeAssignment, sizeAssignment, startsAssignment, isAssignment}
-use Rattle.packed.specs.Answers.{wholeRead}
-use Rattle.packed.specs.declared.Packed.the-variants.{Assignment, Malformed}
 use Rattle.packed_queue.specs.declared.Entries.the-variants as entries
 use Rattle.packed_queue.specs.Entries.{sizeEntries, sheetIn, entryEnd, decodeEntries, entriesEnd, startsEntry, startEntries}
 use Rattle.packed_queue.specs.Answers.{entrySize, entriesRead}
-
--- ---- what the answer of `read_whole` says
-
-whole-there : (l : List ℕ) (n m : ℕ) → Assignment n m ≡ wholeRead l → isAssignment l ≡ true
-unfolding wholeRead
-whole-there l n m e = go (isAssignment l) refl
-  where
-    go : (t : Bool) → isAssignment l ≡ t → isAssignment l ≡ true
-    go true h = h
-    go false h =
-        let f : Assignment n m ≡ Malformed = e ∙ rw h in
-        let z : _≡_ {A = ℕ} 0 1 = cc in
-        absurd (omega arith)
-
-whole-not : (l : List ℕ) → Malformed ≡ wholeRead l → isAssignment l ≡ false
-unfolding wholeRead
-whole-not l e = go (isAssignment l) refl
-  where
-    go : (t : Bool) → isAssignment l ≡ t → isAssignment l ≡ false
-    go false h = h
-    go true h =
-        let f : Malformed ≡ Assignment (sizeAssignment (decodeAssignment l)) (length (decodeAssignment l .segments)) = e ∙ rw h in
-        let z : _≡_ {A = ℕ} 0 1 = cc in
-        absurd (omega arith)
 
 -- ---- the entry at a place
 
@@ -82,17 +56,17 @@ module _ (s : List ℕ) (at : ℕ) (h : at ≤ length s) where
       fits : leb (entryEnd (drop at s)) (length (drop at s)) ≡ true
       fits = le-leb (entryEnd (drop at s)) (length (drop at s)) (omega (arith, left, place-length))
 
-      pub entry-told : (n m : ℕ) → Assignment n m ≡ wholeRead (take (at + 2 + len - (at + 2)) (drop (at + 2) s))
-          → 2 + len ≡ entrySize (drop at s)
-      unfolding entrySize startsEntry
-      entry-told n m f =
-          let g : isAssignment (sheetIn (drop at s)) ≡ true = ap isAssignment (sym sheet) ∙ whole-there _ n m f in
-          ap (2 +_) place-length ∙ sym (simp (fits, g))
+      module _ {t : Bool} (f : t ≡ isAssignment (take (at + 2 + len - (at + 2)) (drop (at + 2) s))) where
+        pub entry-told : t ≡ true → 2 + len ≡ entrySize (drop at s)
+        unfolding entrySize startsEntry
+        entry-told k =
+            let g : isAssignment (sheetIn (drop at s)) ≡ true = ap isAssignment (sym sheet) ∙ sym f ∙ k in
+            ap (2 +_) place-length ∙ sym (simp (fits, g))
 
-      pub entry-not : Malformed ≡ wholeRead (take (at + 2 + len - (at + 2)) (drop (at + 2) s)) → 0 ≡ entrySize (drop at s)
-      unfolding entrySize startsEntry
-      entry-not f =
-          let g : isAssignment (sheetIn (drop at s)) ≡ false = ap isAssignment (sym sheet) ∙ whole-not _ f in sym (simp (fits, g))
+        pub entry-not : t ≡ false → 0 ≡ entrySize (drop at s)
+        unfolding entrySize startsEntry
+        entry-not k =
+            let g : isAssignment (sheetIn (drop at s)) ≡ false = ap isAssignment (sym sheet) ∙ sym f ∙ k in sym (simp (fits, g))
 
 -- ---- what an entry's size says
 

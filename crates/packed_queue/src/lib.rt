@@ -5,7 +5,6 @@ ghost use mathlib.Core.Path.{_≡_};
 ghost use Prim.Native.Nat.{_≤_};
 ghost use lib.ListN.{length, drop};
 ghost use Rattle.packed_queue.specs.Answers.{entrySize, entriesRead};
-use packed::Packed;
 
 // What bytes are that should start with so many entries.
 pub enum Entries {
@@ -31,9 +30,10 @@ fn entry_size(s: &[u8], at: usize) -> usize
         return 0;
     }
     let to = from + len;
-    match packed::read_whole(&s[from..to]) {
-        Packed::Assignment(_, _) => LENGTH + len,
-        Packed::Malformed => 0,
+    if packed::is_whole(&s[from..to]) {
+        LENGTH + len
+    } else {
+        0
     }
 }
 

@@ -1,6 +1,6 @@
 -- Laws of the store, as every call on it needs them.
 --
--- In order: slots as parts of the store (`slot-at` to `front-not`); baseline and list (`lists-free` to `list-decides`); where the queue ends
+-- In order: slots as parts of the store (`slot-at`, `part-slot`); baseline and list (`lists-free` to `list-decides`); where the queue ends
 -- (`queue-ends`); the cases of the test of a store (`count-bad` to `queue-ended`); what holds of a store that is sound (`count-most` to `queue-starts`); an entry of the
 -- queue where it lies (`front-reads` to `entry-next`); a packed assignment at the front of a buffer (`scratch-fits` to `scratch-entry`).
 -- Assumes nothing.
@@ -18,8 +18,6 @@ use Rattle.slice.specs.BoolLaws.{both-true}
 use Rattle.slice.proofs.PartLaws.{Bytes, rest}
 use Rattle.slice_int.specs.Be.{beAt, bytesOf}
 use Rattle.packed.specs.Assignment.{num, encodeAssignment, decodeAssignment, sizeAssignment, okAssignment, startsAssignment, isAssignment}
-use Rattle.packed.specs.Answers.{frontRead}
-use Rattle.packed.specs.declared.Packed.the-variants.{Assignment, Malformed}
 use Rattle.packed.proofs.RoundLaws.{write-assignment}
 use Rattle.packed_queue.specs.declared.Entries.the-variants.{End, Malformed as Malformed′}
 use Rattle.packed_queue.specs.Entries.{encodeEntry, sheetIn, entryEnd, entriesEnd, startsEntry, startEntries}
@@ -44,29 +42,6 @@ slot-at st k = refl
 pub part-slot : (st : List ℕ) (k : ℕ) → take (2048 * k + 2048 - 2048 * k) (drop (2048 * k) st) ≡ slot st k
 unfolding slot
 part-slot st k = ap (λ (n : ℕ). take n (drop (2048 * k) st)) (add-sub-cancel-left (2048 * k) 2048)
-
--- what the answer of `read_front` says
-pub front-there : (l : List ℕ) (n m : ℕ) → Assignment n m ≡ frontRead l → true ≡ startsAssignment l
-unfolding frontRead
-front-there l n m e = go (startsAssignment l) refl
-  where
-    go : (t : Bool) → startsAssignment l ≡ t → true ≡ startsAssignment l
-    go true h = sym h
-    go false h =
-        let f : Assignment n m ≡ Malformed = e ∙ rw h in
-        let z : _≡_ {A = ℕ} 0 1 = cc in
-        absurd (omega arith)
-
-pub front-not : (l : List ℕ) → Malformed ≡ frontRead l → false ≡ startsAssignment l
-unfolding frontRead
-front-not l e = go (startsAssignment l) refl
-  where
-    go : (t : Bool) → startsAssignment l ≡ t → false ≡ startsAssignment l
-    go false h = sym h
-    go true h =
-        let f : Malformed ≡ Assignment (sizeAssignment (decodeAssignment l)) (length (decodeAssignment l .segments)) = e ∙ rw h in
-        let z : _≡_ {A = ℕ} 0 1 = cc in
-        absurd (omega arith)
 
 -- ---- baseline and list
 

@@ -13,7 +13,6 @@ ghost use Rattle.session.specs.Identity.{isIdentity};
 ghost use Rattle.session.specs.Session.{listsStart, view, anyBeyond, damaged};
 ghost use Rattle.session_store.specs.Scratch.{Scratch};
 ghost use Rattle.session_store.specs.Tests.{StoreTested};
-use packed::Packed;
 use packed::SLOT;
 use packed_queue::Entries;
 use packed_queue::LENGTH;
@@ -64,10 +63,7 @@ fn starts(store: &[u8], k: usize) -> bool
     ensures { λ r. ⌜ r ≡ startsAssignment (slot (now (store .entry)) k) ⌝ }
 {
     let at = SLOT * k;
-    match packed::read_front(&store[at..at + SLOT]) {
-        Packed::Assignment(_, _) => true,
-        Packed::Malformed => false,
-    }
+    packed::is_front(&store[at..at + SLOT])
 }
 
 // Baseline and list are packed assignments, when registered.

@@ -5,9 +5,8 @@ use mathlib.Core.Path.{_≡_, refl}
 use lib.ListN.{length}
 use lib.Bits.{bitAnd}
 use borrow.Author.Needs.{needs}
-use borrow.Author.Tests.{eq-eqb, ne-eqb}
 use Rattle.packed.specs.Words.{topsOf}
-use Rattle.packed.proofs.WordLaws.{Told, Split, told-start, told-words, told-next, split-first, split-second, split-both, split-end}
+use Rattle.packed.proofs.WordLaws.{Told, Split, told-start, told-words, told-next, flags-most, split-none, split-all, split-end}
 use Rattle.packed.proofs.rise_by_words.Statement.{statement}
 use Rattle.packed.proofs.rise_by_words.Tie as tie
 
@@ -35,36 +34,34 @@ told c =
 
 -- behind them: how many bytes there are, and where the place is
 room : (c : tie.After-tops2 Inv-loop μ-loop)
-    → let l = c .before .before .before .before .before .before .before in
+    → let l = c .before .before .before .before .before .before in
     let a = l .before .before .before .before .before .args in (a .at + 4 * a .n ≤ length (a .s .now)) × (l .loop .p + 4 * l .loop .left ≡ a .at + 4 * a .n)
 room c =
-    let l = c .before .before .before .before .before .before .before in
+    let l = c .before .before .before .before .before .before in
     (l .before .before .before .before .before .pre, l .loop .inv .place)
 
 returns-2 : tie.Need-returns-2 Inv-loop μ-loop
-returns-2 c = split-first (told (c .before)) (ne-eqb _ _ (c .if2 .taken))
-
-returns-3 : tie.Need-returns-3 Inv-loop μ-loop
-returns-3 c = split-second (told (c .before .before)) (ne-eqb _ _ (c .if3 .taken))
+returns-2 c =
+    split-none (told (c .before)) (flags-most (c .before .before .before .word-rises .result) (c .before .word-rises2 .result)) (c .if2 .taken)
 
 loop-again : tie.Need-loop-again Inv-loop μ-loop
 loop-again c =
     let t = c .before .before in
     let e = t .before in
-    let w = e .before .before in
+    let w = e .before in
     let i = w .before .before .before in
     let l = i .before in
     let k = l .before .before .before .before in
     told-next (l .loop .inv) (λ j. k .shared-slice-known .given j .fits) (k .before .pre) _ _ _ (i .loop-test .taken) (t .tops2 .ensures)
-    (split-both (told w) (eq-eqb _ _ (e .before .if2 .left)) (eq-eqb _ _ (e .if3 .left)))
+    (split-all (told w) (e .if2 .left))
     (c .before .read-u643 .ensures) (c .read-u644 .ensures)
 
 buckets-rise-requires-2 : tie.Need-buckets-rise-requires-2 Inv-loop μ-loop
 buckets-rise-requires-2 c κs =
     omega (arith, c .before .loop .inv .place, c .before .before .before .before .before .before .pre)
 
-returns-4 : tie.Need-returns-4 Inv-loop μ-loop
-returns-4 c = split-end (c .before .before .loop .inv .split) (c .buckets-rise2 .ensures)
+returns-3 : tie.Need-returns-3 Inv-loop μ-loop
+returns-3 c = split-end (c .before .before .loop .inv .split) (c .buckets-rise2 .ensures)
 
 pub rise-by-words-spec : {M : Type 1} → statement M
 rise-by-words-spec =
@@ -84,15 +81,14 @@ rise-by-words-spec =
     (λ c κs. search needs)
     (λ c κs. omega (arith, c .tops .ensures))
     returns-2
-    returns-3
     -- tops-requires-2, add-p, sub-left, read-u64-requires-3, add-read-u64-2, read-u64-requires-4, loop-less
     (λ c κs. search needs)
     (λ c. omega (arith, room c))
     (λ c. omega arith)
-    (λ c κs. omega (arith, room c, c .before .before .before .before .before .before .loop-test .taken))
+    (λ c κs. omega (arith, room c, c .before .before .before .before .before .loop-test .taken))
     (λ c. omega (arith, room (c .before)))
-    (λ c κs. omega (arith, room (c .before), c .before .before .before .before .before .before .before .loop-test .taken))
+    (λ c κs. omega (arith, room (c .before), c .before .before .before .before .before .before .loop-test .taken))
     (λ c. omega arith)
     loop-again
     buckets-rise-requires-2
-    returns-4)
+    returns-3)
