@@ -157,6 +157,9 @@ module _ {m new b : List ℕ} {used to from at : ℕ} (v : Merged m new b used t
   pub part-whole : isWhole (take (used + length new - from) (drop from b)) ≡ true
   part-whole = ap isWhole part-rest ∙ v .rises .whole
 
+  pub part-rises : rising (decodeTopics (take (used + length new - from) (drop from b))) ≡ true
+  part-rises = ap (λ (l : List ℕ). rising (decodeTopics l)) part-rest ∙ v .rises .rises
+
   -- more bytes written behind
   more : (x y : List ℕ) → x ≡ put m 0 y → (w : List ℕ) (i : ℕ) → i ≡ length y → i + length w ≤ length m → put x i w ≡ put m 0 (y ++ w)
   more x y e w i f k =

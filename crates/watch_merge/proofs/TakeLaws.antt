@@ -178,6 +178,9 @@ module _ {o g b : List ℕ} {to from at : ℕ} (v : Left o g b to from at) where
   pub part-whole : isWhole (take (length b - from) (drop from b)) ≡ true
   part-whole = ap isWhole part-rest ∙ v .rises .whole
 
+  pub part-rises : rising (decodeTopics (take (length b - from) (drop from b))) ≡ true
+  part-rises = ap (λ (l : List ℕ). rising (decodeTopics l)) part-rest ∙ v .rises .rises
+
   -- bytes moved down from the place, which are those of more topics
   moved : (more : List (List ℕ)) (m : ℕ) → m ≡ sizeTopics more → from + m ≤ length o → take m (drop from o) ≡ encodeTopics more
       → put b to (take m (drop from b)) ≡ put o 0 (encodeTopics (v .kept ++ more))

@@ -27,7 +27,7 @@ pub fn take_out(b: &mut [u8], gone: &[u8]) -> usize
     while at < gone.len() {
         let n = slice_int::read_u16(gone, at) as usize;
         let end = at + 2 + n;
-        let place = watch_topics::find(&b[from..], &gone[at + 2..end]);
+        let place = watch_topics::seek(&b[from..], &gone[at + 2..end]);
         slice_moves::move_down(b, from, to, place.at);
         to = to + place.at;
         from = from + place.at + skip(place.present, 2 + n);
@@ -55,7 +55,7 @@ pub fn merge(b: &mut [u8], used: usize, new: &[u8]) -> usize
     while at < z {
         let n = slice_int::read_u16(new, at) as usize;
         let next = at + 2 + n;
-        let place = watch_topics::find(&b[from..end], &new[at + 2..next]);
+        let place = watch_topics::seek(&b[from..end], &new[at + 2..next]);
         slice_moves::move_down(b, from, to, place.at);
         to = to + place.at;
         from = from + place.at;

@@ -4,3 +4,4 @@ pub mod EachLaws
 pub mod PackedLaws
 pub mod PlaceLaws
 pub mod WalkLaws
+pub mod SeekLaws

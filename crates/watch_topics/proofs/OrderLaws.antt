@@ -218,6 +218,10 @@ pub front-word : (w : ℕ) (a b : List ℕ) (i : ℕ) → Bytes a → Bytes b �
 front-word w a b i ba bb h k e f =
     take-add i w a ∙ ap₂ (λ (x y : List ℕ). x ++ y) e (same-word w a b i ba bb h k f) ∙ sym (take-add i w b)
 
+-- and w bytes behind it, as they lie
+pub front-same : (w : ℕ) (a b : List ℕ) (i : ℕ) → take i a ≡ take i b → take w (drop i a) ≡ take w (drop i b) → take (i + w) a ≡ take (i + w) b
+front-same w a b i e f = take-add i w a ∙ ap₂ (λ (x y : List ℕ). x ++ y) e f ∙ sym (take-add i w b)
+
 -- a part of such a front
 pub front-part : (a b : List ℕ) (i j : ℕ) → j ≤ i → take i a ≡ take i b → take j a ≡ take j b
 front-part a b i j h e = sym (take-take j i a h) ∙ ap (take j) e ∙ take-take j i b h

@@ -1,3 +1,4 @@
 pub mod Topics
 pub mod Alike
 pub mod Packed
+pub mod Skipped

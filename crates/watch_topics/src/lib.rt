@@ -1,10 +1,12 @@
 // Topics in byte order, and a packed set of them: each topic a length of 16 bits and its bytes.
 ghost use mathlib.Core.Path.{_≡_};
 ghost use mathlib.Core.Bool.{true, _&&_};
-ghost use Prim.Native.Nat.{_-_, _≤_};
-ghost use lib.ListN.{length, take};
+ghost use Prim.Native.Nat.{_+_, _-_, _≤_};
+ghost use lib.ListN.{length, take, drop};
 ghost use Rattle.watch_topics.specs.Topics.{order, before, rising};
 ghost use Rattle.watch_topics.specs.Alike.{Shorter};
+ghost use Rattle.watch_topics.specs.Skipped.{Skipped};
+ghost use Rattle.watch_topics.specs.declared.Order.the-variants.{Less};
 ghost use Rattle.watch_topics.specs.Packed.{decodeTopics, isWhole, allUtf8, isSet, topicPlace};
 
 // How one topic stands to another.
@@ -76,6 +78,21 @@ fn compare_end(a: &[u8], b: &[u8], n: usize) -> Order
     Order::Equal
 }
 
+// A place up to which both are alike: the first word that differs, or `last`. The words are compared as they lie, in no order.
+fn alike(a: &[u8], b: &[u8], last: usize) -> usize
+    requires { ⌜ (last + 8 ≤ length (now a)) × (last + 8 ≤ length (now b)) ⌝ }
+    ensures { λ r. ⌜ (r ≤ last) × (take r (now (a .entry)) ≡ take r (now (b .entry))) ⌝ }
+{
+    let mut i: usize = 0;
+    while i < last {
+        if !slice::same(&a[i..i + 8], &b[i..i + 8]) {
+            return i;
+        }
+        i = i + 8;
+    }
+    last
+}
+
 // How a stands to b in byte order. Of two words, most significant byte first, the lower one stands first; bytes that do not fill a word are
 // compared with those before them, which are alike.
 pub fn compare(a: &[u8], b: &[u8]) -> Order
@@ -85,7 +102,7 @@ pub fn compare(a: &[u8], b: &[u8]) -> Order
     if n < 8 {
         return compare_bytes(a, b);
     }
-    let mut i: usize = 0;
+    let mut i = alike(a, b, n - 8);
     while 8 <= n - i {
         let x = slice_int::read_u64(a, i);
         let y = slice_int::read_u64(b, i);
@@ -108,6 +125,29 @@ pub fn is_before(a: &[u8], b: &[u8]) -> bool
         Order::Less => true,
         Order::Equal => false,
         Order::Greater => false,
+    }
+}
+
+// Whether a stands before b by a word: where it does not, nothing is told.
+fn is_before_by_word(a: &[u8], b: &[u8]) -> bool
+    ensures { λ r. ⌜ (r ≡ true → order (now (a .entry)) (now (b .entry)) ≡ Less) ⌝ }
+{
+    let n = shorter(a.len(), b.len());
+    if n < 8 {
+        return false;
+    }
+    let i = alike(a, b, n - 8);
+    slice_int::read_u64(a, i) < slice_int::read_u64(b, i)
+}
+
+// Whether a topic stands before the next one of a set: mostly a word tells.
+fn is_before_next(a: &[u8], b: &[u8]) -> bool
+    ensures { λ r. ⌜ r ≡ before (now (a .entry)) (now (b .entry)) ⌝ }
+{
+    if is_before_by_word(a, b) {
+        true
+    } else {
+        is_before(a, b)
     }
 }
 
@@ -147,7 +187,7 @@ fn is_rising(s: &[u8]) -> bool
         if end < s.len() {
             let m = slice_int::read_u16(s, end) as usize;
             let next = end + 2;
-            if !is_before(&s[from..end], &s[next..next + m]) {
+            if !is_before_next(&s[from..end], &s[next..next + m]) {
                 return false;
             }
         }
@@ -186,4 +226,71 @@ pub fn find(s: &[u8], t: &[u8]) -> Place
         }
     }
     Place { at, present: false }
+}
+
+// The place behind the next n topics, or the end of the list.
+fn skip(s: &[u8], from: usize, n: usize) -> usize
+    requires { ⌜ (from ≤ length (now s)) × (isWhole (drop from (now s)) ≡ true) ⌝ }
+    ensures { λ r. ⌜ Skipped (now (s .entry)) from r ⌝ }
+{
+    let mut at = from;
+    let mut left = n;
+    while 0 < left {
+        if s.len() <= at {
+            return at;
+        }
+        let z = slice_int::read_u16(s, at) as usize;
+        at = at + 2 + z;
+        left -= 1;
+    }
+    at
+}
+
+// Where a topic stands among those from the place low to the place high.
+fn find_between(s: &[u8], t: &[u8], low: usize, high: usize) -> Place
+    requires { ⌜ (low ≤ high) × (high ≤ length (now s)) ⌝ }
+    requires { ⌜ isWhole (take (high - low) (drop low (now s))) ≡ true ⌝ }
+    ensures { λ r. ⌜ r ≡ topicPlace (now (t .entry)) low (decodeTopics (take (high - low) (drop low (now (s .entry))))) ⌝ }
+{
+    let p = find(&s[low..high], t);
+    Place {
+        at: low + p.at,
+        present: p.present,
+    }
+}
+
+// Twice as far, up to a limit.
+fn farther(reach: usize) -> usize {
+    if reach < 1024 { 2 * reach } else { reach }
+}
+
+// Where a topic stands in a packed set. After some topics that stand before it, more and more are passed over by their lengths alone, up to 32
+// at once; when that goes too far, it is found among the last that were.
+pub fn seek(s: &[u8], t: &[u8]) -> Place
+    requires { ⌜ (isWhole (now s) ≡ true) × (rising (decodeTopics (now s)) ≡ true) ⌝ }
+    ensures { λ r. ⌜ r ≡ topicPlace (now (t .entry)) 0 (decodeTopics (now (s .entry))) ⌝ }
+{
+    let mut low: usize = 0;
+    let mut reach: usize = 1;
+    loop {
+        let at = skip(s, low, reach / 32);
+        if s.len() <= at {
+            return find_between(s, t, low, at);
+        }
+        let n = slice_int::read_u16(s, at) as usize;
+        let from = at + 2;
+        let end = from + n;
+        match compare(t, &s[from..end]) {
+            Order::Less => {
+                return find_between(s, t, low, at);
+            }
+            Order::Equal => {
+                return Place { at, present: true };
+            }
+            Order::Greater => {
+                low = end;
+                reach = farther(reach);
+            }
+        }
+    }
 }

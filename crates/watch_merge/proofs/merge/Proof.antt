@@ -8,7 +8,7 @@ use lib.ListN.{length}
 use Rattle.slice.proofs.PartLaws.{Bytes}
 use Rattle.slice_int.specs.Put.{put}
 use Rattle.watch_topics.proofs.WalkLaws.{entry-two}
-use Rattle.watch_merge.proofs.MergeLaws.{Merged, merge-start, merge-down, merge-within, part-whole, merge-next, merge-end}
+use Rattle.watch_merge.proofs.MergeLaws.{Merged, merge-start, merge-down, merge-within, part-whole, part-rises, merge-next, merge-end}
 use Rattle.watch_merge.proofs.MergeLaws.{new-fits, piece, piece-length, place-room, write-room}
 use Rattle.watch_merge.proofs.merge.Statement.{statement}
 use Rattle.watch_merge.proofs.merge.Tie as tie
@@ -26,22 +26,22 @@ fits-here r =
     let l = r .before .before in
     new-fits (l .loop .inv) (r .before .loop-test .taken) (r .read-u16 .result) (r .read-u16 .ensures)
 
-room-here : (q : tie.After-find Inv-loop μ-loop) → let l = q .before .before .before .before .before .before in
+room-here : (q : tie.After-seek Inv-loop μ-loop) → let l = q .before .before .before .before .before .before in
     let a = l .before .before .before .before .before .before .before .args in
-    l .loop .from + q .find .result .at ≤ a .used + length (a .new .now)
+    l .loop .from + q .seek .result .at ≤ a .used + length (a .new .now)
 room-here q =
     let r = q .before .before .before .before in
     let l = r .before .before in
-    place-room (l .loop .inv) (r .before .loop-test .taken) (r .read-u16 .result) (r .read-u16 .ensures) (q .find .result) (q .find .ensures)
+    place-room (l .loop .inv) (r .before .loop-test .taken) (r .read-u16 .result) (r .read-u16 .ensures) (q .seek .result) (q .seek .ensures)
 
-write-here : (q : tie.After-find Inv-loop μ-loop) → let r = q .before .before .before .before in
+write-here : (q : tie.After-seek Inv-loop μ-loop) → let r = q .before .before .before .before in
     let l = r .before .before in
     let a = l .before .before .before .before .before .before .before .args in
-    l .loop .to + q .find .result .at + 2 + r .read-u16 .result ≤ a .used + length (a .new .now)
+    l .loop .to + q .seek .result .at + 2 + r .read-u16 .result ≤ a .used + length (a .new .now)
 write-here q =
     let r = q .before .before .before .before in
     let l = r .before .before in
-    write-room (l .loop .inv) (r .before .loop-test .taken) (r .read-u16 .result) (r .read-u16 .ensures) (q .find .result) (q .find .ensures)
+    write-room (l .loop .inv) (r .before .loop-test .taken) (r .read-u16 .result) (r .read-u16 .ensures) (q .seek .result) (q .seek .ensures)
 
 -- the set and the new topics have room
 used-here : (l : tie.At-loop Inv-loop μ-loop) → let a = l .before .before .before .before .before .before .before .args in
@@ -72,23 +72,25 @@ add-next c = omega (arith, fits-here c)
 add-next-2 : tie.Need-add-next-2 Inv-loop μ-loop
 add-next-2 c = omega (arith, fits-here c)
 
-sub-find : tie.Need-sub-find Inv-loop μ-loop
-sub-find c = merge-within (c .before .before .loop .inv)
+sub-seek : tie.Need-sub-seek Inv-loop μ-loop
+sub-seek c = merge-within (c .before .before .loop .inv)
 
-part-find-start : tie.Need-part-find-start Inv-loop μ-loop
-part-find-start c = merge-within (c .before .before .before .loop .inv)
+part-seek-start : tie.Need-part-seek-start Inv-loop μ-loop
+part-seek-start c = merge-within (c .before .before .before .loop .inv)
 
-part-find-end : tie.Need-part-find-end Inv-loop μ-loop
-part-find-end c = used-here (c .before .before .before)
+part-seek-end : tie.Need-part-seek-end Inv-loop μ-loop
+part-seek-end c = used-here (c .before .before .before)
 
-add-find : tie.Need-add-find Inv-loop μ-loop
-add-find c = omega (arith, fits-here (c .before .before))
+add-seek : tie.Need-add-seek Inv-loop μ-loop
+add-seek c = omega (arith, fits-here (c .before .before))
 
-part-find-end-2 : tie.Need-part-find-end-2 Inv-loop μ-loop
-part-find-end-2 c = omega (arith, fits-here (c .before .before))
+part-seek-end-2 : tie.Need-part-seek-end-2 Inv-loop μ-loop
+part-seek-end-2 c = omega (arith, fits-here (c .before .before))
 
-find-requires : tie.Need-find-requires Inv-loop μ-loop
-find-requires c κs = part-whole (c .before .before .before .before .before .loop .inv)
+seek-requires : tie.Need-seek-requires Inv-loop μ-loop
+seek-requires c κs =
+    let v = c .before .before .before .before .before .loop .inv in
+    (part-whole v, part-rises v)
 
 move-down-requires : tie.Need-move-down-requires Inv-loop μ-loop
 move-down-requires c κs =
@@ -139,7 +141,7 @@ loop-again c =
     let l = r .before .before in
     let d = c .before .before .before .before .before .before .before .before .before .move-down in
     let w = c .before .before .put-bytes in
-    merge-next (l .loop .inv) (r .before .loop-test .taken) (r .read-u16 .result) (r .read-u16 .ensures) (q .find .result) (q .find .ensures)
+    merge-next (l .loop .inv) (r .before .loop-test .taken) (r .read-u16 .result) (r .read-u16 .ensures) (q .seek .result) (q .seek .ensures)
     (d .last .0) (w .last .0) (d .ensures)
     (w .ensures ∙ ap (put _ _) (piece (l .loop .inv) (r .before .loop-test .taken) (r .read-u16 .result) (r .read-u16 .ensures) (new-bytes l)))
     (w .kept .0 ∙ d .kept .0 ∙ l .loop .inv .long)
@@ -160,7 +162,7 @@ merge-spec =
     tie.close
     (tie.spec Inv-loop μ-loop
     (λ c. search needs) (λ c κs. search needs) loop-holds read-u16-requires
-    (λ c. search needs) add-next add-next-2 sub-find part-find-start part-find-end add-find
-    (λ c. search needs) (λ c. search needs) part-find-end-2 find-requires move-down-requires add-to add-from
+    (λ c. search needs) add-next add-next-2 sub-seek part-seek-start part-seek-end add-seek
+    (λ c. search needs) (λ c. search needs) part-seek-end-2 seek-requires move-down-requires add-to add-from
     (λ c. omega arith) (λ c. omega arith) part-put-bytes-end put-bytes-requires add-to-2 add-to-3 loop-less loop-again
     same-length returns)

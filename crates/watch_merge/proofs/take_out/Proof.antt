@@ -6,7 +6,7 @@ use borrow.Author.Needs.{needs}
 use mathlib.Core.Path.{_∙_}
 use lib.ListN.{length}
 use Rattle.watch_topics.proofs.WalkLaws.{entry-two}
-use Rattle.watch_merge.proofs.TakeLaws.{Left, take-start, part-whole, gone-fits, place-room, take-room, take-next, take-end}
+use Rattle.watch_merge.proofs.TakeLaws.{Left, take-start, part-whole, part-rises, gone-fits, place-room, take-room, take-next, take-end}
 use Rattle.watch_merge.proofs.take_out.Statement.{statement}
 use Rattle.watch_merge.proofs.take_out.Tie as tie
 
@@ -23,21 +23,21 @@ fits-here r =
     let l = r .before .before in
     gone-fits (l .loop .inv) (r .before .loop-test .taken) (r .read-u16 .result) (r .read-u16 .ensures)
 
-room-here : (q : tie.After-find Inv-loop μ-loop) → let l = q .before .before .before .before .before .before in
-    l .loop .from + q .find .result .at ≤ length (l .before .before .before .args .b .now)
+room-here : (q : tie.After-seek Inv-loop μ-loop) → let l = q .before .before .before .before .before .before in
+    l .loop .from + q .seek .result .at ≤ length (l .before .before .before .args .b .now)
 room-here q =
     let r = q .before .before .before .before in
     let l = r .before .before in
-    place-room (l .loop .inv) (r .before .loop-test .taken) (r .read-u16 .result) (r .read-u16 .ensures) (q .find .result) (q .find .ensures)
+    place-room (l .loop .inv) (r .before .loop-test .taken) (r .read-u16 .result) (r .read-u16 .ensures) (q .seek .result) (q .seek .ensures)
 
 rest-here : (k : tie.After-skip Inv-loop μ-loop) → let q = k .before .before .before .before .before .before .before in
     let l = q .before .before .before .before .before .before in
-    l .loop .from + q .find .result .at + k .skip .result ≤ length (l .before .before .before .args .b .now)
+    l .loop .from + q .seek .result .at + k .skip .result ≤ length (l .before .before .before .args .b .now)
 rest-here k =
     let q = k .before .before .before .before .before .before .before in
     let r = q .before .before .before .before in
     let l = r .before .before in
-    take-room (l .loop .inv) (r .before .loop-test .taken) (r .read-u16 .result) (r .read-u16 .ensures) (q .find .result) (q .find .ensures)
+    take-room (l .loop .inv) (r .before .loop-test .taken) (r .read-u16 .result) (r .read-u16 .ensures) (q .seek .result) (q .seek .ensures)
     (k .skip .result) (k .skip .ensures)
 
 loop-holds : tie.Need-loop-holds Inv-loop μ-loop
@@ -59,24 +59,26 @@ add-end c = omega (arith, fits-here c)
 add-end-2 : tie.Need-add-end-2 Inv-loop μ-loop
 add-end-2 c = omega (arith, fits-here c)
 
-sub-find : tie.Need-sub-find Inv-loop μ-loop
-sub-find c =
+sub-seek : tie.Need-sub-seek Inv-loop μ-loop
+sub-seek c =
     let v = c .before .before .loop .inv in
     omega (arith, v .within, v .long)
 
-part-find-start : tie.Need-part-find-start Inv-loop μ-loop
-part-find-start c =
+part-seek-start : tie.Need-part-seek-start Inv-loop μ-loop
+part-seek-start c =
     let v = c .before .before .before .loop .inv in
     omega (arith, v .within, v .long)
 
-add-find : tie.Need-add-find Inv-loop μ-loop
-add-find c = omega (arith, fits-here (c .before .before))
+add-seek : tie.Need-add-seek Inv-loop μ-loop
+add-seek c = omega (arith, fits-here (c .before .before))
 
-part-find-end-2 : tie.Need-part-find-end-2 Inv-loop μ-loop
-part-find-end-2 c = omega (arith, fits-here (c .before .before))
+part-seek-end-2 : tie.Need-part-seek-end-2 Inv-loop μ-loop
+part-seek-end-2 c = omega (arith, fits-here (c .before .before))
 
-find-requires : tie.Need-find-requires Inv-loop μ-loop
-find-requires c κs = part-whole (c .before .before .before .before .before .loop .inv)
+seek-requires : tie.Need-seek-requires Inv-loop μ-loop
+seek-requires c κs =
+    let v = c .before .before .before .before .before .loop .inv in
+    (part-whole v, part-rises v)
 
 move-down-requires : tie.Need-move-down-requires Inv-loop μ-loop
 move-down-requires c κs =
@@ -106,7 +108,7 @@ loop-again c =
     let r = q .before .before .before .before in
     let l = r .before .before in
     let d = c .before .before .before .before .before .move-down in
-    take-next (l .loop .inv) (r .before .loop-test .taken) (r .read-u16 .result) (r .read-u16 .ensures) (q .find .result) (q .find .ensures)
+    take-next (l .loop .inv) (r .before .loop-test .taken) (r .read-u16 .result) (r .read-u16 .ensures) (q .seek .result) (q .seek .ensures)
     (c .skip .result) (c .skip .ensures) (d .last .0) (d .ensures) (d .kept .0)
 
 sub-rest : tie.Need-sub-rest Inv-loop μ-loop
@@ -138,7 +140,7 @@ pub take-out-spec : {M : Type 1} → statement M
 take-out-spec =
     tie.close
     (tie.spec Inv-loop μ-loop loop-holds read-u16-requires
-    (λ c. search needs) add-end add-end-2 sub-find part-find-start
-    (λ c. search needs) add-find
-    (λ c. search needs) (λ c. search needs) part-find-end-2 find-requires move-down-requires add-to add-from add-skip
+    (λ c. search needs) add-end add-end-2 sub-seek part-seek-start
+    (λ c. search needs) add-seek
+    (λ c. search needs) (λ c. search needs) part-seek-end-2 seek-requires move-down-requires add-to add-from add-skip
     (λ c κs. search needs) add-from-2 loop-less loop-again sub-rest move-down-requires-2 add-result same-length returns)

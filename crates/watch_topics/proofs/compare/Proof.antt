@@ -20,23 +20,28 @@ abbrev μ-loop : tie.MeasureT-loop
 returns : tie.Need-returns Inv-loop μ-loop
 returns c = c .compare-bytes .ensures
 
+alike-requires : tie.Need-alike-requires Inv-loop μ-loop
+alike-requires c κs =
+    let m = c .before .shorter .ensures in
+    (omega (arith, c .if1 .left, m .first), omega (arith, c .if1 .left, m .second))
+
 loop-holds : tie.Need-loop-holds Inv-loop μ-loop
-loop-holds c = (omega arith, refl)
+loop-holds c = (omega (arith, c .alike .ensures .0), c .alike .ensures .1)
 
 sub-loop : tie.Need-sub-loop Inv-loop μ-loop
 sub-loop c = omega (arith, c .loop .inv .0)
 
 read-u64-requires : tie.Need-read-u64-requires Inv-loop μ-loop
-read-u64-requires c κs = omega (arith, c .before .loop .inv .0, c .before .before .before .shorter .ensures .first)
+read-u64-requires c κs = omega (arith, c .before .loop .inv .0, c .before .before .before .before .shorter .ensures .first)
 
 read-u64-requires-2 : tie.Need-read-u64-requires-2 Inv-loop μ-loop
-read-u64-requires-2 c κs = omega (arith, c .before .before .loop .inv .0, c .before .before .before .before .shorter .ensures .second)
+read-u64-requires-2 c κs = omega (arith, c .before .before .loop .inv .0, c .before .before .before .before .before .shorter .ensures .second)
 
 returns-2 : tie.Need-returns-2 Inv-loop μ-loop
 returns-2 c =
     let r = c .before .before in
     let l = r .before .before .before in
-    let h = l .before .before in
+    let h = l .before .before .before in
     let k = h .before in
     let a = k .before .before .args in
     let i = l .loop .i in
@@ -53,7 +58,7 @@ returns-3 : tie.Need-returns-3 Inv-loop μ-loop
 returns-3 c =
     let r = c .before .before in
     let l = r .before .before .before in
-    let h = l .before .before in
+    let h = l .before .before .before in
     let k = h .before in
     let a = k .before .before .args in
     let i = l .loop .i in
@@ -77,7 +82,7 @@ loop-again : tie.Need-loop-again Inv-loop μ-loop
 loop-again c =
     let r = c .before in
     let l = r .before .before .before in
-    let h = l .before .before in
+    let h = l .before .before .before in
     let k = h .before in
     let a = k .before .before .args in
     let i = l .loop .i in
@@ -94,10 +99,10 @@ loop-again c =
 compare-end-requires : tie.Need-compare-end-requires Inv-loop μ-loop
 compare-end-requires c κs =
     let l = c .before in
-    let h = l .before .before in
+    let h = l .before .before .before in
     let a = h .before .before .before .args in
     let n = h .shorter .result in
-    let w = l .before .if1 .left in (
+    let w = l .before .before .if1 .left in (
       ((omega (arith, w)), h .shorter .ensures),
       front-part (a .a .now) (a .b .now) (l .loop .i) (n - 8) (omega (arith, l .loop .inv .0))
           (l .loop .inv .1),
@@ -110,5 +115,5 @@ pub compare-spec : {M : Type 1} → statement M
 compare-spec =
     tie.close
     (tie.spec Inv-loop μ-loop
-    (λ c κs. search needs) (λ c κs. search needs) returns loop-holds sub-loop read-u64-requires read-u64-requires-2
+    (λ c κs. search needs) (λ c κs. search needs) returns alike-requires loop-holds sub-loop read-u64-requires read-u64-requires-2
     returns-2 returns-3 add-i loop-less loop-again compare-end-requires returns-4)

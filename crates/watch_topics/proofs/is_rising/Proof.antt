@@ -75,14 +75,14 @@ read-u16-requires-2 c κs =
 add-next : tie.Need-add-next Inv-loop μ-loop
 add-next c = omega (arith, next-here c)
 
-part-is-before-end : tie.Need-part-is-before-end Inv-loop μ-loop
-part-is-before-end c = omega (arith, fits-here (c .before .before))
+part-is-before-next-end : tie.Need-part-is-before-next-end Inv-loop μ-loop
+part-is-before-next-end c = omega (arith, fits-here (c .before .before))
 
-add-is-before : tie.Need-add-is-before Inv-loop μ-loop
-add-is-before c = omega (arith, next-here (c .before))
+add-is-before-next : tie.Need-add-is-before-next Inv-loop μ-loop
+add-is-before-next c = omega (arith, next-here (c .before))
 
-part-is-before-end-2 : tie.Need-part-is-before-end-2 Inv-loop μ-loop
-part-is-before-end-2 c = omega (arith, next-here (c .before))
+part-is-before-next-end-2 : tie.Need-part-is-before-next-end-2 Inv-loop μ-loop
+part-is-before-next-end-2 c = omega (arith, next-here (c .before))
 
 returns : tie.Need-returns Inv-loop μ-loop
 returns c =
@@ -91,7 +91,7 @@ returns c =
     let s = l .before .before .args .s .now in
     let at = l .loop .at in
     let q = c .before .before .before .before in
-    let u = c .before .is-before in
+    let u = c .before .is-before-next in
     sym (l .loop .inv .alike
     ∙ rising-not s at (r .read-u16 .result) (r .before .loop-test .taken) (r .read-u16 .ensures)
     (q .read-u162 .result) (q .before .if1 .taken) (q .read-u162 .ensures) (u .result) (u .ensures) (not-true _ (c .if2 .taken)))
@@ -106,7 +106,7 @@ loop-again c =
     let s = l .before .before .args .s .now in
     let at = l .loop .at in
     let q = c .before .before .before .before in
-    let u = c .before .is-before in
+    let u = c .before .is-before-next in
     record {
       within = fits-here r;
       whole = rest-here r;
@@ -142,6 +142,6 @@ is-rising-spec =
     (tie.spec Inv-loop μ-loop loop-holds read-u16-requires
     (λ c. search needs) add-from add-end read-u16-requires-2
     (λ c. search needs) add-next
-    (λ c. search needs) (λ c. search needs) part-is-before-end add-is-before
-    (λ c. search needs) (λ c. search needs) part-is-before-end-2
+    (λ c. search needs) (λ c. search needs) part-is-before-next-end add-is-before-next
+    (λ c. search needs) (λ c. search needs) part-is-before-next-end-2
     (λ c κs. search needs) returns loop-less loop-again loop-less-2 loop-again-2 returns-2)
