@@ -1,5 +1,5 @@
--- Bytes moved within a list, k at a time: down from the first (`down-..`), up from the last (`up-..`); a byte and a word as such k bytes (`one-byte`,
--- `one-word`); and what writes leave (`take-before`, `drop-behind`, `put-same`, `put-over`).
+-- Bytes moved within a list, k at a time: down from the first (`down-..`), up from the last (`up-..`); a byte, a word and four of them as such k bytes (`one-byte`,
+-- `one-word`, `four-words`); and what writes leave (`take-before`, `drop-behind`, `put-same`, `put-over`).
 -- Assumes nothing.
 use Prim.Native.Nat.{ℕ, _+_, _-_, _≤_, _<_}
 use native.Mathlib.Omega.{arith}
@@ -56,10 +56,42 @@ put-over o i W X h k = ap (λ (l : List ℕ). X ++ l) (drop-behind o i W (0 + le
 pub one-byte : (b : List ℕ) (p q : ℕ) → p < length b → q < length b → set b q (getD b p 0) ≡ put b q (take 1 (drop p b))
 one-byte b p q h k = put-one b q (getD b p 0) k ∙ ap (λ (l : List ℕ). put b q (take 1 l)) (sym (drop-cons b p 0 h))
 
+-- a word of other bytes
+one-word-in : (b o : List ℕ) (p q : ℕ) → Bytes b → p + 8 ≤ length b → put o q (bytesOf 8 (beAt 8 b p)) ≡ put o q (take 8 (drop p b))
+unfolding beAt
+one-word-in b o p q f h = ap (put o q) (bytesOf-front 8 (drop p b) (rw length-drop (omega arith)) (Bytes-drop p b f))
+
 -- a word of w bytes
 pub one-word : (w : ℕ) (b : List ℕ) (p q : ℕ) → Bytes b → p + w ≤ length b → put b q (bytesOf w (beAt w b p)) ≡ put b q (take w (drop p b))
 unfolding beAt
 one-word w b p q f h = ap (put b q) (bytesOf-front w (drop p b) (rw length-drop (omega arith)) (Bytes-drop p b f))
+
+-- a word behind n bytes that were written
+word-next : (b : List ℕ) (p q n : ℕ) → Bytes b → p + n + 8 ≤ length b → q + n + 8 ≤ length b
+    → put (put b q (take n (drop p b))) (q + n) (bytesOf 8 (beAt 8 b (p + n))) ≡ put b q (take (n + 8) (drop p b))
+word-next b p q n f h k =
+    let W : List ℕ = take n (drop p b) in
+    let X : List ℕ = take 8 (drop (p + n) b) in
+    let lw : length W ≡ n = length-take-le n (drop p b) (rw length-drop (omega arith)) in
+    let lx : length X ≡ 8 = length-take-le 8 (drop (p + n) b) (rw length-drop (omega arith)) in
+    let more : W ++ X ≡ take (n + 8) (drop p b) = ap (λ (y : List ℕ). W ++ take 8 y) (sym (drop-drop n p b)) ∙ sym (take-add n 8 (drop p b)) in
+    one-word-in b (put b q W) (p + n) (q + n) f h
+    ∙ ap (λ (m : ℕ). put (put b q W) (q + m) X) (sym lw)
+    ∙ put-after b q W X (omega arith)
+    ∙ ap (put b q) more
+
+-- four words
+pub four-words : (b : List ℕ) (p q : ℕ) → Bytes b → p + 32 ≤ length b → q + 32 ≤ length b
+    → put (put (put (put b q (bytesOf 8 (beAt 8 b p))) (q + 8) (bytesOf 8 (beAt 8 b (p + 8)))) (q + 16) (bytesOf 8 (beAt 8 b (p + 16)))) (q + 24)
+    (bytesOf 8 (beAt 8 b (p + 24)))
+    ≡ put b q (take 32 (drop p b))
+four-words b p q f h k =
+    rw (
+      one-word 8 b p q f (omega arith),
+      word-next b p q 8 f (omega arith) (omega arith),
+      word-next b p q 16 f (omega arith) (omega arith),
+      word-next b p q 24 f (omega arith) (omega arith),
+    )
 
 -- ---- down
 

@@ -1,4 +1,4 @@
--- `moves::move_down` meets its contract: the bytes that the words leave are moved next (proofs/MoveLaws).
+-- `moves::move_down` meets its contract: the bytes that the blocks leave are moved next (proofs/MoveLaws).
 -- Assumes nothing.
 use borrow.Author.Needs.{needs}
 use mathlib.Core.Path.{_∙_}
@@ -12,8 +12,8 @@ returns c =
     let w = m .before .before .before .before in
     let s = w .before .before .before in
     let a = s .args in
-    m .lower-bytes .ensures
-    ∙ down-rest (a .b .now) (a .from) (a .to) (a .z) (w .lower-words .last .0) (w .lower-words .result) (w .lower-words .ensures) (s .pre .0) (s .pre .1)
+    m .lower-rest .ensures
+    ∙ down-rest (a .b .now) (a .from) (a .to) (a .z) (w .lower-blocks .last .0) (w .lower-blocks .result) (w .lower-blocks .ensures) (s .pre .0) (s .pre .1)
 
 pub move-down-spec : {M : Type 1} → statement M
 move-down-spec =

@@ -1,4 +1,4 @@
--- `moves::move_up` meets its contract: the bytes that the words leave are moved next (proofs/MoveLaws).
+-- `moves::move_up` meets its contract: the bytes that the blocks leave are moved next (proofs/MoveLaws).
 -- Assumes nothing.
 use borrow.Author.Needs.{needs}
 use mathlib.Core.Path.{_∙_}
@@ -12,8 +12,8 @@ returns c =
     let w = m .before .before .before .before in
     let s = w .before .before .before in
     let a = s .args in
-    m .raise-bytes .ensures
-    ∙ up-rest (a .b .now) (a .from) (a .to) (a .z) (w .raise-words .last .0) (w .raise-words .result) (w .raise-words .ensures) (s .pre .1)
+    m .raise-rest .ensures
+    ∙ up-rest (a .b .now) (a .from) (a .to) (a .z) (w .raise-blocks .last .0) (w .raise-blocks .result) (w .raise-blocks .ensures) (s .pre .1)
 
 pub move-up-spec : {M : Type 1} → statement M
 move-up-spec = tie.close (tie.spec (λ c κs. search needs) (λ c κs. search needs) (λ c. search needs) returns)
