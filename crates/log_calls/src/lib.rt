@@ -12,6 +12,7 @@ use log_text::text;
 // The most bytes that a word may stand for: those of `io::large_buffer`.
 const MAX_BYTES: usize = 65536;
 
+// A call of the session.
 pub enum CallName {
     Open,
     Update,
@@ -19,10 +20,12 @@ pub enum CallName {
     Drain,
     Begin,
     Invalidate,
+    // The session that was saved last.
+    Restore,
 }
 
-pub enum Line {
-    Call(CallName),
+// A line that asks and changes nothing.
+pub enum Question {
     // Which segment of the list that is held takes a key.
     Segment,
     // A key that falls in a segment of that list.
@@ -39,10 +42,13 @@ pub enum Line {
     CheckLog,
     // What the outer message of a connection carries.
     Command,
+}
+
+pub enum Line {
+    Call(CallName),
+    Question(Question),
     // The session kept.
     Save,
-    // The session that was saved last.
-    Restore,
     // It is no call, and why was written.
     Damaged,
 }
@@ -139,16 +145,16 @@ fn line_at(place: usize) -> Line {
         3 => Line::Call(CallName::Drain),
         4 => Line::Call(CallName::Begin),
         5 => Line::Call(CallName::Invalidate),
-        6 => Line::Segment,
-        7 => Line::Key,
-        8 => Line::Charge,
-        9 => Line::Churn,
-        10 => Line::IsOpen,
-        11 => Line::EarliestOpen,
-        12 => Line::CheckLog,
-        13 => Line::Command,
+        6 => Line::Question(Question::Segment),
+        7 => Line::Question(Question::Key),
+        8 => Line::Question(Question::Charge),
+        9 => Line::Question(Question::Churn),
+        10 => Line::Question(Question::IsOpen),
+        11 => Line::Question(Question::EarliestOpen),
+        12 => Line::Question(Question::CheckLog),
+        13 => Line::Question(Question::Command),
         14 => Line::Save,
-        15 => Line::Restore,
+        15 => Line::Call(CallName::Restore),
         _ => Line::Damaged,
     }
 }

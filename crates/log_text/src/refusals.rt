@@ -54,8 +54,8 @@ pub fn refused_reply(r: Reply) {
     values(r, true);
 }
 
-// `refused N NAME V1 V2 ..`
-pub fn refused(x: Refusal) {
+// `refused N NAME V1 V2 ..`. Answers true: it is a refusal.
+pub fn refused(x: Refusal) -> bool {
     let r = export_reply::refused(x);
     labelled(b"refused ", r.number as u64);
     space();
@@ -65,4 +65,5 @@ pub fn refused(x: Refusal) {
         _ => named(r.number as usize),
     }
     values(r, true);
+    true
 }

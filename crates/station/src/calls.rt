@@ -1,10 +1,7 @@
 // The calls of a line that was tested, run on the session.
 use export_record::Record;
 use export_record::SessionReply;
-use libc::STDOUT_FILENO;
 use log_calls::CallName;
-use log_text::quoted;
-use log_text::text;
 use types::ControllerIncarnation;
 use types::ScalableConsumerType;
 
@@ -49,57 +46,31 @@ fn open(line: &[u8], store: &mut [u8]) -> SessionReply {
     export_record::open_reply(answer, opened.next)
 }
 
-// update INCARNATION MESSAGE
-fn update(r: Record, line: &[u8], store: &mut [u8], out: &mut [u8]) -> SessionReply {
-    let mut message = io::large_buffer();
-    let n = log_lines::bytes_at(line, 2, &mut message);
-    export_session::updated(r, store, &message[..n], log_lines::number_at(line, 1), out)
-}
-
-// response INCARNATION MESSAGE
-fn response(r: Record, line: &[u8], store: &mut [u8]) -> SessionReply {
-    let mut message = io::large_buffer();
-    let n = log_lines::bytes_at(line, 2, &mut message);
-    export_session::responded(r, store, &message[..n], log_lines::number_at(line, 1))
-}
-
-// drain READER
-fn drain(r: Record, line: &[u8], store: &[u8], out: &mut [u8]) -> SessionReply {
-    export_session::drained(r, store, log_lines::number_at(line, 1) as usize, out)
-}
-
-// The call of a line, by the function to which the exported call hands on.
-pub fn call(
-    r: Record,
-    name: CallName,
-    line: &[u8],
-    store: &mut [u8],
-    out: &mut [u8],
-) -> SessionReply {
-    match name {
-        CallName::Open => opened(r, open(line, store)),
-        CallName::Update => update(r, line, store, out),
-        CallName::Response => response(r, line, store),
-        CallName::Drain => drain(r, line, store, out),
-        CallName::Begin => export_session::begun(r, log_lines::number_at(line, 1)),
-        CallName::Invalidate => export_session::invalidated(r),
-    }
-}
-
 // The session that was saved; a refusal leaves the one that is open.
-pub fn restored(r: Record, bytes: &[u8], store: &mut [u8]) -> SessionReply {
+fn restored(r: Record, bytes: &[u8], store: &mut [u8]) -> SessionReply {
     let restored = session_saved::restore(bytes, store);
     let answer = restored.answer;
     opened(r, export_record::open_reply(answer, restored.next))
 }
 
-// The broker's text in the message of a response.
-pub fn show_broker_text(line: &[u8], store: &[u8]) {
-    let mut message = io::large_buffer();
-    let n = log_lines::bytes_at(line, 2, &mut message);
-    text(b" text ");
-    quoted(
-        STDOUT_FILENO,
-        session_response::broker_text(&message[..n], store),
-    );
+// The call of a line, by the function to which the exported call hands on. Its message is that of an update or a response; `kept` is what was saved last.
+pub fn call(
+    r: Record,
+    name: CallName,
+    line: &[u8],
+    message: &[u8],
+    store: &mut [u8],
+    kept: &[u8],
+    out: &mut [u8],
+) -> SessionReply {
+    let n = log_lines::number_at(line, 1);
+    match name {
+        CallName::Open => opened(r, open(line, store)),
+        CallName::Update => export_session::updated(r, store, message, n, out),
+        CallName::Response => export_session::responded(r, store, message, n),
+        CallName::Drain => export_session::drained(r, store, n as usize, out),
+        CallName::Begin => export_session::begun(r, n),
+        CallName::Invalidate => export_session::invalidated(r),
+        CallName::Restore => restored(r, kept, store),
+    }
 }

@@ -2,20 +2,26 @@
 //
 // The input is read into a buffer. The lines that are whole are run, and what is left moves to the front. A line that fills the buffer is dropped as it comes,
 // and is damaged at its end.
-ghost use Prim.Native.Nat.{_+_, _≤_};
+ghost use Prim.Native.Nat.{_+_, _≤_, _<_};
 ghost use lib.ListN.{length};
 use crate::arguments::Options;
 use crate::step;
 use crate::step::Run;
 use libc::STDIN_FILENO;
 
-// The bytes of the buffer: a line has to be shorter. Any whose words stand for at most 65,536 bytes each is.
-const BUFFER: usize = 524288;
-
 // The run with so many bytes left to be run.
 fn with_waiting(run: Run, n: usize) -> Run {
     let mut next = run;
     next.waiting = n;
+    next
+}
+
+// The run, which is over at the end of the input.
+fn with_end(run: Run, is_last: bool) -> Run {
+    let mut next = run;
+    if is_last {
+        next.is_over = true;
+    }
     next
 }
 
@@ -45,25 +51,6 @@ fn run_lines(
     with_waiting(next, 0)
 }
 
-// Runs the last line, which no line break ends.
-fn run_last(
-    options: Options,
-    run: Run,
-    line: &[u8],
-    store: &mut [u8],
-    window: &mut [u8],
-    kept: &mut [u8],
-) -> Run {
-    let mut next = run;
-    if 0 < line.len() {
-        next = step::run_line(options, run, line, store, window, kept);
-    } else if run.is_cut {
-        next = step::run_line(options, run, line, store, window, kept);
-    }
-    next.is_over = true;
-    next
-}
-
 // Moves the n bytes from a place on to the front.
 fn move_down(buffer: &mut [u8], from: usize, n: usize)
     requires { ⌜ from + n ≤ length (now buffer) ⌝ }
@@ -88,6 +75,38 @@ fn read_behind(buffer: &mut [u8], n: usize) -> usize
     io::count(got, &buffer[n..])
 }
 
+// What is to be run: so many bytes at the front of the buffer, with which the input ends or not.
+struct Filled {
+    end: usize,
+    is_last: bool,
+}
+
+// Reads once, behind the first n bytes. At the end of the input it ends the last line, which no line break ends: there is one where bytes wait, or
+// where its front was dropped.
+fn fill(buffer: &mut [u8], n: usize, is_cut: bool) -> Filled
+    requires { ⌜ n < length (now buffer) ⌝ }
+    ensures { λ r. ⌜ r .end ≤ length (now (buffer .entry)) ⌝ }
+{
+    let got = read_behind(buffer, n);
+    if 0 < got {
+        return Filled {
+            end: n + got,
+            is_last: false,
+        };
+    }
+    if n == 0 && !is_cut {
+        return Filled {
+            end: 0,
+            is_last: true,
+        };
+    }
+    buffer[n] = b'\n';
+    Filled {
+        end: n + 1,
+        is_last: true,
+    }
+}
+
 // Reads once, behind the bytes that wait, and runs the lines that are whole. Where the bytes that wait fill the buffer they are dropped.
 fn read_and_run(
     options: Options,
@@ -99,15 +118,16 @@ fn read_and_run(
 ) -> Run {
     let waiting = run.waiting;
     if buffer.len() <= waiting {
-        let mut next = with_waiting(run, 0);
-        next.is_cut = true;
-        return next;
+        let mut cut = with_waiting(run, 0);
+        cut.is_cut = true;
+        return cut;
     }
-    let end = waiting + read_behind(buffer, waiting);
-    if end == waiting {
-        return run_last(options, run, &buffer[..waiting], store, window, kept);
-    }
-    let next = run_lines(options, run, &buffer[..end], store, window, kept);
+    let filled = fill(buffer, waiting, run.is_cut);
+    let end = filled.end;
+    let next = with_end(
+        run_lines(options, run, &buffer[..end], store, window, kept),
+        filled.is_last,
+    );
     let left = next.waiting;
     if left <= end {
         move_down(buffer, end - left, left);
@@ -135,9 +155,10 @@ fn run_input(
     run
 }
 
-fn run_over(
+// Runs the log in standard input by a buffer on a store, with a window of lost counts and a buffer for a saved session beside it.
+pub fn run_log(
     options: Options,
-    buffer: &mut [u8; BUFFER],
+    buffer: &mut [u8],
     store: &mut [u8],
     window: &mut [u8],
     kept: &mut [u8],
@@ -145,10 +166,4 @@ fn run_over(
     if !step::show_sum(run_input(options, buffer, store, window, kept)) {
         os::fail(b"standard output");
     }
-}
-
-// Runs the log in standard input on a store, with a window of lost counts and a buffer for a saved session beside it.
-pub fn run_log(options: Options, store: &mut [u8], window: &mut [u8], kept: &mut [u8]) {
-    let mut buffer = [0u8; BUFFER];
-    run_over(options, &mut buffer, store, window, kept);
 }

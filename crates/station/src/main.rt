@@ -28,9 +28,7 @@ mod arguments;
 mod calls;
 mod help;
 mod input;
-mod questions;
 mod report;
-mod segments;
 mod step;
 mod window;
 
@@ -40,9 +38,17 @@ const STORE: usize = 2103296;
 // The bytes of a session of that store, saved.
 const KEPT: usize = STORE + session_saved::FRAME;
 
-// Does what the program's arguments ask: runs the log in standard input on a store, with a window of lost counts and a buffer for a saved session
-// beside it, or shows the help page.
-fn start(store: &mut [u8; STORE], window: &mut [u8; churn::WINDOW], kept: &mut [u8; KEPT]) {
+// The bytes of the buffer of the input: a line has to be shorter. Any whose words stand for at most 65,536 bytes each is.
+const BUFFER: usize = 524288;
+
+// Does what the program's arguments ask: runs the log in standard input by a buffer on a store, with a window of lost counts and a buffer for a saved
+// session beside it, or shows the help page.
+fn start(
+    buffer: &mut [u8; BUFFER],
+    store: &mut [u8; STORE],
+    window: &mut [u8; churn::WINDOW],
+    kept: &mut [u8; KEPT],
+) {
     let options = arguments::given();
     if options.is_wrong {
         return;
@@ -51,12 +57,13 @@ fn start(store: &mut [u8; STORE], window: &mut [u8; churn::WINDOW], kept: &mut [
         help::show();
         return;
     }
-    input::run_log(options, store, window, kept);
+    input::run_log(options, buffer, store, window, kept);
 }
 
 fn main() {
+    let mut buffer = [0u8; BUFFER];
     let mut store = [0u8; STORE];
     let mut window = [0u8; churn::WINDOW];
     let mut kept = [0u8; KEPT];
-    start(&mut store, &mut window, &mut kept);
+    start(&mut buffer, &mut store, &mut window, &mut kept);
 }

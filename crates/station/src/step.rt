@@ -3,30 +3,21 @@
 // The functions promise only what keeps them in bounds: what is read and what is written is not proved.
 use crate::arguments::Options;
 use crate::calls;
-use crate::questions;
 use crate::report;
-use crate::segments;
 use crate::window;
-use attach_entries::LogAnswer;
-use charge::ChargeAnswer;
-use churn::ChurnAnswer;
 use export_record::Record;
 use export_record::SessionReply;
 use export_reply::Reply;
-use hours::EarliestAnswer;
-use hours::OpenAnswer;
-use key_in_segment::KeyAnswer;
-use key_lookup::SegmentAnswer;
 use libc::STDOUT_FILENO;
 use log_calls::CallName;
 use log_calls::Line;
+use log_calls::Question;
 use log_text::decimal;
 use log_text::labelled;
 use log_text::newline;
 use log_text::space;
 use log_text::text;
 use output::WriteAnswer;
-use wire_command::Command;
 
 // What a run has come to.
 pub struct Run {
@@ -116,22 +107,30 @@ fn show_details(options: Options, run: Run, told: Reply, store: &[u8], window: &
     }
 }
 
-// Shows the line's number and its first word, the call's name.
-fn show_name(at: u64, line: &[u8]) {
-    decimal(at);
-    space();
-    text(log_lines::word(line, 0));
-    space();
-}
-
-// Shows a call's name and its answer.
-fn show_call(at: u64, told: Reply, line: &[u8], store: &[u8], out: &[u8]) {
-    show_name(at, line);
-    report::show_answer(told, line, store, out);
+// Runs a call and shows what it gives; of an update or a response with its message.
+fn run_message(
+    options: Options,
+    run: Run,
+    name: CallName,
+    line: &[u8],
+    message: &[u8],
+    store: &mut [u8],
+    window: &mut [u8],
+    kept: &[u8],
+) -> Run {
+    let mut out = [0u8; packed_diff::LONGEST];
+    let record = run.record;
+    let changed = calls::call(record, name, line, message, store, kept, &mut out);
+    let told = changed.reply;
+    window::after(name, record, changed, &out, window);
+    report::show_answer(told, message, store, &out);
     newline();
+    let next = settled(run, changed);
+    show_details(options, next, told, store, window, &out);
+    next
 }
 
-// Runs a call and shows what it gives.
+// Runs a call. Its third word stands for the message, where it has one.
 fn run_call(
     options: Options,
     run: Run,
@@ -139,137 +138,38 @@ fn run_call(
     line: &[u8],
     store: &mut [u8],
     window: &mut [u8],
+    kept: &[u8],
 ) -> Run {
-    let mut out = [0u8; packed_diff::LONGEST];
-    let record = run.record;
-    let changed = calls::call(record, name, line, store, &mut out);
-    let told = changed.reply;
-    window::after(name, record, changed, &out, window);
-    show_call(run.line, told, line, store, &out);
-    let next = settled(run, changed);
-    show_details(options, next, told, store, window, &out);
-    next
-}
-
-// Shows which segment of the list that is held takes the key of a line. Nothing is changed but the counts.
-fn run_segment(run: Run, line: &[u8], store: &[u8]) -> Run {
-    let record = run.record;
-    let answer = segments::segment(record.registered != 0, line, store);
-    show_name(run.line, line);
-    report::show_segment(answer);
-    newline();
-    if let SegmentAnswer::Refused(_) = answer {
-        counted(run, true)
-    } else {
-        counted(run, false)
-    }
-}
-
-// Shows a key that falls in the segment of a line. Nothing is changed but the counts.
-fn run_key(run: Run, line: &[u8], store: &[u8]) -> Run {
-    let record = run.record;
-    let answer = segments::key(record.registered != 0, line, store);
-    show_name(run.line, line);
-    report::show_key(answer);
-    newline();
-    if let KeyAnswer::Refused(_) = answer {
-        counted(run, true)
-    } else {
-        counted(run, false)
-    }
-}
-
-// Shows what the holding of a line costs. Nothing is changed but the counts.
-fn run_charge(run: Run, line: &[u8]) -> Run {
-    let answer = questions::charge(line);
-    show_name(run.line, line);
-    report::show_charge(answer);
-    newline();
-    if let ChargeAnswer::Refused(_) = answer {
-        counted(run, true)
-    } else {
-        counted(run, false)
-    }
-}
-
-// Shows sum and largest of the lost counts. Nothing is changed but the counts of calls.
-fn run_churn(run: Run, line: &[u8], window: &[u8]) -> Run {
-    let answer = churn::current(window);
-    show_name(run.line, line);
-    report::show_churn(answer);
-    newline();
-    if let ChurnAnswer::Refused(_) = answer {
-        counted(run, true)
-    } else {
-        counted(run, false)
-    }
-}
-
-// Shows whether the second of a line is open by its contract. Nothing is changed but the counts.
-fn run_is_open(run: Run, line: &[u8]) -> Run {
-    let answer = questions::is_open(line);
-    show_name(run.line, line);
-    report::show_open(answer);
-    newline();
-    if let OpenAnswer::Refused(_) = answer {
-        counted(run, true)
-    } else {
-        counted(run, false)
-    }
-}
-
-// Shows the earliest open second not before that of a line. Nothing is changed but the counts.
-fn run_earliest_open(run: Run, line: &[u8]) -> Run {
-    let answer = questions::earliest_open(line);
-    show_name(run.line, line);
-    report::show_earliest(answer);
-    newline();
-    if let EarliestAnswer::Refused(_) = answer {
-        counted(run, true)
-    } else {
-        counted(run, false)
-    }
-}
-
-// Shows whether the log of a line is what its deltas ask for. Nothing is changed but the counts.
-fn run_check_log(run: Run, line: &[u8]) -> Run {
-    let answer = questions::check_log(line);
-    show_name(run.line, line);
-    report::show_log(answer);
-    newline();
-    if let LogAnswer::Refused(_) = answer {
-        counted(run, true)
-    } else {
-        counted(run, false)
-    }
-}
-
-// Shows what the command of a line carries. Nothing is changed but the counts.
-fn run_command(run: Run, line: &[u8]) -> Run {
-    let answer = questions::carried(line);
-    show_name(run.line, line);
-    report::show_command(answer);
-    newline();
-    if let Command::Refused(_) = answer {
-        counted(run, true)
-    } else {
-        counted(run, false)
-    }
+    let mut message = io::large_buffer();
+    let n = log_lines::bytes_at(line, 2, &mut message);
+    run_message(
+        options,
+        run,
+        name,
+        line,
+        &message[..n],
+        store,
+        window,
+        front(kept, run.kept),
+    )
 }
 
 // Saves the session, in place of the one that was saved before.
-fn run_save(run: Run, line: &[u8], store: &[u8], kept: &mut [u8]) -> Run {
+fn run_save(run: Run, store: &[u8], kept: &mut [u8]) -> Run {
     let record = run.record;
-    let answer = session_saved::save(export_record::record_of(record), store, kept);
-    show_name(run.line, line);
-    report::show_saved(answer);
-    newline();
-    if let WriteAnswer::Written(n) = answer {
-        let mut next = run;
-        next.kept = n;
-        counted(next, false)
-    } else {
-        counted(run, true)
+    match session_saved::save(export_record::record_of(record), store, kept) {
+        WriteAnswer::Written(n) => {
+            labelled(b"saved ", n as u64);
+            newline();
+            let mut next = run;
+            next.kept = n;
+            counted(next, false)
+        }
+        WriteAnswer::Refused(x) => {
+            log_text::refused(x);
+            newline();
+            counted(run, true)
+        }
     }
 }
 
@@ -278,22 +178,17 @@ fn front(s: &[u8], n: usize) -> &[u8] {
     if n <= s.len() { &s[..n] } else { s }
 }
 
-// Takes the session back that was saved last. It has no lost counts.
-fn run_restore(
-    options: Options,
-    run: Run,
-    line: &[u8],
-    store: &mut [u8],
-    window: &mut [u8],
-    kept: &[u8],
-) -> Run {
-    let changed = calls::restored(run.record, front(kept, run.kept), store);
-    let told = changed.reply;
-    window::after_restore(told, window);
-    show_call(run.line, told, line, store, kept);
-    let next = settled(run, changed);
-    show_details(options, next, told, store, window, kept);
-    next
+// Shows the answer to a question. Nothing is changed but the counts.
+fn run_question(run: Run, question: Question, line: &[u8], store: &[u8], window: &[u8]) -> Run {
+    let record = run.record;
+    let is_refused = log_questions::ask(
+        question,
+        line,
+        report::held(record.registered != 0, store),
+        window,
+    );
+    newline();
+    counted(run, is_refused)
 }
 
 // The run behind a damaged line.
@@ -306,12 +201,6 @@ fn with_damaged(options: Options, run: Run) -> Run {
     next
 }
 
-// The run behind a line that needs a session where none is open.
-fn without_session(options: Options, run: Run) -> Run {
-    log_calls::damaged(run.line, b"no session is open");
-    with_damaged(options, run)
-}
-
 // The line holds no call.
 fn is_passed_over(line: &[u8]) -> bool {
     if line.len() == 0 {
@@ -320,26 +209,25 @@ fn is_passed_over(line: &[u8]) -> bool {
     slice::starts_with(line, b"#")
 }
 
-fn opens(name: CallName) -> bool {
-    if let CallName::Open = name {
-        true
-    } else {
-        false
-    }
-}
-
 // The line asks for a session that is open.
 fn needs_session(tested: Line) -> bool {
     match tested {
-        Line::Call(name) => !opens(name),
-        Line::Segment => true,
-        Line::Key => true,
+        Line::Call(name) => match name {
+            CallName::Open => false,
+            CallName::Restore => false,
+            _ => true,
+        },
+        Line::Question(question) => match question {
+            Question::Segment => true,
+            Question::Key => true,
+            _ => false,
+        },
         Line::Save => true,
-        _ => false,
+        Line::Damaged => false,
     }
 }
 
-// Runs a line that was tested.
+// Runs a line that was tested, behind its number and its first word, the call's name.
 fn run_tested(
     options: Options,
     run: Run,
@@ -349,20 +237,27 @@ fn run_tested(
     window: &mut [u8],
     kept: &mut [u8],
 ) -> Run {
+    decimal(run.line);
+    space();
+    text(log_lines::word(line, 0));
+    space();
     match tested {
-        Line::Damaged => with_damaged(options, run),
-        Line::Segment => run_segment(run, line, store),
-        Line::Key => run_key(run, line, store),
-        Line::Charge => run_charge(run, line),
-        Line::Churn => run_churn(run, line, window),
-        Line::IsOpen => run_is_open(run, line),
-        Line::EarliestOpen => run_earliest_open(run, line),
-        Line::CheckLog => run_check_log(run, line),
-        Line::Command => run_command(run, line),
-        Line::Save => run_save(run, line, store, kept),
-        Line::Restore => run_restore(options, run, line, store, window, kept),
-        Line::Call(name) => run_call(options, run, name, line, store, window),
+        Line::Damaged => run,
+        Line::Question(question) => run_question(run, question, line, store, window),
+        Line::Save => run_save(run, store, kept),
+        Line::Call(name) => run_call(options, run, name, line, store, window, kept),
     }
+}
+
+// The line is no call, or one that cannot be run now; why was written.
+fn is_damaged(run: Run, tested: Line) -> bool {
+    if let Line::Damaged = tested {
+        return true;
+    }
+    if needs_session(tested) && !run.is_open {
+        return !log_calls::damaged(run.line, b"no session is open");
+    }
+    false
 }
 
 // Runs a line, and shows what comes of it.
@@ -385,8 +280,8 @@ pub fn run_line(
         return next;
     }
     let tested = log_calls::tested(next.line, line);
-    if needs_session(tested) && !next.is_open {
-        return without_session(options, next);
+    if is_damaged(next, tested) {
+        return with_damaged(options, next);
     }
     run_tested(options, next, tested, line, store, window, kept)
 }

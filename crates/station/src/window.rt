@@ -1,23 +1,16 @@
 // The window of lost counts that stands beside the session: what a call does to it.
 use export_record::Record;
 use export_record::SessionReply;
-use export_reply::Reply;
 use log_calls::CallName;
 use session::READERS;
 
-// The window behind an accepted call. A new session, a new link and no link at all have no deltas yet.
+// The window behind an accepted call. A new session, a new link, no link at all and a session that was saved have no deltas yet.
 fn accepted(name: CallName, window: &mut [u8]) {
     match name {
-        CallName::Open => {
+        CallName::Response => {}
+        _ => {
             churn::clear(window);
         }
-        CallName::Begin => {
-            churn::clear(window);
-        }
-        CallName::Invalidate => {
-            churn::clear(window);
-        }
-        _ => {}
     }
 }
 
@@ -37,13 +30,6 @@ fn furthest(r: Record) -> usize {
 fn replayed(before: Record, next: Record, out: &[u8], window: &mut [u8]) {
     if furthest(before) < furthest(next) {
         churn::push(window, log_lists::lost_count(out));
-    }
-}
-
-// The window behind a restore: no form has lost counts.
-pub fn after_restore(told: Reply, window: &mut [u8]) {
-    if told.answer == export_reply::ACCEPTED {
-        churn::clear(window);
     }
 }
 

@@ -5,19 +5,14 @@ use borrow.Author.Needs.{needs}
 use Rattle.station.proofs.input.read_and_run.Statement.{statement}
 use Rattle.station.proofs.input.read_and_run.Tie as tie
 
-slice-aggregate-run-last : tie.Need-slice-aggregate-run-last
-slice-aggregate-run-last c = sym (length-take-le _ _ (search needs))
-
 slice-aggregate-run-lines : tie.Need-slice-aggregate-run-lines
 slice-aggregate-run-lines c = sym (length-take-le _ _ (search needs))
 
 pub read-and-run-spec : {M : Type 1} → statement M
 read-and-run-spec =
     tie.close
-    (tie.spec (λ c κs. search needs) (λ c. search needs) (λ c κs. search needs) (λ c. search needs) (λ c. search needs)
-    slice-aggregate-run-last
-    (λ c κs. search needs) (λ c. search needs) (λ c. search needs) (λ c. search needs) (λ c. search needs)
-    (λ c. search needs) (λ c. search needs) slice-aggregate-run-lines
-    (λ c κs. search needs) (λ c κs. search needs) (λ c. search needs) (λ c. search needs) (λ c. search needs)
+    (tie.spec (λ c κs. search needs) (λ c. search needs) (λ c κs. search needs) (λ c. search needs)
+    slice-aggregate-run-lines
+    (λ c κs. search needs) (λ c κs. search needs) (λ c κs. search needs) (λ c. search needs) (λ c. search needs)
     (λ c. search needs) (λ c. search needs) (λ c. search needs) (λ c. search needs) (λ c. search needs)
-    (λ c. search needs) (λ c. search needs))
+    (λ c. search needs) (λ c. search needs) (λ c. search needs))
