@@ -9,12 +9,13 @@ ghost use Rattle.ranges_marks.specs.Marks.{AllGood};
 ghost use Rattle.intake_content.specs.Content.{firstOutside, outsideOf};
 ghost use Rattle.intake_buckets.specs.Rows.{bucketsFrom, LoadedIs};
 use intake_content::Outside;
+use ranges_marks::ROW;
 use types::KeyRange;
 use wire_values::PartStep;
 
 // As many ranges as a segment of a packed assignment can have, the place in the segment's bytes behind them.
 pub struct Loaded {
-    pub row: [KeyRange; 506],
+    pub row: [KeyRange; ROW],
     pub count: usize,
     pub next: usize,
 }
@@ -23,10 +24,10 @@ pub struct Loaded {
 fn load_row(p: &[u8], at: usize) -> Loaded
     ensures { λ r. ⌜ LoadedIs (now (p .entry)) at r ⌝ }
 {
-    let mut row = [KeyRange { start: 0, end: 0 }; 506];
+    let mut row = [KeyRange { start: 0, end: 0 }; ROW];
     let mut count: usize = 0;
     let mut next = at;
-    while count < 506 {
+    while count < ROW {
         match wire_values::next_part(p, next, 5) {
             PartStep::Absent => {
                 return Loaded { row, count, next };
@@ -56,7 +57,7 @@ pub fn buckets_overlap(p: &[u8]) -> bool
         if ranges_marks::mark_first(row, count, &mut words) {
             return true;
         }
-        if count < 506 {
+        if count < ROW {
             return false;
         }
         at = loaded.next;

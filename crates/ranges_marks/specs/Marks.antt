@@ -11,6 +11,14 @@ use Rattle.ranges.specs.Overlap.{overlapsAny, anyOverlap}
 use Rattle.ranges.specs.Meaning.{Within}
 use Rattle.ranges_marks.specs.Bits.{bit}
 
+-- as many words as the key space needs, 64 values each
+abbrev pub words : ℕ
+words = 1024
+
+-- as many ranges as one segment of a packed assignment can have buckets
+abbrev pub rowSize : ℕ
+rowSize = 506
+
 -- the value is marked
 unfoldable pub marked : List ℕ → ℕ → Bool
 marked m v = bit (getD m (v / 64) 0) (v % 64)
@@ -30,7 +38,7 @@ pub data AllGood : List KeyRange → Type 0 where
 
 -- just the values of the ranges xs are marked
 pub record Holds (m : List ℕ) (xs : List KeyRange) : Type 0 where
-  pub long : length m ≡ 1024
+  pub long : length m ≡ words
   pub same : (v : ℕ) → v < 65536 → marked m v ≡ overlapsAny (point v) xs
 
 -- the range r marked in m: whether a value of it was marked before, and the marks then

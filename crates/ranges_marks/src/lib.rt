@@ -3,11 +3,14 @@ ghost use mathlib.Core.Path.{_≡_};
 ghost use Prim.Native.Nat.{_+_, _≤_, _<_, min};
 ghost use lib.ListN.{length, take};
 ghost use Rattle.ranges_marks.specs.Bits.{ones};
-ghost use Rattle.ranges_marks.specs.Marks.{Marking, RowMarking};
+ghost use Rattle.ranges_marks.specs.Marks.{words, rowSize, Marking, RowMarking};
 use types::KeyRange;
 
 // As many words as the key space needs, 64 values each.
 pub const WORDS: usize = 1024;
+
+// As many ranges as one segment of a packed assignment can have buckets.
+pub const ROW: usize = 506;
 
 // The word in which count places from low on are set.
 fn mask(low: u64, count: u64) -> u64
@@ -25,7 +28,7 @@ fn least(a: u64, b: u64) -> u64
 
 // Marks the values of the range, up to the first word in which one of them is marked already; says whether there is one.
 pub fn mark(marks: &mut [u64], range: KeyRange) -> bool
-    requires { ⌜ length (now marks) ≡ 1024 ⌝ }
+    requires { ⌜ length (now marks) ≡ words ⌝ }
     ensures { λ r. ⌜ Marking (now (marks .entry)) range r (now (marks .exit)) ⌝ }
 {
     let stop = (range.end as u64) % 65536 + 1;
@@ -47,7 +50,7 @@ pub fn mark(marks: &mut [u64], range: KeyRange) -> bool
 
 // Marks the ranges of the row one after the other, up to the first that has a value that is marked already; says whether there is one.
 pub fn mark_row(row: &[KeyRange], marks: &mut [u64]) -> bool
-    requires { ⌜ length (now marks) ≡ 1024 ⌝ }
+    requires { ⌜ length (now marks) ≡ words ⌝ }
     ensures { λ r. ⌜ RowMarking (now (marks .entry)) (now (row .entry)) r (now (marks .exit)) ⌝ }
 {
     let mut i: usize = 0;
@@ -60,9 +63,9 @@ pub fn mark_row(row: &[KeyRange], marks: &mut [u64]) -> bool
     false
 }
 
-// The same of the first n ranges. A row by value has as many places as one segment of a packed assignment can have buckets.
-pub fn mark_first(row: [KeyRange; 506], n: usize, marks: &mut [u64]) -> bool
-    requires { ⌜ (n ≤ 506) × (length (now marks) ≡ 1024) ⌝ }
+// The same of the first n ranges of a row by value.
+pub fn mark_first(row: [KeyRange; ROW], n: usize, marks: &mut [u64]) -> bool
+    requires { ⌜ (n ≤ rowSize) × (length (now marks) ≡ words) ⌝ }
     ensures { λ r. ⌜ RowMarking (now (marks .entry)) (take n row) r (now (marks .exit)) ⌝ }
 {
     mark_row(&row[..n], marks)
