@@ -25,3 +25,7 @@ deltaBetween old new =
       lost = map idOf (without (old .segments) (new .segments));
       gained = without (new .segments) (old .segments);
     }
+
+-- the most bytes that the delta between two assignments of a slot each can need (`longest` of specs/Rows)
+abbrev pub longestDelta : ℕ
+longestDelta = 3210

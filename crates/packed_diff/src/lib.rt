@@ -7,7 +7,7 @@ ghost use lib.ListN.{length, take, drop};
 ghost use Rattle.slice_int.specs.Put.{put};
 ghost use Rattle.packed.specs.Assignment.{decodeSegment, decodeSegments, sizeSegment, decodeAssignment, startsAssignment};
 ghost use Rattle.packed_delta.specs.Delta.{encodeDelta, sizeDelta};
-ghost use Rattle.packed_delta.specs.Change.{deltaBetween};
+ghost use Rattle.packed_delta.specs.Change.{deltaBetween, longestDelta};
 ghost use Rattle.packed_diff.specs.Merge.{mergeStep, entries, entrySize, MergedIs};
 
 // The most bytes of a delta from one packed assignment to another.
@@ -114,7 +114,7 @@ fn merge(x: &[u8], y: &[u8], whole: bool, out: &mut [u8], at: usize) -> Merged
 pub fn write_delta(old: &[u8], new: &[u8], out: &mut [u8]) -> usize
     requires { ⌜ startsAssignment (now old) ≡ true ⌝ }
     requires { ⌜ startsAssignment (now new) ≡ true ⌝ }
-    requires { ⌜ 3210 ≤ length (now out) ⌝ }
+    requires { ⌜ longestDelta ≤ length (now out) ⌝ }
     ensures { λ r. ⌜ (r ≡ sizeDelta (deltaBetween (decodeAssignment (now (old .entry))) (decodeAssignment (now (new .entry)))))
         × (now (out .exit) ≡ put (now (out .entry)) 0 (encodeDelta (deltaBetween (decodeAssignment (now (old .entry))) (decodeAssignment (now (new .entry)))))) ⌝ }
 {
