@@ -1,23 +1,22 @@
 -- What is read of a form that was written: mark, length, record, part and checksum are those that went in.
 --
--- In order: lists of bytes (`Bytes-append` to `Bytes-set`); a number where it stands (`here`, `on`); the positions (`positions-read`); the
+-- In order: what is written is bytes (`Bytes-positions` to `Bytes-body`); a number where it stands (`here`, `on`); the positions (`positions-read`); the
 -- form of a session that is sound (`record-read`, `store-read`, `form-read`).
 -- Assumes nothing.
-use Prim.Native.Nat.{ℕ, zero, suc, _+_, _-_, _*_, _/_, _%_, _^_, _≤_, _<_}
-use native.Mathlib.Nat.{mod-lt}
+use Prim.Native.Nat.{ℕ, zero, suc, _+_, _-_, _*_, _^_, _≤_, _<_}
 use native.Mathlib.Decide.{decLe}
 use native.Mathlib.Omega.{arith}
 use mathlib.Core.Path.{_≡_, refl, sym, ap, ap₂, _∙_, subst}
 use mathlib.Core.Bool.{Bool, true, false, not}
 use mathlib.Core.List.{List, [], _∷_, _++_, append-assoc, append-nil}
-use lib.ListN.{length, take, drop, getD, set}
+use lib.ListN.{length, take, drop, getD}
 use lib.Seq.{take-suc, take-all, take-at, drop-at, drop-drop, getD-drop}
 use lib.Dec.{eqb, lit<}
 use borrow.Author.Tests.{eq-eqb}
 use Rattle.slice.specs.Bytes.{Bytes}
-use Rattle.slice.proofs.PartLaws.{Bytes-take}
+use Rattle.slice.proofs.PartLaws.{Bytes-take, Bytes-nil, Bytes-cons, Bytes-append}
 use Rattle.slice_int.specs.Be.{be, beAt, bytesOf}
-use Rattle.slice_int.proofs.BeLaws.{length-bytesOf, be-front, drop-front}
+use Rattle.slice_int.proofs.BeLaws.{length-bytesOf, be-front, drop-front, Bytes-number, Bytes-front}
 use Rattle.crc32.specs.Crc.{crc32}
 use Rattle.crc32.proofs.DiffersLaws.{crc-word}
 use Rattle.session.specs.declared.SessionRecord.{SessionRecord}
@@ -36,29 +35,7 @@ use Rattle.session_saved.proofs.FormLaws.{length-positions, length-body
 use Rattle.session_saved.proofs.FrontLaws.{end-most, end-least, ends}
 use Rattle.session_saved.proofs.CallLaws.{sum-decides}
 
--- ---- lists of bytes
-
-Bytes-nil : Bytes []
-Bytes-nil i = lit< tt
-
-Bytes-cons : (b : ℕ) (l : List ℕ) → b < 256 → Bytes l → Bytes (b ∷ l)
-Bytes-cons b l h k zero = h
-Bytes-cons b l h k (suc i) = k i
-
-Bytes-append : (a b : List ℕ) → Bytes a → Bytes b → Bytes (a ++ b)
-Bytes-append [] b h k = k
-Bytes-append (x ∷ a) b h k = Bytes-cons x (a ++ b) (h 0) (Bytes-append a b (λ i. h (suc i)) k)
-
-Bytes-number : (w v : ℕ) → Bytes (bytesOf w v)
-unfolding bytesOf
-Bytes-number zero v = Bytes-nil
-Bytes-number (suc w) v =
-    Bytes-append (bytesOf w (v / 256)) (v % 256 ∷ []) (Bytes-number w (v / 256)) (Bytes-cons (v % 256) [] (mod-lt v (lit< tt)) Bytes-nil)
-
-pub Bytes-set : (l : List ℕ) (i v : ℕ) → v < 256 → Bytes l → Bytes (set l i v)
-Bytes-set [] i v h k = k
-Bytes-set (b ∷ l) zero v h k = Bytes-cons v l h (λ i. k (suc i))
-Bytes-set (b ∷ l) (suc i) v h k = Bytes-cons b (set l i v) (k 0) (Bytes-set l i v h (λ j. k (suc j)))
+-- ---- what is written is bytes
 
 Bytes-positions : (n : ℕ) (ps : List ℕ) → Bytes (encodePositions n ps)
 unfolding encodePositions
@@ -69,9 +46,6 @@ Bytes-positions (suc n) ps =
 flag-byte : (t : Bool) → flag t < 256
 flag-byte true = lit< tt
 flag-byte false = lit< tt
-
-Bytes-front : (w v : ℕ) (l : List ℕ) → Bytes l → Bytes (bytesOf w v ++ l)
-Bytes-front w v l h = Bytes-append (bytesOf w v) l (Bytes-number w v) h
 
 Bytes-used : (r : SessionRecord) (st : List ℕ) → Bytes st → Bytes (usedPart r st)
 unfolding usedPart

@@ -12,7 +12,7 @@ use lib.Dec.{leb, eqb}
 use borrow.Author.Tests.{eqb-true}
 use Rattle.slice.specs.BoolLaws.{both-true}
 use Rattle.slice.specs.Bytes.{Bytes}
-use Rattle.slice.proofs.PartLaws.{Bytes-take, Bytes-drop, drop-take}
+use Rattle.slice.proofs.PartLaws.{Bytes-take, Bytes-drop, Bytes-set, drop-take}
 use Rattle.slice_int.specs.Be.{be, beAt, bytesOf}
 use Rattle.slice_int.proofs.BeLaws.{bytesOf-be}
 use Rattle.crc32.specs.Crc.{crc32}
@@ -21,7 +21,6 @@ use Rattle.session_saved.specs.Form.{mark, sumHolds, isSaved}
 use Rattle.session_saved.specs.Saved.{restoreOutcome}
 use Rattle.session_saved.specs.Refuses.{OneByteRefused, CutRefused, RefusedWith64}
 use Rattle.session_saved.proofs.CallLaws.{saved-long}
-use Rattle.session_saved.proofs.ReadLaws.{Bytes-set}
 
 -- ---- what a form says
 

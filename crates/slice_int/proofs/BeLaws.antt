@@ -1,8 +1,8 @@
 -- Laws of numbers as bytes, over every width.
 --
 -- In order: `be` of two lists joined (`be-append`), and of the m + n bytes at a place (`be-at-add`); `bytesOf` at the width m + n (`bytesOf-add`) and
--- its length; each undoes the other (`be-bytesOf`, `bytesOf-be`); a number lies below the bound of its width (`be-below`); a number at the front of a
--- list (`be-front`, `drop-front`, `bytesOf-front`).
+-- its length; each undoes the other (`be-bytesOf`, `bytesOf-be`); a number lies below the bound of its width (`be-below`), and is bytes (`Bytes-number`); a
+-- number at the front of a list (`be-front`, `drop-front`, `bytesOf-front`, `Bytes-front`).
 --
 -- The functions of src/ cite `be-at-add` and `bytesOf-add`; readers and writers of packed forms the rest.
 -- Assumes nothing.
@@ -16,7 +16,8 @@ use mathlib.Core.Path.{_≡_, refl, sym, ap, _∙_}
 use mathlib.Core.List.{List, [], _∷_, _++_, append-assoc, append-nil}
 use lib.ListN.{length, take, drop, getD, length-append, length-take, length-drop}
 use lib.Seq.{take-suc, take-all, take-at, take-add, drop-at, drop-cons, drop-drop, length-take-le}
-use Rattle.slice.proofs.PartLaws.{Bytes, Bytes-take}
+use lib.Dec.{lit<}
+use Rattle.slice.proofs.PartLaws.{Bytes, Bytes-take, Bytes-nil, Bytes-cons, Bytes-append}
 use Rattle.slice_int.specs.Be.{beFrom, be, beAt, bytesOf}
 
 -- ---- two lists joined
@@ -138,6 +139,12 @@ be-below (suc n) l e h = go (λ m f b. be-below n m f b) (decLe (suc n) (length 
         omega (arith, h n)
     go ih (no k) = let m : be l < 256 ^ n = ih l (omega arith) h in omega arith
 
+pub Bytes-number : (w v : ℕ) → Bytes (bytesOf w v)
+unfolding bytesOf
+Bytes-number zero v = Bytes-nil
+Bytes-number (suc w) v =
+    Bytes-append (bytesOf w (v / 256)) (v % 256 ∷ []) (Bytes-number w (v / 256)) (Bytes-cons (v % 256) [] (mod-lt v (lit< tt)) Bytes-nil)
+
 -- ---- a number at the front of a list
 
 pub be-front : (w v : ℕ) (r : List ℕ) → v < 256 ^ w → be (take w (bytesOf w v ++ r)) ≡ v
@@ -148,3 +155,6 @@ drop-front w v r = drop-at (bytesOf w v) r w (length-bytesOf w v)
 
 pub bytesOf-front : (w : ℕ) (l : List ℕ) → w ≤ length l → Bytes l → bytesOf w (be (take w l)) ≡ take w l
 bytesOf-front w l k h = bytesOf-be w (take w l) (length-take-le w l k) (Bytes-take w l h)
+
+pub Bytes-front : (w v : ℕ) (l : List ℕ) → Bytes l → Bytes (bytesOf w v ++ l)
+Bytes-front w v l h = Bytes-append (bytesOf w v) l (Bytes-number w v) h
