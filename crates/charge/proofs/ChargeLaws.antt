@@ -14,7 +14,7 @@ use lib.ListN.{length, drop}
 use lib.Dec.{leb, eqb}
 use borrow.Author.Tests.{le-leb, lt-leb, leb-true, eq-eqb, ne-eqb, eqb-true}
 use Rattle.slice.specs.BoolLaws.{both-true}
-use Rattle.types.specs.declared.KeyRange.{KeyRange}
+use Rattle.topic_types.specs.declared.KeyRange.{KeyRange}
 use Rattle.refusal.specs.declared.Refusal.the-variants.{MalformedInput, ChargeTooLarge}
 use Rattle.ranges_calls.specs.Calls.{valuesIn}
 use Rattle.slice_int.specs.Be.{beAt}

@@ -11,7 +11,7 @@ ghost use Rattle.packed.specs.Assignment.{decodeRanges, allInOrder};
 ghost use Rattle.charge.specs.Charge.{lengthsOf, holdsOf, productOf, chargeOf};
 use packed::RecordRead;
 use refusal::Refusal;
-use types::KeyRange;
+use topic_types::KeyRange;
 
 // By what a product of values held, seconds and rate is divided: 65,536 values times 3,600 seconds. A remainder is
 // below it.

@@ -8,9 +8,9 @@ use lib.IntN.{ℤ}
 use mir.Syntax.{w32}
 use mir.Val.{SFits, toZ, ofZ}
 use mir.Facts.{toZ-ofZ}
-use Rattle.types.specs.declared.ScalableConsumerType.{ScalableConsumerType}
-use Rattle.types.specs.declared.ScalableConsumerType.the-variants.{Stream, Checkpoint}
-use Rattle.types.specs.ConsumerTypes.{toWire}
+use Rattle.topic_types.specs.declared.ScalableConsumerType.{ScalableConsumerType}
+use Rattle.topic_types.specs.declared.ScalableConsumerType.the-variants.{Stream, Checkpoint}
+use Rattle.topic_types.specs.ConsumerTypes.{toWire}
 use Rattle.name_topic.specs.declared.NameAnswer.{NameAnswer}
 use Rattle.name_topic.specs.Build as build
 use Rattle.output.specs.declared.WriteAnswer.{WriteAnswer}

@@ -8,7 +8,7 @@ use export_reply::Reply;
 use key_for_hash::TestKey;
 use key_in_segment::KeyAnswer;
 use key_lookup::SegmentAnswer;
-use types::SegmentId;
+use topic_types::SegmentId;
 
 // The id of the segment of a list that takes a key.
 #[no_mangle]

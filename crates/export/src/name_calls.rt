@@ -6,7 +6,7 @@ ghost use Rattle.export.specs.Exports.{nameReply, nameOf, sourceReply};
 use export_reply::Reply;
 use name_source::SourceAnswer;
 use name_topic::NameAnswer;
-use types::SegmentId;
+use topic_types::SegmentId;
 
 fn name_reply(a: NameAnswer) -> Reply
     ensures { λ x. ⌜ x ≡ nameReply a ⌝ }

@@ -1,12 +1,12 @@
 // `KeyRange` calls, and the consumer's kind.
 ghost use mathlib.Core.Path.{_≡_};
-ghost use Rattle.types.specs.ConsumerTypes.{fromWire, toWire};
+ghost use Rattle.topic_types.specs.ConsumerTypes.{fromWire, toWire};
 ghost use Rattle.ranges_calls.specs.Calls.{lengthOf, containsOf, containsRangeOf, isAdjacentOf};
 ghost use Rattle.export.specs.Exports.{lengthReply, toldReply};
 use export_reply::Reply;
 use ranges_calls::LengthAnswer;
 use ranges_calls::TestAnswer;
-use types::ScalableConsumerType;
+use topic_types::ScalableConsumerType;
 
 fn told_reply(a: TestAnswer) -> Reply
     ensures { λ x. ⌜ x ≡ toldReply a ⌝ }

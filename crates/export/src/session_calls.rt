@@ -2,7 +2,7 @@
 ghost use mathlib.Core.Path.{_≡_};
 ghost use mathlib.Core.List.{List};
 ghost use Prim.Native.Nat.{ℕ};
-ghost use Rattle.types.specs.ConsumerTypes.{fromWire};
+ghost use Rattle.topic_types.specs.ConsumerTypes.{fromWire};
 ghost use Rattle.wire_readers.specs.Places.{responsePlace};
 ghost use Rattle.session.specs.Calls.{matchOf};
 ghost use Rattle.wire_values.specs.Places.{textPlace, PlaceIs};
@@ -16,8 +16,8 @@ use export_record::SessionReply;
 use export_record::open_reply;
 use export_reply::Reply;
 use session::Match;
-use types::ControllerIncarnation;
-use types::ScalableConsumerType;
+use topic_types::ControllerIncarnation;
+use topic_types::ScalableConsumerType;
 
 // Opens a session over the store: `ScalableConsumerSession::new`. The kind is the integer of the wire.
 #[no_mangle]

@@ -4,8 +4,8 @@
 use Prim.Native.Nat.{ℕ}
 use mathlib.Core.List.{List}
 use lib.IntN.{ℤ}
-use Rattle.types.specs.declared.ControllerIncarnation.{ControllerIncarnation}
-use Rattle.types.specs.ConsumerTypes.{fromWire}
+use Rattle.topic_types.specs.declared.ControllerIncarnation.{ControllerIncarnation}
+use Rattle.topic_types.specs.ConsumerTypes.{fromWire}
 use Rattle.session.specs.Identity.{Identity}
 use Rattle.session.specs.Link.{beginOf, invalidateOf}
 use Rattle.session.specs.Calls.{updateOutcome, responseOutcome, drainOutcome, OpenOutcome, openOutcome}

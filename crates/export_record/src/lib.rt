@@ -6,7 +6,7 @@ use export_reply::Reply;
 use session::Answer;
 use session::Floor;
 use session::SessionRecord;
-use types::ControllerIncarnation;
+use topic_types::ControllerIncarnation;
 
 // A session's record. A flag is any byte: 0 says no, all others yes; a call writes 1 or 0.
 #[repr(C)]

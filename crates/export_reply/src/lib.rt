@@ -5,7 +5,7 @@ ghost use lib.IntN.{pos};
 ghost use Rattle.refusal.specs.Refusals.{sourceValues};
 ghost use Rattle.export_reply.specs.Replies.{wordOf, replyWith, takenReply, refusedReply, testReply};
 use refusal::Refusal;
-use types::KeyRangeError;
+use topic_types::KeyRangeError;
 
 pub const REFUSED: u8 = 0;
 

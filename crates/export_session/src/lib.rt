@@ -15,7 +15,7 @@ use export_reply::Reply;
 use refusal::Refusal;
 use session::Answer;
 use session::SessionRecord;
-use types::ControllerIncarnation;
+use topic_types::ControllerIncarnation;
 
 // A new link to the controller: `begin_incarnation`.
 pub fn begun(r: Record, incarnation: u64) -> SessionReply

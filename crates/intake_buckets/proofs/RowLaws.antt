@@ -14,7 +14,7 @@ use mathlib.Core.Bool.{Bool, true, false}
 use mathlib.Core.List.{List, [], _∷_, _++_, append-assoc, append-nil}
 use lib.ListN.{length, take, drop, set, length-append, length-set}
 use lib.Seq.{take-suc-set, length-take-le, append-snoc}
-use Rattle.types.specs.declared.KeyRange.{KeyRange}
+use Rattle.topic_types.specs.declared.KeyRange.{KeyRange}
 use Rattle.ranges.specs.Overlap.{anyOverlap}
 use Rattle.ranges.proofs.OverlapLaws.{any-append}
 use Rattle.ranges_marks.specs.Marks.{AllGood, RowMarking}

@@ -10,7 +10,7 @@ ghost use Rattle.intake_content.specs.Content.{firstOutside, outsideOf};
 ghost use Rattle.intake_buckets.specs.Rows.{bucketsFrom, LoadedIs};
 use intake_content::Outside;
 use ranges_marks::ROW;
-use types::KeyRange;
+use topic_types::KeyRange;
 use wire_values::PartStep;
 
 // As many ranges as a segment of a packed assignment can have, the place in the segment's bytes behind them.

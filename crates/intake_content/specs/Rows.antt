@@ -5,7 +5,7 @@ use Prim.Native.Nat.{ℕ, zero, suc}
 use mathlib.Core.Path.{_≡_, refl}
 use mathlib.Core.List.{List, [], _∷_, _++_}
 use lib.IntN.{ℤ, pos, negsuc}
-use Rattle.types.specs.KeyRanges.{keyRange, newKeyRange}
+use Rattle.topic_types.specs.KeyRanges.{keyRange, newKeyRange}
 use Rattle.refusal.specs.declared.Refusal.the-variants.{InvalidBucketRange, OverlappingBucketRanges, AttachmentMismatch}
 use Rattle.refusal.specs.declared.Refusal.the-variants.{DuplicateSegment, AssignmentTooLong, BucketOutsideSegment}
 use Rattle.ranges.specs.Overlap.{overlapsAny, anyOverlap}

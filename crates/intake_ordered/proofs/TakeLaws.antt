@@ -16,8 +16,8 @@ use lib.Seq.{drop-at, length-take-le}
 use lib.Dec.{leb}
 use borrow.Author.Tests.{le-leb, leb-true}
 use Rattle.slice.specs.BoolLaws.{both-true}
-use Rattle.types.specs.declared.KeyRange.{KeyRange}
-use Rattle.types.specs.KeyRanges.{keyRange}
+use Rattle.topic_types.specs.declared.KeyRange.{KeyRange}
+use Rattle.topic_types.specs.KeyRanges.{keyRange}
 use Rattle.slice.specs.Same.{sameBytes}
 use Rattle.slice.proofs.PartLaws.{rest}
 use Rattle.slice.proofs.SameLaws.{same-eq}

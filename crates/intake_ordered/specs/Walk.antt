@@ -10,8 +10,8 @@ use mathlib.Core.Path.{_≡_}
 use mathlib.Core.Bool.{Bool, true}
 use mathlib.Core.List.{List, [], _∷_, map}
 use lib.ListN.{length, take, drop}
-use Rattle.types.specs.declared.KeyRange.{KeyRange}
-use Rattle.types.specs.KeyRanges.{maxHash}
+use Rattle.topic_types.specs.declared.KeyRange.{KeyRange}
+use Rattle.topic_types.specs.KeyRanges.{maxHash}
 use Rattle.ranges.specs.Overlap.{risingFrom}
 use Rattle.slice_int.specs.Put.{put}
 use Rattle.name_parents.specs.Parents.{pathOf}

@@ -16,8 +16,8 @@ ghost use Rattle.intake_ordered.specs.Walk.{BucketsSay, HeadSays, Segmen
 ghost use Rattle.intake_ordered.specs.Taken.{PlainSays};
 use intake_ordered_bucket::Bucket;
 use intake_ordered_bucket::MAX_HASH;
-use types::KeyRange;
-use types::SegmentId;
+use topic_types::KeyRange;
+use topic_types::SegmentId;
 use wire_ordered::NumberAt;
 use wire_ordered::Part;
 

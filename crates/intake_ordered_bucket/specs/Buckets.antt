@@ -6,7 +6,7 @@ use Prim.Native.Nat.{ℕ, _+_, _-_, _≤_}
 use mathlib.Core.Path.{_≡_}
 use mathlib.Core.List.{List, [], _∷_}
 use lib.ListN.{length, take, drop}
-use Rattle.types.specs.KeyRanges.{maxHash}
+use Rattle.topic_types.specs.KeyRanges.{maxHash}
 use Rattle.slice_int.specs.Be.{beAt}
 use Rattle.wire.specs.declared.WireType.the-variants as wire
 use Rattle.wire.specs.Fields.{number, field, fieldsOf}

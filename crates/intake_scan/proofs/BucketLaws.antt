@@ -13,10 +13,10 @@ use mir.Syntax.{w32}
 use mir.Val.{SFits, Fits}
 use borrow.Author.Tests.{ltb-true, ltb-false, not-true, lt-ltb, le-ltb, le-leb, lt-leb}
 use Rattle.slice.specs.BoolLaws.{both-true}
-use Rattle.types.specs.declared.KeyRange.{KeyRange}
-use Rattle.types.specs.declared.KeyRangeError.{KeyRangeError}
-use Rattle.types.specs.declared.RangeResult.the-variants.{Valid, Invalid}
-use Rattle.types.specs.KeyRanges.{maxHash, newKeyRange}
+use Rattle.topic_types.specs.declared.KeyRange.{KeyRange}
+use Rattle.topic_types.specs.declared.KeyRangeError.{KeyRangeError}
+use Rattle.topic_types.specs.declared.RangeResult.the-variants.{Valid, Invalid}
+use Rattle.topic_types.specs.KeyRanges.{maxHash, newKeyRange}
 use Rattle.intake_content.specs.Content.{isValid, isBucket, magnitude}
 
 -- ---- the tests of a range of numbers

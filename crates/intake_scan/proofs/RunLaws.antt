@@ -14,7 +14,7 @@ use lib.ListN.{length}
 use lib.Dec.{leb}
 use borrow.Author.Tests.{le-leb}
 use Rattle.slice.specs.BoolLaws.{both-true}
-use Rattle.types.specs.declared.SegmentId.{SegmentId}
+use Rattle.topic_types.specs.declared.SegmentId.{SegmentId}
 use Rattle.refusal.specs.declared.Refusal.the-variants.{InvalidBucketRange}
 use Rattle.ranges.specs.Overlap.{anyOverlap, startsFrom, risingFrom}
 use Rattle.ranges.proofs.OverlapLaws.{rising-apart}

@@ -14,7 +14,7 @@ use lib.ListN.{length, take, drop, length-append, length-map}
 use lib.Seq.{take-append-le, take-take, length-take-le}
 use lib.Dec.{ltb}
 use borrow.Author.Tests.{lt-ltb, ltb-true}
-use Rattle.types.specs.declared.KeyRange.{KeyRange}
+use Rattle.topic_types.specs.declared.KeyRange.{KeyRange}
 use Rattle.slice_int.specs.Be.{bytesOf}
 use Rattle.slice_int.specs.Put.{put}
 use Rattle.slice_int.proofs.BeLaws.{length-bytesOf}

@@ -9,7 +9,7 @@ use mathlib.Core.List.{List, [], _∷_, map, foldl}
 use lib.ListN.{length, take}
 use lib.IntN.{pos}
 use lib.Dec.{leb, ltb}
-use Rattle.types.specs.declared.KeyRange.{KeyRange}
+use Rattle.topic_types.specs.declared.KeyRange.{KeyRange}
 use Rattle.slice_int.specs.Put.{put}
 use Rattle.packed.specs.Assignment.{encodeRange, encodeRanges}
 use Rattle.wire_readers.specs.declared.IntRange.{IntRange}

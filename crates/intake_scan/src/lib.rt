@@ -11,7 +11,7 @@ ghost use Rattle.wire_readers.specs.Messages.{intRangeOf};
 ghost use Rattle.wire_readers.specs.Places.{headOf};
 ghost use Rattle.intake_content.specs.Content.{bucketOk, magnitude, bucketOf};
 ghost use Rattle.intake_scan.specs.Scan.{noBuckets, roomFor, withBucket, bucketWritten, ScanIs};
-use types::KeyRange;
+use topic_types::KeyRange;
 use wire::Varint;
 use wire_readers::IntRange;
 use wire_readers::SegmentHead;

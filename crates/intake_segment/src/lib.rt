@@ -11,9 +11,9 @@ ghost use Rattle.intake_segment.specs.Verdicts.{verdictOf, ScanOf};
 use intake_content::Outside;
 use intake_scan::SegmentScan;
 use refusal::Refusal;
-use types::KeyRange;
-use types::RangeResult;
-use types::SegmentId;
+use topic_types::KeyRange;
+use topic_types::RangeResult;
+use topic_types::SegmentId;
 use wire_readers::SegmentHead;
 
 pub enum Verdict {

@@ -15,7 +15,7 @@ use lib.ListN.{length}
 use lib.Dec.{leb, eqb}
 use borrow.Author.Tests.{leb-true}
 use Rattle.slice.specs.BoolLaws.{both-true}
-use Rattle.types.specs.declared.KeyRange.{KeyRange}
+use Rattle.topic_types.specs.declared.KeyRange.{KeyRange}
 use Rattle.slice.proofs.PartLaws.{Bytes}
 use Rattle.ranges.specs.Overlap.{overlap, overlapsAny}
 use Rattle.ranges.specs.Meaning.{common}

@@ -14,7 +14,7 @@ use mathlib.Core.List.{List, [], _∷_}
 use lib.Dec.{leb}
 use borrow.Author.Tests.{le-leb, lt-leb, leb-true, leb-false}
 use Rattle.slice.specs.BoolLaws.{both-true}
-use Rattle.types.specs.declared.KeyRange.{KeyRange}
+use Rattle.topic_types.specs.declared.KeyRange.{KeyRange}
 use Rattle.ranges.specs.Meaning.{Within}
 use Rattle.ranges_calls.specs.Calls.{holds}
 use Rattle.packed.specs.Assignment.{AssignedSegment}

@@ -6,7 +6,7 @@ use Prim.Native.Nat.{ℕ, min, max}
 use mathlib.Core.Bool.{cond}
 use mathlib.Core.List.{List, [], _∷_}
 use lib.Dec.{leb}
-use Rattle.types.specs.declared.KeyRange.{KeyRange}
+use Rattle.topic_types.specs.declared.KeyRange.{KeyRange}
 use Rattle.key_in_segment.specs.declared.Least.{Least}
 use Rattle.key_in_segment.specs.declared.Least.the-variants.{Value, NoValue}
 

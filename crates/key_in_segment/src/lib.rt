@@ -15,8 +15,8 @@ ghost use Rattle.key_in_segment.specs.SegmentKey.{keyAt, keyIn, keyInSeg
 use key_for_hash::TestKey;
 use packed::Packed;
 use refusal::Refusal;
-use types::KeyRange;
-use types::SegmentId;
+use topic_types::KeyRange;
+use topic_types::SegmentId;
 
 // The least of some values.
 pub enum Least {

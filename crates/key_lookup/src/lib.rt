@@ -7,7 +7,7 @@ ghost use Rattle.packed.proofs.AssignmentLaws.{Rest};
 ghost use Rattle.key_lookup.specs.Lookup.{anyHolds, takes, firstTaking, segmentForKey};
 use packed::Packed;
 use refusal::Refusal;
-use types::SegmentId;
+use topic_types::SegmentId;
 
 // The most bytes of a key.
 pub const LONGEST_KEY: usize = 65535;

@@ -5,7 +5,7 @@ use key_in_segment::KeyAnswer;
 use key_lookup::SegmentAnswer;
 use log_text::refused;
 use packed::Packed;
-use types::SegmentId;
+use topic_types::SegmentId;
 
 // The list at the front of a slot, as long as it is; empty where there is none.
 fn list_of(slot: &[u8]) -> &[u8] {

@@ -14,12 +14,12 @@ use lib.ListN.{length, take, drop, getD, length-append, length-drop}
 use lib.Seq.{drop-drop, length-take-le}
 use borrow.Author.Tests.{eq-eqb, ne-eqb, le-leb, lt-leb}
 use Rattle.slice.specs.BoolLaws.{both-true}
-use Rattle.types.specs.declared.KeyRange.{KeyRange}
-use Rattle.types.specs.declared.KeyRangeError.{KeyRangeError}
-use Rattle.types.specs.declared.SegmentId.{SegmentId}
-use Rattle.types.specs.declared.RangeResult.{RangeResult}
-use Rattle.types.specs.declared.RangeResult.the-variants.{Valid, Invalid}
-use Rattle.types.specs.KeyRanges.{newKeyRange}
+use Rattle.topic_types.specs.declared.KeyRange.{KeyRange}
+use Rattle.topic_types.specs.declared.KeyRangeError.{KeyRangeError}
+use Rattle.topic_types.specs.declared.SegmentId.{SegmentId}
+use Rattle.topic_types.specs.declared.RangeResult.{RangeResult}
+use Rattle.topic_types.specs.declared.RangeResult.the-variants.{Valid, Invalid}
+use Rattle.topic_types.specs.KeyRanges.{newKeyRange}
 use Rattle.refusal.specs.declared.Refusal.{Refusal}
 use Rattle.refusal.specs.declared.Refusal.the-variants.{InvalidUtf8, InvalidKeyRange, InvalidParent, InvalidSegment}
 use Rattle.refusal.specs.declared.Refusal.the-variants.{SegmentIdMismatch, ResultTooLong}

@@ -14,10 +14,10 @@ use lib.Seq.{take-append-seam, drop-append-add, getD-append-seam, drop-cons, dro
 use lib.Dec.{eqb}
 use borrow.Author.Tests.{eqb-true, ltb-true}
 use Rattle.slice.specs.BoolLaws.{both-true}
-use Rattle.types.specs.declared.KeyRange.{KeyRange}
-use Rattle.types.specs.declared.SegmentId.{SegmentId}
-use Rattle.types.specs.KeyRanges.{maxHash, keyRange}
-use Rattle.types.proofs.KeyRangeLaws.{new-valid, valid-new}
+use Rattle.topic_types.specs.declared.KeyRange.{KeyRange}
+use Rattle.topic_types.specs.declared.SegmentId.{SegmentId}
+use Rattle.topic_types.specs.KeyRanges.{maxHash, keyRange}
+use Rattle.topic_types.proofs.KeyRangeLaws.{new-valid, valid-new}
 use Rattle.slice.specs.Same.{startsWith}
 use Rattle.slice.proofs.SameLaws.{same-refl, same-eq}
 use Rattle.name_parents.specs.Classes.{classOf, isSlash, isDash, isDigit, isHexDigit}

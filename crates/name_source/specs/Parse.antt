@@ -9,10 +9,10 @@ use mathlib.Core.Bool.{Bool, false, cond, _&&_, _||_}
 use mathlib.Core.List.{List, [], _∷_, _++_}
 use lib.ListN.{length, take, drop, getD}
 use lib.Dec.{eqb}
-use Rattle.types.specs.declared.SegmentId.{SegmentId}
-use Rattle.types.specs.declared.RangeResult.{RangeResult}
-use Rattle.types.specs.declared.KeyRange.{KeyRange}
-use Rattle.types.specs.KeyRanges.{newKeyRange}
+use Rattle.topic_types.specs.declared.SegmentId.{SegmentId}
+use Rattle.topic_types.specs.declared.RangeResult.{RangeResult}
+use Rattle.topic_types.specs.declared.KeyRange.{KeyRange}
+use Rattle.topic_types.specs.KeyRanges.{newKeyRange}
 use Rattle.refusal.specs.declared.Refusal.{Refusal}
 use Rattle.refusal.specs.declared.Refusal.the-variants.{InvalidUtf8, InvalidParent, InvalidSegment, SegmentIdMismatch}
 use Rattle.refusal.specs.Steps.{_>>_, _>>=_, refuseUnless, takeRange}

@@ -12,9 +12,9 @@ use name_parents::SLASH;
 use name_parents::class_of;
 use name_topic::NameAnswer;
 use refusal::Refusal;
-use types::KeyRange;
-use types::RangeResult;
-use types::SegmentId;
+use topic_types::KeyRange;
+use topic_types::RangeResult;
+use topic_types::SegmentId;
 
 // A segment as its name tells it.
 pub struct SegmentSource {

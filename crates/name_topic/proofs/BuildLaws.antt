@@ -10,11 +10,11 @@ use mathlib.Core.Bool.{true, false}
 use mathlib.Core.List.{List, _++_}
 use lib.ListN.{length, length-append}
 use borrow.Author.Tests.{le-leb, lt-leb}
-use Rattle.types.specs.declared.KeyRange.{KeyRange}
-use Rattle.types.specs.declared.KeyRangeError.{KeyRangeError}
-use Rattle.types.specs.declared.RangeResult.the-variants.{Valid, Invalid}
-use Rattle.types.specs.declared.SegmentId.{SegmentId}
-use Rattle.types.specs.KeyRanges.{newKeyRange}
+use Rattle.topic_types.specs.declared.KeyRange.{KeyRange}
+use Rattle.topic_types.specs.declared.KeyRangeError.{KeyRangeError}
+use Rattle.topic_types.specs.declared.RangeResult.the-variants.{Valid, Invalid}
+use Rattle.topic_types.specs.declared.SegmentId.{SegmentId}
+use Rattle.topic_types.specs.KeyRanges.{newKeyRange}
 use Rattle.refusal.specs.declared.Refusal.the-variants.{InvalidUtf8, InvalidKeyRange, InvalidParent, ResultTooLong}
 use Rattle.slice_int.specs.Put.{put}
 use Rattle.slice_int.proofs.PutLaws.{put-after}

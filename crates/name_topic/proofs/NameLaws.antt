@@ -14,8 +14,8 @@ use lib.ListN.{length, drop, length-append, length-drop}
 use lib.Seq.{drop-drop}
 use lib.Dec.{ltb}
 use borrow.Author.Tests.{lt-ltb, le-ltb}
-use Rattle.types.specs.declared.KeyRange.{KeyRange}
-use Rattle.types.specs.declared.SegmentId.{SegmentId}
+use Rattle.topic_types.specs.declared.KeyRange.{KeyRange}
+use Rattle.topic_types.specs.declared.SegmentId.{SegmentId}
 use Rattle.slice.specs.Same.{sameBytes, startsWith}
 use Rattle.slice.proofs.SameLaws.{same-append, starts-long}
 use Rattle.name_topic.specs.Names.{segmentScheme, hex4, decimalWithin, decimal, descriptor, segmentTopic}

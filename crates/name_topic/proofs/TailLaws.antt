@@ -10,8 +10,8 @@ use mathlib.Core.Path.{_≡_, refl, sym, ap, _∙_, subst}
 use mathlib.Core.List.{List, [], _∷_, _++_, append-assoc, append-nil}
 use lib.ListN.{length, take, drop, set, length-append, length-drop, length-set, drop-of-length-le}
 use lib.Seq.{length-take-le, set-split, drop-at}
-use Rattle.types.specs.declared.KeyRange.{KeyRange}
-use Rattle.types.specs.declared.SegmentId.{SegmentId}
+use Rattle.topic_types.specs.declared.KeyRange.{KeyRange}
+use Rattle.topic_types.specs.declared.SegmentId.{SegmentId}
 use Rattle.slice.proofs.PartLaws.{rest}
 use Rattle.slice_int.specs.Put.{put}
 use Rattle.slice_int.proofs.PutLaws.{put-one, put-snoc, put-after, length-put}

@@ -6,8 +6,8 @@ use Prim.Native.Nat.{ℕ, _≤_}
 use mathlib.Core.Path.{_≡_}
 use mathlib.Core.List.{List}
 use lib.ListN.{length, drop}
-use Rattle.types.specs.declared.KeyRange.{KeyRange}
-use Rattle.types.specs.declared.SegmentId.{SegmentId}
+use Rattle.topic_types.specs.declared.KeyRange.{KeyRange}
+use Rattle.topic_types.specs.declared.SegmentId.{SegmentId}
 use Rattle.name_topic.specs.Names.{decimal, descriptor}
 use Rattle.name_topic.specs.declared.descriptor.Tail.{Tail}
 

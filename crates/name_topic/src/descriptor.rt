@@ -6,8 +6,8 @@ ghost use lib.ListN.{length};
 ghost use Rattle.slice_int.specs.Put.{put};
 ghost use Rattle.name_topic.specs.Names.{hexDigit, hex4};
 ghost use Rattle.name_topic.specs.Answers.{DecimalIs, DescriptorIs};
-use types::KeyRange;
-use types::SegmentId;
+use topic_types::KeyRange;
+use topic_types::SegmentId;
 
 // The bytes of an array from a place on. A descriptor has at most 31.
 pub struct Tail {

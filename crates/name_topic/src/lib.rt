@@ -9,9 +9,9 @@ ghost use Rattle.name_topic.specs.Names.{segmentTopic};
 ghost use Rattle.name_topic.specs.Build.{nameOutcome, written, canonicalSegmentTopic};
 pub use name_parents::is_parent;
 use refusal::Refusal;
-use types::KeyRange;
-use types::RangeResult;
-use types::SegmentId;
+use topic_types::KeyRange;
+use topic_types::RangeResult;
+use topic_types::SegmentId;
 
 // What a call that writes a name answers.
 pub enum NameAnswer {

@@ -12,7 +12,7 @@ use mathlib.Core.List.{List}
 use lib.ListN.{length, drop}
 use lib.Dec.{leb}
 use borrow.Author.Tests.{le-leb, lt-leb}
-use Rattle.types.specs.KeyRanges.{keyRange}
+use Rattle.topic_types.specs.KeyRanges.{keyRange}
 use Rattle.slice_int.specs.Be.{beAt}
 use Rattle.ranges.specs.Overlap.{anyOverlap}
 use Rattle.packed.specs.Assignment.{num, decodeRanges, decodeSegment, decodeSegments, sizeSegment, sizeSegments, allInOrder, okBuckets, okSegment, okFrom}

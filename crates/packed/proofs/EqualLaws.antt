@@ -7,7 +7,7 @@ use Prim.Native.Nat.{ℕ}
 use lib.Dec.{eqb}
 use borrow.Author.Tests.{eqb-true, eq-eqb}
 use Rattle.slice.specs.BoolLaws.{both, both-true}
-use Rattle.types.specs.declared.KeyRange.{KeyRange}
+use Rattle.topic_types.specs.declared.KeyRange.{KeyRange}
 use Rattle.packed.specs.Assignment.{AssignedSegment, ConsumerAssignment}
 use Rattle.packed.specs.Equal.{sameRange, sameRanges, sameSegment, sameSegments, sameAssignment}
 

@@ -14,8 +14,8 @@ use lib.ListN.{length, take, drop, length-append, length-take, length-drop}
 use lib.Seq.{drop-drop, take-add, take-all, drop-at}
 use borrow.Author.Tests.{le-leb, eqb-true}
 use Rattle.slice.specs.BoolLaws.{both-true}
-use Rattle.types.specs.declared.KeyRange.{KeyRange}
-use Rattle.types.specs.KeyRanges.{keyRange}
+use Rattle.topic_types.specs.declared.KeyRange.{KeyRange}
+use Rattle.topic_types.specs.KeyRanges.{keyRange}
 use Rattle.slice.proofs.PartLaws.{Bytes, Bytes-take, Bytes-drop}
 use Rattle.slice_int.specs.Be.{be, bytesOf}
 use Rattle.slice_int.proofs.BeLaws.{length-bytesOf, be-below, be-front, drop-front, bytesOf-front}

@@ -15,8 +15,8 @@ use lib.ListN.{length, take, drop, length-take}
 use lib.Dec.{leb, eqb}
 use lib.Bits.{bitAnd, and-le-l}
 use borrow.Author.Tests.{le-leb, lt-leb, eqb-true}
-use Rattle.types.specs.declared.KeyRange.{KeyRange}
-use Rattle.types.specs.KeyRanges.{keyRange}
+use Rattle.topic_types.specs.declared.KeyRange.{KeyRange}
+use Rattle.topic_types.specs.KeyRanges.{keyRange}
 use Rattle.ranges.specs.Overlap.{risingFrom}
 use Rattle.slice.proofs.PartLaws.{Bytes, Bytes-take, Bytes-drop}
 use Rattle.slice_int.specs.Be.{be, beAt}

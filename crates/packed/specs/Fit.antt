@@ -5,7 +5,7 @@
 use Prim.Native.Nat.{_^_, _<_}
 use mathlib.Core.List.{List, [], _∷_}
 use lib.ListN.{length}
-use Rattle.types.specs.declared.KeyRange.{KeyRange}
+use Rattle.topic_types.specs.declared.KeyRange.{KeyRange}
 use Rattle.packed.specs.Assignment.{AssignedSegment, ConsumerAssignment}
 
 pub record FitRange (r : KeyRange) : Type 0 where

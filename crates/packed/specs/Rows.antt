@@ -6,8 +6,8 @@ use Prim.Native.Nat.{ℕ, zero, suc}
 use mathlib.Core.Path.{_≡_, refl}
 use mathlib.Core.Bool.{true, false}
 use mathlib.Core.List.{List, [], _∷_}
-use Rattle.types.specs.declared.KeyRange.{KeyRange}
-use Rattle.types.specs.KeyRanges.{keyRange}
+use Rattle.topic_types.specs.declared.KeyRange.{KeyRange}
+use Rattle.topic_types.specs.KeyRanges.{keyRange}
 use Rattle.ranges.specs.Overlap.{anyOverlap}
 use Rattle.slice_int.specs.Be.{bytesOf}
 use Rattle.packed.specs.Assignment.{AssignedSegment, ConsumerAssignment, encodeRange, encodeRanges, encodeSegment, encodeSegments}

@@ -6,12 +6,12 @@ ghost use mathlib.Core.Path.{_≡_};
 ghost use Prim.Native.Nat.{_+_, _*_, _%_, _≤_, _<_, min};
 ghost use mathlib.Core.Bool.{not, _&&_};
 ghost use lib.ListN.{length, drop};
-ghost use Rattle.types.specs.KeyRanges.{keyRange};
+ghost use Rattle.topic_types.specs.KeyRanges.{keyRange};
 ghost use Rattle.ranges.specs.Overlap.{overlapsAny, risingFrom};
 ghost use Rattle.packed.specs.Assignment.{decodeRange, decodeRanges, okBuckets, startsAssignment, isAssignment};
 ghost use Rattle.packed.specs.Answers.{recordRead, recordsEnd, frontSize, frontRead, wholeRead};
 ghost use Rattle.packed.specs.Words.{topsOf, WordRises};
-use types::KeyRange;
+use topic_types::KeyRange;
 
 // The most bytes of a packed assignment: a slot.
 pub const SLOT: usize = 2048;

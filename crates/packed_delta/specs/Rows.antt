@@ -6,7 +6,7 @@ use mathlib.Core.Bool.{true, false}
 use mathlib.Core.List.{List, [], _∷_, map}
 use lib.ListN.{length}
 use Rattle.slice_int.specs.Be.{bytesOf}
-use Rattle.types.specs.KeyRanges.{keyRange}
+use Rattle.topic_types.specs.KeyRanges.{keyRange}
 use Rattle.packed.specs.Assignment.{ConsumerAssignment, encodeRange, encodeRanges, encodeSegment, encodeSegments, sizeSegment, sizeSegments}
 use Rattle.packed.specs.Rows.{half, ofThree, rising, points}
 use Rattle.packed.specs.Equal.{sameRanges, sameSegment}

@@ -4,7 +4,7 @@
 ghost use mathlib.Core.Path.{_≡_};
 ghost use Prim.Native.Nat.{_+_};
 ghost use Rattle.ranges.specs.Overlap.{overlap, startsFrom};
-use types::KeyRange;
+use topic_types::KeyRange;
 
 // The two ranges share a value.
 pub fn overlaps(a: KeyRange, b: KeyRange) -> bool

@@ -2,9 +2,9 @@
 -- Assumes nothing.
 use mathlib.Core.Path.{_≡_, refl}
 use mathlib.Core.Bool.{Bool}
-use Rattle.types.specs.declared.KeyRange.{KeyRange}
-use Rattle.types.specs.declared.RangeResult.{RangeResult}
-use Rattle.types.specs.declared.RangeResult.the-variants.{Valid, Invalid}
+use Rattle.topic_types.specs.declared.KeyRange.{KeyRange}
+use Rattle.topic_types.specs.declared.RangeResult.{RangeResult}
+use Rattle.topic_types.specs.declared.RangeResult.the-variants.{Valid, Invalid}
 use Rattle.refusal.specs.declared.Refusal.the-variants.{InvalidKeyRange}
 use Rattle.refusal.specs.Steps.{takeRange}
 use Rattle.ranges_calls.specs.declared.RangePair.{RangePair}

@@ -2,12 +2,12 @@
 //
 // Each call tests its ranges first, the first before the second, and refuses one that `KeyRange::new` does not make (9).
 ghost use mathlib.Core.Path.{_≡_};
-ghost use Rattle.types.specs.KeyRanges.{newKeyRange};
+ghost use Rattle.topic_types.specs.KeyRanges.{newKeyRange};
 ghost use Rattle.ranges_calls.specs.Calls.{pairBy, holds, holdsRange, touches, lengthOf, containsOf, containsRangeOf, isAdjacentOf};
 use refusal::Refusal;
-use types::KeyRange;
-use types::KeyRangeError;
-use types::RangeResult;
+use topic_types::KeyRange;
+use topic_types::KeyRangeError;
+use topic_types::RangeResult;
 
 pub enum LengthAnswer {
     // How many values the range has, 1 to 65,536.

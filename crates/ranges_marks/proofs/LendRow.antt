@@ -33,8 +33,8 @@ use denote.Ref.{RefT}
 use denote.Slice.{sliceVal, Room}
 use denote.Steps.{only, facts}
 use borrow.Table.Elements.{at, cut-app, join-app, take-le, length-take-le}
-use Rattle.types.specs.declared.KeyRange.{KeyRange}
-use Rattle.types.proofs.KeyRange as T
+use Rattle.topic_types.specs.declared.KeyRange.{KeyRange}
+use Rattle.topic_types.proofs.KeyRange as T
 use Rattle.ranges_marks.proofs.Row.{range, Own, vals}
 use Rattle.ranges_marks.proofs.Walk.{Flat, ty, low, IsLow, has}
 

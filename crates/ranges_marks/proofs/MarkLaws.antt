@@ -15,7 +15,7 @@ use lib.ListN.{length, getD, set, length-set}
 use lib.Seq.{getD-set-same, getD-set-other}
 use lib.Bits.{bitAnd, bitOr, and-le-r}
 use borrow.Author.Tests.{eqb-true, eqb-false, ltb-true, ltb-false}
-use Rattle.types.specs.declared.KeyRange.{KeyRange}
+use Rattle.topic_types.specs.declared.KeyRange.{KeyRange}
 use Rattle.ranges_marks.specs.Bits.{bit, ones}
 use Rattle.ranges_marks.specs.Marks.{marked, Marking}
 use Rattle.ranges_marks.proofs.BitLaws.{bit-or, bit-and, bit-zero, bits-none, ones-below, ones-within, ones-above, ones-small}

@@ -28,9 +28,9 @@ use denote.Ref.{RefT}
 use denote.Slice.{sliceTy, sliceVal, ShrSlice, Room, shr-slice-copy}
 use denote.Index.{place-is, others, elem-out, elem-back, looks-slice, shuts-slice, place as place-of}
 use denote.Struct.Laws as LL
-use Rattle.types.specs.declared.KeyRange.{KeyRange}
-use Rattle.types.proofs.KeyRange as T
-use Rattle.types.proofs.KeyRange.Laws as T′
+use Rattle.topic_types.specs.declared.KeyRange.{KeyRange}
+use Rattle.topic_types.proofs.KeyRange as T
+use Rattle.topic_types.proofs.KeyRange.Laws as T′
 use Rattle.ranges_marks.proofs.RowLaws.{none}
 use Rattle.ranges_marks.proofs.Walk.{Flat, flat-struct, ty, low, IsLow, fits, whole-of}
 

@@ -15,7 +15,7 @@ use lib.ListN.{length, getD, take, drop, take-append-drop, replicate}
 use lib.Seq.{take-suc, take-all, drop-cons}
 use borrow.Author.Tests.{leb-true, le-leb}
 use Rattle.slice.specs.BoolLaws.{both-true}
-use Rattle.types.specs.declared.KeyRange.{KeyRange}
+use Rattle.topic_types.specs.declared.KeyRange.{KeyRange}
 use Rattle.ranges.specs.Meaning.{Within, common, shared}
 use Rattle.ranges.specs.Overlap.{overlap, overlapsAny, anyOverlap}
 use Rattle.ranges.proofs.OverlapLaws.{crossOverlap, overlaps-any-append, any-append}

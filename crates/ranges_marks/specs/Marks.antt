@@ -6,7 +6,7 @@ use mathlib.Core.Path.{_≡_}
 use mathlib.Core.Bool.{Bool, true, false}
 use mathlib.Core.List.{List, [], _∷_, _++_}
 use lib.ListN.{length, getD}
-use Rattle.types.specs.declared.KeyRange.{KeyRange}
+use Rattle.topic_types.specs.declared.KeyRange.{KeyRange}
 use Rattle.ranges.specs.Overlap.{overlapsAny, anyOverlap}
 use Rattle.ranges.specs.Meaning.{Within}
 use Rattle.ranges_marks.specs.Bits.{bit}

@@ -4,7 +4,7 @@ ghost use Prim.Native.Nat.{_+_, _≤_, _<_, min};
 ghost use lib.ListN.{length, take};
 ghost use Rattle.ranges_marks.specs.Bits.{ones};
 ghost use Rattle.ranges_marks.specs.Marks.{words, rowSize, Marking, RowMarking};
-use types::KeyRange;
+use topic_types::KeyRange;
 
 // As many words as the key space needs, 64 values each.
 pub const WORDS: usize = 1024;

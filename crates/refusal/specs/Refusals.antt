@@ -8,10 +8,10 @@
 use Prim.Native.Nat.{ℕ}
 use mathlib.Core.List.{List, [], _∷_, map}
 use lib.IntN.{ℤ, pos}
-use Rattle.types.specs.declared.SegmentId.{SegmentId}
-use Rattle.types.specs.declared.ControllerIncarnation.{ControllerIncarnation}
-use Rattle.types.specs.declared.KeyRangeError.{KeyRangeError}
-use Rattle.types.specs.KeyRanges.{errorKind, errorNumbers}
+use Rattle.topic_types.specs.declared.SegmentId.{SegmentId}
+use Rattle.topic_types.specs.declared.ControllerIncarnation.{ControllerIncarnation}
+use Rattle.topic_types.specs.declared.KeyRangeError.{KeyRangeError}
+use Rattle.topic_types.specs.KeyRanges.{errorKind, errorNumbers}
 use Rattle.refusal.specs.declared.Refusal.{Refusal}
 use Rattle.refusal.specs.declared.Refusal.the-variants.{StoreTooShort, OutputTooShort, InvalidWireFormat, WrongWireType}
 use Rattle.refusal.specs.declared.Refusal.the-variants.{MissingField, InvalidUtf8, IdentityTooLong, InvalidRange, InvalidKeyRange}

@@ -6,9 +6,9 @@
 // has 5, which request b of document 02 retired.
 ghost use mathlib.Core.Path.{_≡_};
 ghost use Rattle.refusal.specs.Refusals.{numberOf};
-use types::ControllerIncarnation;
-use types::KeyRangeError;
-use types::SegmentId;
+use topic_types::ControllerIncarnation;
+use topic_types::KeyRangeError;
+use topic_types::SegmentId;
 
 pub enum Refusal {
     // 1: the store has fewer than three slots.

@@ -6,8 +6,8 @@ use mathlib.Core.Path.{_≡_, refl, sym, ap, _∙_, subst}
 use mathlib.Core.Bool.{true}
 use mathlib.Core.List.{List, []}
 use lib.IntN.{ℤ}
-use Rattle.types.specs.ConsumerTypes.{fromWire}
-use Rattle.types.specs.declared.ScalableConsumerType.{ScalableConsumerType}
+use Rattle.topic_types.specs.ConsumerTypes.{fromWire}
+use Rattle.topic_types.specs.declared.ScalableConsumerType.{ScalableConsumerType}
 use Rattle.session.specs.declared.SessionRecord.{SessionRecord}
 use Rattle.session.specs.declared.Answer.{Answer}
 use Rattle.session.specs.declared.Answer.the-variants as answer

@@ -9,8 +9,8 @@ use lib.ListN.{length}
 use lib.Dec.{eqb, leb}
 use borrow.Author.Tests.{le-ltb, leb-true, eqb-true, eqb-false, eq-eqb, ne-eqb}
 use Rattle.slice.specs.BoolLaws.{both-true}
-use Rattle.types.specs.declared.ScalableConsumerType.{ScalableConsumerType}
-use Rattle.types.specs.declared.ScalableConsumerType.the-variants.{Stream, Checkpoint}
+use Rattle.topic_types.specs.declared.ScalableConsumerType.{ScalableConsumerType}
+use Rattle.topic_types.specs.declared.ScalableConsumerType.the-variants.{Stream, Checkpoint}
 use Rattle.session.specs.declared.Match.the-variants.{Same, Other}
 use Rattle.session.specs.Store.{minStore, identitySlot, slot}
 use Rattle.session.specs.Identity.{Identity, kindByte, identityTopic, subscriptionOf, consumerNameOf, identityKind, isIdentity}

@@ -12,8 +12,8 @@ use lib.ListN.{length}
 use lib.Dec.{eqb, leb}
 use borrow.Author.Tests.{leb-true, eq-eqb}
 use Rattle.slice.specs.BoolLaws.{both-true}
-use Rattle.types.specs.KeyRanges.{maxHash}
-use Rattle.types.proofs.KeyRangeLaws.{valid-new}
+use Rattle.topic_types.specs.KeyRanges.{maxHash}
+use Rattle.topic_types.proofs.KeyRangeLaws.{valid-new}
 use Rattle.slice.specs.Same.{startsWith}
 use Rattle.slice.proofs.PartLaws.{Bytes}
 use Rattle.utf8.specs.Table.{isUtf8}

@@ -14,7 +14,7 @@ use lib.ListN.{length, take}
 use lib.Dec.{leb}
 use borrow.Author.Tests.{lt-ltb}
 use Rattle.slice.specs.BoolLaws.{both-true}
-use Rattle.types.specs.declared.KeyRange.{KeyRange}
+use Rattle.topic_types.specs.declared.KeyRange.{KeyRange}
 use Rattle.slice.specs.Same.{startsWith}
 use Rattle.slice.proofs.PartLaws.{Bytes}
 use Rattle.utf8.specs.Table.{isUtf8}

@@ -4,8 +4,8 @@
 use Prim.Native.Nat.{zero, suc}
 use mathlib.Core.Bool.{Bool, true, false}
 use lib.IntN.{ℤ, pos, negsuc}
-use Rattle.types.specs.declared.ScalableConsumerType.{ScalableConsumerType}
-use Rattle.types.specs.declared.ScalableConsumerType.the-variants.{Stream, Checkpoint}
+use Rattle.topic_types.specs.declared.ScalableConsumerType.{ScalableConsumerType}
+use Rattle.topic_types.specs.declared.ScalableConsumerType.the-variants.{Stream, Checkpoint}
 use Rattle.rust_magnetar.specs.Result.{Result, Ok, Err}
 
 -- #[derive(PartialEq)]

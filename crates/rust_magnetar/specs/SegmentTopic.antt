@@ -6,9 +6,9 @@ use mathlib.Core.List.{List, [], _∷_, _++_}
 use mathlib.Core.Option.{Option, some, none}
 use lib.ListN.{length, take}
 use lib.Dec.{eqb, leb}
-use Rattle.types.specs.declared.KeyRange.{KeyRange}
-use Rattle.types.specs.declared.KeyRangeError.{KeyRangeError}
-use Rattle.types.specs.declared.SegmentId.{SegmentId}
+use Rattle.topic_types.specs.declared.KeyRange.{KeyRange}
+use Rattle.topic_types.specs.declared.KeyRangeError.{KeyRangeError}
+use Rattle.topic_types.specs.declared.SegmentId.{SegmentId}
 use Rattle.rust_magnetar.specs.Result.{Result, Ok, Err, _>>=_, map-err, ok-or}
 use Rattle.rust_magnetar.specs.Text.{Text, text-eq, is-empty, strip-prefix, contains-any, ends-with, starts-with, all-bytes, Split, rsplit-once, split, splitn}
 use Rattle.rust_magnetar.specs.Numerals.{display, lower-hex-4, u32-from-str-radix, parse-u64}

@@ -13,9 +13,9 @@ use mathlib.Core.Option.{Option, some, none}
 use lib.ListN.{length}
 use lib.IntN.{ℤ}
 use lib.Dec.{eqb, ltb, leb}
-use Rattle.types.specs.declared.SegmentId.{SegmentId}
-use Rattle.types.specs.declared.ControllerIncarnation.{ControllerIncarnation}
-use Rattle.types.specs.declared.ScalableConsumerType.{ScalableConsumerType}
+use Rattle.topic_types.specs.declared.SegmentId.{SegmentId}
+use Rattle.topic_types.specs.declared.ControllerIncarnation.{ControllerIncarnation}
+use Rattle.topic_types.specs.declared.ScalableConsumerType.{ScalableConsumerType}
 use Rattle.wire_readers.specs.declared.ErrorCode.{ErrorCode}
 use Rattle.wire_readers.specs.declared.ErrorCode.the-variants.{Given, Absent}
 use Rattle.wire_readers.specs.Messages.{WireAssignment, WireUpdate, WireResponse}

@@ -20,8 +20,8 @@ use Rattle.name_parents.specs.Parents.{topicScheme, beforeSlash, behindSlash, c
 use Rattle.name_parents.specs.Parents.{isPath, isParent, pathOf}
 use Rattle.name_topic.specs.Names.{segmentScheme, hex4, decimal, descriptor, segmentTopic}
 use Rattle.name_source.specs.Parse.{hasSlash}
-use Rattle.types.specs.declared.KeyRange.{KeyRange}
-use Rattle.types.specs.declared.SegmentId.{SegmentId}
+use Rattle.topic_types.specs.declared.KeyRange.{KeyRange}
+use Rattle.topic_types.specs.declared.SegmentId.{SegmentId}
 use Rattle.rust_magnetar.specs.Result.{Result, Ok, Err, _>>=_, ok-or}
 use Rattle.rust_magnetar.specs.Text.{Text, is-empty, strip-prefix, contains-any, ends-with, Split, longer, split-once, splitn-from, splitn}
 use Rattle.rust_magnetar.specs.Numerals.{display}

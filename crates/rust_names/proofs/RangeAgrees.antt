@@ -12,15 +12,15 @@ use mathlib.Core.Bool.{Bool, true, false, cond, _&&_}
 use lib.IntN.{pos, negsuc}
 use lib.Dec.{eqb, ltb}
 use borrow.Author.Tests.{ltb-false, ne-eqb}
-use Rattle.types.specs.declared.KeyRange.{KeyRange}
-use Rattle.types.specs.declared.KeyRangeError.{KeyRangeError}
-use Rattle.types.specs.declared.KeyRangeError.the-variants.{StartOutOfBounds, EndOutOfBounds, Reversed}
-use Rattle.types.specs.declared.RangeResult.{RangeResult}
-use Rattle.types.specs.declared.RangeResult.the-variants.{Valid, Invalid}
-use Rattle.types.specs.declared.ScalableConsumerType.the-variants.{Stream, Checkpoint}
-use Rattle.types.specs.KeyRanges.{maxHash, keyRange, newKeyRange}
-use Rattle.types.specs.ConsumerTypes.{toWire, fromWire}
-use Rattle.types.proofs.KeyRangeLaws.{Makes, new-valid}
+use Rattle.topic_types.specs.declared.KeyRange.{KeyRange}
+use Rattle.topic_types.specs.declared.KeyRangeError.{KeyRangeError}
+use Rattle.topic_types.specs.declared.KeyRangeError.the-variants.{StartOutOfBounds, EndOutOfBounds, Reversed}
+use Rattle.topic_types.specs.declared.RangeResult.{RangeResult}
+use Rattle.topic_types.specs.declared.RangeResult.the-variants.{Valid, Invalid}
+use Rattle.topic_types.specs.declared.ScalableConsumerType.the-variants.{Stream, Checkpoint}
+use Rattle.topic_types.specs.KeyRanges.{maxHash, keyRange, newKeyRange}
+use Rattle.topic_types.specs.ConsumerTypes.{toWire, fromWire}
+use Rattle.topic_types.proofs.KeyRangeLaws.{Makes, new-valid}
 use Rattle.refusal.specs.declared.Refusal.the-variants.{InvalidKeyRange}
 use Rattle.refusal.specs.Steps.{takeRange}
 use Rattle.ranges_calls.specs.declared.LengthAnswer.the-variants as length

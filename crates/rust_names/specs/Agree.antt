@@ -13,14 +13,14 @@ use mathlib.Core.List.{List, _++_}
 use lib.ListN.{length, take, drop}
 use lib.IntN.{ℤ}
 use lib.Dec.{leb}
-use Rattle.types.specs.declared.KeyRange.{KeyRange}
-use Rattle.types.specs.declared.KeyRangeError.{KeyRangeError}
-use Rattle.types.specs.declared.SegmentId.{SegmentId}
-use Rattle.types.specs.declared.RangeResult.{RangeResult}
-use Rattle.types.specs.declared.RangeResult.the-variants.{Valid, Invalid}
-use Rattle.types.specs.declared.ScalableConsumerType.{ScalableConsumerType}
-use Rattle.types.specs.KeyRanges.{newKeyRange}
-use Rattle.types.specs.ConsumerTypes.{toWire, fromWire}
+use Rattle.topic_types.specs.declared.KeyRange.{KeyRange}
+use Rattle.topic_types.specs.declared.KeyRangeError.{KeyRangeError}
+use Rattle.topic_types.specs.declared.SegmentId.{SegmentId}
+use Rattle.topic_types.specs.declared.RangeResult.{RangeResult}
+use Rattle.topic_types.specs.declared.RangeResult.the-variants.{Valid, Invalid}
+use Rattle.topic_types.specs.declared.ScalableConsumerType.{ScalableConsumerType}
+use Rattle.topic_types.specs.KeyRanges.{newKeyRange}
+use Rattle.topic_types.specs.ConsumerTypes.{toWire, fromWire}
 use Rattle.refusal.specs.declared.Refusal.{Refusal}
 use Rattle.refusal.specs.declared.Refusal.the-variants as refusal
 use Rattle.ranges_calls.specs.declared.LengthAnswer.{LengthAnswer}

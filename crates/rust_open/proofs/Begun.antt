@@ -3,9 +3,9 @@
 use Prim.Native.Nat.{ℕ, _≤_}
 use mathlib.Core.Path.{_≡_, refl, sym, ap, _∙_, subst}
 use mathlib.Core.List.{List, []}
-use Rattle.types.specs.declared.ControllerIncarnation.{ControllerIncarnation}
-use Rattle.types.specs.declared.ScalableConsumerType.{ScalableConsumerType}
-use Rattle.types.specs.declared.ScalableConsumerType.the-variants.{Stream, Checkpoint}
+use Rattle.topic_types.specs.declared.ControllerIncarnation.{ControllerIncarnation}
+use Rattle.topic_types.specs.declared.ScalableConsumerType.{ScalableConsumerType}
+use Rattle.topic_types.specs.declared.ScalableConsumerType.the-variants.{Stream, Checkpoint}
 use Rattle.session.specs.declared.Answer.the-variants as answer
 use Rattle.session.specs.Identity.{Identity, kindByte}
 use Rattle.session.specs.Calls.{OpenOutcome, freshRecord, openOutcome}

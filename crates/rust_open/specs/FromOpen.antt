@@ -9,7 +9,7 @@ use mathlib.Core.Path.{_≡_}
 use mathlib.Core.Bool.{true, false}
 use mathlib.Core.List.{List, []}
 use lib.ListN.{length}
-use Rattle.types.specs.declared.ControllerIncarnation.{ControllerIncarnation}
+use Rattle.topic_types.specs.declared.ControllerIncarnation.{ControllerIncarnation}
 use Rattle.packed.specs.Assignment.{slotSize}
 use Rattle.session.specs.declared.Answer.the-variants.{Accepted}
 use Rattle.session.specs.Identity.{Identity}

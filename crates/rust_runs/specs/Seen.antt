@@ -6,11 +6,11 @@ use mathlib.Core.Bool.{Bool}
 use mathlib.Core.List.{List, [], _∷_, map}
 use mathlib.Core.Option.{Option, some, none, Option·map}
 use lib.IntN.{ℤ}
-use Rattle.types.specs.declared.ControllerIncarnation.{ControllerIncarnation}
-use Rattle.types.specs.declared.KeyRange.{KeyRange}
-use Rattle.types.specs.declared.SegmentId.{SegmentId}
-use Rattle.types.specs.declared.ScalableConsumerType.the-variants.{Stream}
-use Rattle.types.specs.KeyRanges.{keyRange}
+use Rattle.topic_types.specs.declared.ControllerIncarnation.{ControllerIncarnation}
+use Rattle.topic_types.specs.declared.KeyRange.{KeyRange}
+use Rattle.topic_types.specs.declared.SegmentId.{SegmentId}
+use Rattle.topic_types.specs.declared.ScalableConsumerType.the-variants.{Stream}
+use Rattle.topic_types.specs.KeyRanges.{keyRange}
 use Rattle.refusal.specs.Refusals.{numberOf, valuesOf}
 use Rattle.packed.specs.Assignment as port
 use Rattle.session.specs.Trace.{Call}

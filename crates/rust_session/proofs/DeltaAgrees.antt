@@ -8,7 +8,7 @@ use mathlib.Core.List.{List, [], _∷_, map}
 use mathlib.Core.Option.{Option, some, none, Option·map}
 use lib.Dec.{eqb}
 use borrow.Author.Tests.{eqb-true}
-use Rattle.types.specs.declared.KeyRange.{KeyRange}
+use Rattle.topic_types.specs.declared.KeyRange.{KeyRange}
 use Rattle.keyed.specs.Keyed.{orElse, Rising, find}
 use Rattle.keyed.proofs.KeyedLaws.{find-insert, find-below, rising-insert, extensional}
 use Rattle.slice.proofs.SameLaws.{same-refl}
@@ -20,7 +20,7 @@ use Rattle.packed_delta.specs.Change.{hasSame, without, deltaBetween}
 use Rattle.packed_delta.specs.Join.{Proper}
 use Rattle.packed_delta.proofs.DeltaLaws.{identical, same-found}
 use Rattle.rust_magnetar.specs.Text.{Text, text-eq}
-use Rattle.types.specs.declared.SegmentId.{SegmentId}
+use Rattle.topic_types.specs.declared.SegmentId.{SegmentId}
 use Rattle.rust_magnetar.specs.Collections.{Vec-eq, filter, is-none-or}
 use Rattle.rust_magnetar.specs.BTree.{BTreeMap-get, BTreeMap-insert, BTreeMap-extend}
 use Rattle.rust_magnetar.specs.Ranges.{KeyRange-eq}

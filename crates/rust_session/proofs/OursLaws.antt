@@ -8,10 +8,10 @@ use mathlib.Core.List.{List, [], _∷_}
 use mathlib.Core.Option.{Option, some, none}
 use mathlib.Core.Logic.{_⊎_, inl, inr}
 use lib.Dec.{eqb, ltb}
-use Rattle.types.specs.declared.SegmentId.{SegmentId}
-use Rattle.types.specs.declared.RangeResult.{RangeResult}
-use Rattle.types.specs.declared.RangeResult.the-variants.{Valid, Invalid}
-use Rattle.types.specs.KeyRanges.{keyRange, newKeyRange}
+use Rattle.topic_types.specs.declared.SegmentId.{SegmentId}
+use Rattle.topic_types.specs.declared.RangeResult.{RangeResult}
+use Rattle.topic_types.specs.declared.RangeResult.the-variants.{Valid, Invalid}
+use Rattle.topic_types.specs.KeyRanges.{keyRange, newKeyRange}
 use Rattle.refusal.specs.declared.Refusal.{Refusal}
 use Rattle.refusal.specs.Refusals.{numberOf}
 use Rattle.slice.specs.Same.{sameBytes}

@@ -11,7 +11,7 @@ use mathlib.Core.Bool.{Bool, true, false, _&&_, _||_, and-comm, or-assoc, or-com
 use mathlib.Core.List.{List, [], _∷_}
 use lib.Dec.{eqb, ltb, leb}
 use borrow.Author.Tests.{ltb-true, ltb-false, leb-false, eqb-true, le-leb, lt-leb}
-use Rattle.types.specs.declared.KeyRange.{KeyRange}
+use Rattle.topic_types.specs.declared.KeyRange.{KeyRange}
 use Rattle.keyed.proofs.KeyedLaws.{choose}
 use Rattle.ranges.specs.Overlap.{overlap, overlapsAny, anyOverlap}
 use Rattle.rust_magnetar.specs.Collections.{insert-by, sort-by, windows-any}

@@ -9,7 +9,7 @@ use mathlib.Core.List.{List, [], _∷_}
 use mathlib.Core.Option.{some}
 use lib.Dec.{eqb, ltb}
 use borrow.Author.Tests.{ltb-true, eqb-true, ne-eqb}
-use Rattle.types.specs.declared.SegmentId.{SegmentId}
+use Rattle.topic_types.specs.declared.SegmentId.{SegmentId}
 use Rattle.keyed.specs.Keyed as keyed
 use Rattle.keyed.specs.Keyed.{isSome, find, holds, insert}
 use Rattle.rust_magnetar.specs.Order.{Less, Equal, Greater, by-ordering, is-eq, number-cmp}

@@ -19,7 +19,7 @@ use mathlib.Core.Option.{Option, some, none, Option·map}
 use lib.ListN.{length, take, drop, getD}
 use lib.IntN.{pos, natAbs}
 use lib.Dec.{eqb, leb, ltb}
-use Rattle.types.specs.declared.ControllerIncarnation.{ControllerIncarnation}
+use Rattle.topic_types.specs.declared.ControllerIncarnation.{ControllerIncarnation}
 use Rattle.refusal.specs.declared.Refusal.{Refusal}
 use Rattle.refusal.specs.Refusals.{numberOf, valuesOf}
 use Rattle.wire_schema.specs.declared.MessageKind.the-variants.{CommandScalableTopicAssignmentUpdate, CommandScalableTopicSubscribeResponse}

@@ -10,9 +10,9 @@ use mathlib.Core.List.{List, [], _∷_, _++_, map}
 use mathlib.Core.Option.{Option, some, none}
 use lib.ListN.{take, replicate}
 use lib.IntN.{pos}
-use Rattle.types.specs.declared.ControllerIncarnation.{ControllerIncarnation}
-use Rattle.types.specs.declared.ScalableConsumerType.the-variants.{Stream}
-use Rattle.types.specs.KeyRanges.{keyRange}
+use Rattle.topic_types.specs.declared.ControllerIncarnation.{ControllerIncarnation}
+use Rattle.topic_types.specs.declared.ScalableConsumerType.the-variants.{Stream}
+use Rattle.topic_types.specs.KeyRanges.{keyRange}
 use Rattle.refusal.specs.declared.Refusal.the-variants.{StaleEpoch, CrossIncarnationEpochRegression, Broker, Empty, AttachmentMismatch}
 use Rattle.refusal.specs.declared.Refusal.the-variants.{NonAdvancingIncarnation, PreBaselineBufferFull}
 use Rattle.utf8.specs.Table.{table, fits, sequenceIn, sequenceOf, textAfter, isUtf8}

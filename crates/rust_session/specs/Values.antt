@@ -6,9 +6,9 @@ use mathlib.Core.Bool.{cond}
 use mathlib.Core.List.{List, [], _∷_, map}
 use mathlib.Core.Option.{Option, some, none}
 use lib.Dec.{eqb}
-use Rattle.types.specs.declared.SegmentId.{SegmentId}
-use Rattle.types.specs.declared.ScalableConsumerType.{ScalableConsumerType}
-use Rattle.types.specs.declared.ScalableConsumerType.the-variants.{Stream, Checkpoint}
+use Rattle.topic_types.specs.declared.SegmentId.{SegmentId}
+use Rattle.topic_types.specs.declared.ScalableConsumerType.{ScalableConsumerType}
+use Rattle.topic_types.specs.declared.ScalableConsumerType.the-variants.{Stream, Checkpoint}
 use Rattle.name_parents.specs.Parents.{pathOf}
 use Rattle.name_topic.specs.Names.{segmentTopic}
 use Rattle.packed.specs.Assignment as port

@@ -11,7 +11,7 @@ use lib.Dec.{ltb}
 use lib.ListN.{length, take, length-append}
 use lib.Seq.{take-at, take-all}
 use borrow.Author.Tests.{ltb-false}
-use Rattle.types.specs.declared.ControllerIncarnation.{ControllerIncarnation}
+use Rattle.topic_types.specs.declared.ControllerIncarnation.{ControllerIncarnation}
 use Rattle.wire_readers.specs.Messages.{updateOf, responseOf}
 use Rattle.keyed.specs.Keyed.{orElse}
 use Rattle.keyed.proofs.KeyedLaws.{choose}

@@ -12,8 +12,8 @@ use mathlib.Core.List.{List, _∷_, _++_, append-assoc}
 use lib.ListN.{length, take, drop, getD, length-append}
 use lib.Seq.{drop-drop, take-at, drop-at, getD-drop}
 use borrow.Author.Tests.{le-leb}
-use Rattle.types.specs.declared.ScalableConsumerType.{ScalableConsumerType}
-use Rattle.types.specs.declared.ScalableConsumerType.the-variants.{Stream, Checkpoint}
+use Rattle.topic_types.specs.declared.ScalableConsumerType.{ScalableConsumerType}
+use Rattle.topic_types.specs.declared.ScalableConsumerType.the-variants.{Stream, Checkpoint}
 use Rattle.slice_int.specs.Be.{be, beAt, bytesOf}
 use Rattle.slice_int.proofs.BeLaws.{length-bytesOf, be-front, drop-front}
 use Rattle.session.specs.Identity.{Identity, kindByte, textsLength, encodeIdentity, topicLength, subscriptionLength, nameLength}

@@ -17,7 +17,7 @@ use lib.Dec.{eqb, ltb, leb}
 use lib.Pow.{areBytes}
 use borrow.Author.Tests.{ltb-true, ltb-false, eqb-false}
 use Rattle.slice.specs.BoolLaws.{both-true}
-use Rattle.types.specs.declared.ControllerIncarnation.{ControllerIncarnation}
+use Rattle.topic_types.specs.declared.ControllerIncarnation.{ControllerIncarnation}
 use Rattle.refusal.specs.declared.Refusal.{Refusal}
 use Rattle.slice.proofs.PartLaws.{Bytes}
 use Rattle.wire_schema.specs.declared.MessageKind.the-variants.{CommandScalableTopicAssignmentUpdate, CommandScalableTopicSubscribeResponse}

@@ -9,7 +9,7 @@ use mathlib.Core.Option.{Option, some, none, Option·map, Option·none-ne-some}
 use lib.ListN.{length}
 use lib.Dec.{eqb}
 use Rattle.slice.specs.BoolLaws.{both-true}
-use Rattle.types.specs.declared.ControllerIncarnation.{ControllerIncarnation}
+use Rattle.topic_types.specs.declared.ControllerIncarnation.{ControllerIncarnation}
 use Rattle.packed.specs.Assignment.{ConsumerAssignment}
 use Rattle.packed_delta.specs.Delta.{AssignmentDelta}
 use Rattle.packed_delta.specs.Join.{Proper, applyAll}

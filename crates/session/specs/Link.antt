@@ -5,7 +5,7 @@
 -- Assumes nothing.
 use mathlib.Core.Bool.{Bool, true, false}
 use lib.Dec.{ltb}
-use Rattle.types.specs.declared.ControllerIncarnation.{ControllerIncarnation}
+use Rattle.topic_types.specs.declared.ControllerIncarnation.{ControllerIncarnation}
 use Rattle.refusal.specs.declared.Refusal.{Refusal}
 use Rattle.refusal.specs.declared.Refusal.the-variants.{NonAdvancingIncarnation}
 use Rattle.refusal.specs.Steps.{_>>_, refuseUnless}

@@ -7,7 +7,7 @@ use Prim.Native.Nat.{ℕ, _+_}
 use mathlib.Core.Bool.{cond, not}
 use mathlib.Core.List.{List, [], _∷_}
 use lib.Dec.{eqb, ltb}
-use Rattle.types.specs.declared.ControllerIncarnation.{ControllerIncarnation}
+use Rattle.topic_types.specs.declared.ControllerIncarnation.{ControllerIncarnation}
 use Rattle.refusal.specs.declared.Refusal.{Refusal}
 use Rattle.refusal.specs.declared.Refusal.the-variants.{StoreTooShort, OutputTooShort, MalformedStore, IncarnationMismatch}
 use Rattle.refusal.specs.declared.Refusal.the-variants.{ConsumerMismatch, StaleEpoch, PreBaselineBufferFull}

@@ -2,7 +2,7 @@
 //
 // What the Rust's `ScalableConsumerSession` owns lies in two places: a small record, here, and a store that is lent to each call.
 use refusal::Refusal;
-use types::ControllerIncarnation;
+use topic_types::ControllerIncarnation;
 
 // How many readers take the replays, each by its own drain position.
 pub const READERS: usize = 8;

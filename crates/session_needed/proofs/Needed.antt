@@ -10,7 +10,7 @@ use mathlib.Core.List.{List, [], _∷_}
 use mathlib.Core.Option.{Option, some, none}
 use lib.ListN.{replicate}
 use lib.Pow.{areBytes}
-use Rattle.types.specs.declared.ControllerIncarnation.{ControllerIncarnation}
+use Rattle.topic_types.specs.declared.ControllerIncarnation.{ControllerIncarnation}
 use Rattle.slice_int.specs.Be.{beFrom, be, beAt}
 use Rattle.utf8.specs.Table.{textAfter, isUtf8}
 use Rattle.wire_schema.specs.Schema.{valueFor}

@@ -11,7 +11,7 @@ use mathlib.Core.List.{List, [], _∷_, _++_}
 use lib.ListN.{length, set, length-append}
 use lib.Dec.{leb}
 use borrow.Author.Tests.{le-leb, lt-leb, leb-true, leb-false, le-ltb, lt-ltb, not-true, not-false}
-use Rattle.types.specs.declared.ControllerIncarnation.{ControllerIncarnation}
+use Rattle.topic_types.specs.declared.ControllerIncarnation.{ControllerIncarnation}
 use Rattle.refusal.specs.declared.Refusal.the-variants.{StoreTooShort, InvalidUtf8, IdentityTooLong}
 use Rattle.utf8.specs.Table.{isUtf8}
 use Rattle.slice_int.specs.Be.{bytesOf}

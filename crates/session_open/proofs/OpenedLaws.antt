@@ -12,9 +12,9 @@ use lib.ListN.{length, take, drop}
 use lib.Dec.{ltb, leb}
 use borrow.Author.Tests.{le-ltb, ltb-false, leb-true, eq-eqb, eqb-true}
 use Rattle.slice.specs.BoolLaws.{both-true}
-use Rattle.types.specs.declared.ControllerIncarnation.{ControllerIncarnation}
-use Rattle.types.specs.declared.ScalableConsumerType.{ScalableConsumerType}
-use Rattle.types.specs.declared.ScalableConsumerType.the-variants.{Stream, Checkpoint}
+use Rattle.topic_types.specs.declared.ControllerIncarnation.{ControllerIncarnation}
+use Rattle.topic_types.specs.declared.ScalableConsumerType.{ScalableConsumerType}
+use Rattle.topic_types.specs.declared.ScalableConsumerType.the-variants.{Stream, Checkpoint}
 use Rattle.refusal.specs.declared.Refusal.{Refusal}
 use Rattle.refusal.specs.declared.Refusal.the-variants.{StoreTooShort, InvalidUtf8, IdentityTooLong}
 use Rattle.slice.specs.Same.{sameBytes}

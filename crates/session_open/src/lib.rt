@@ -16,8 +16,8 @@ use session::Floor;
 use session::Match;
 use session::SessionRecord;
 use session_store::MIN_STORE;
-use types::ControllerIncarnation;
-use types::ScalableConsumerType;
+use topic_types::ControllerIncarnation;
+use topic_types::ScalableConsumerType;
 
 // The most bytes of an identity's texts together.
 const MAX_TEXTS: usize = 2041;

@@ -13,7 +13,7 @@ use Prim.Native.Nat.{ℕ}
 use mathlib.Core.Path.{_≡_}
 use mathlib.Core.Bool.{true}
 use mathlib.Core.List.{List, [], _∷_}
-use Rattle.types.specs.declared.ControllerIncarnation.{ControllerIncarnation}
+use Rattle.topic_types.specs.declared.ControllerIncarnation.{ControllerIncarnation}
 use Rattle.wire.specs.declared.WireType.the-variants as type
 use Rattle.wire.specs.Fields.{bytes, Field, field, fieldsOf}
 use Rattle.session.specs.declared.SessionRecord.{SessionRecord}

@@ -27,7 +27,7 @@ use session::Changed;
 use session::SessionRecord;
 use session_intake::PlainMessage;
 use session_store::MIN_STORE;
-use types::ControllerIncarnation;
+use topic_types::ControllerIncarnation;
 use wire_messages::Checked;
 use wire_messages::MessageKind;
 use wire_readers::ErrorCode;

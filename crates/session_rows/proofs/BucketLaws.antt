@@ -9,9 +9,9 @@ use mathlib.Core.List.{List, [], _∷_, map}
 use mathlib.Core.Option.{none}
 use lib.IntN.{pos}
 use borrow.Author.Tests.{le-leb, le-ltb}
-use Rattle.types.specs.declared.SegmentId.{SegmentId}
-use Rattle.types.specs.declared.KeyRange.{KeyRange}
-use Rattle.types.specs.KeyRanges.{keyRange, maxHash, newKeyRange}
+use Rattle.topic_types.specs.declared.SegmentId.{SegmentId}
+use Rattle.topic_types.specs.declared.KeyRange.{KeyRange}
+use Rattle.topic_types.specs.KeyRanges.{keyRange, maxHash, newKeyRange}
 use Rattle.refusal.specs.declared.Refusal.the-variants.{AssignmentTooLong}
 use Rattle.slice.specs.Same.{sameBytes, startsWith}
 use Rattle.slice.proofs.SameLaws.{same-refl}

@@ -9,7 +9,7 @@ use mathlib.Core.List.{List, [], _∷_, _++_, map}
 use lib.ListN.{length, replicate, length-append}
 use lib.Seq.{take-all}
 use borrow.Author.Tests.{le-ltb, ne-eqb}
-use Rattle.types.specs.KeyRanges.{newKeyRange}
+use Rattle.topic_types.specs.KeyRanges.{newKeyRange}
 use Rattle.slice.specs.Same.{sameBytes, startsWith}
 use Rattle.ranges.specs.Overlap.{anyOverlap}
 use Rattle.utf8.specs.Table.{table, fits, sequenceIn, sequenceOf, textAfter, isUtf8}

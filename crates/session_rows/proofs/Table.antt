@@ -5,7 +5,7 @@ use Prim.Native.Nat.{ℕ}
 use mathlib.Core.Path.{_≡_, refl}
 use mathlib.Core.Bool.{false}
 use mathlib.Core.List.{List, [], _∷_, _++_}
-use Rattle.types.specs.KeyRanges.{keyRange, newKeyRange}
+use Rattle.topic_types.specs.KeyRanges.{keyRange, newKeyRange}
 use Rattle.refusal.specs.declared.Refusal.the-variants.{OverlappingBucketRanges, AssignmentTooLong}
 use Rattle.ranges.specs.Overlap.{overlapsAny, anyOverlap}
 use Rattle.slice.specs.Same.{sameBytes, startsWith}

@@ -9,9 +9,9 @@ use mathlib.Core.Bool.{Bool, true, false}
 use mathlib.Core.List.{List, [], _∷_, _++_, map}
 use mathlib.Core.Option.{none, some}
 use lib.ListN.{take, replicate}
-use Rattle.types.specs.declared.ControllerIncarnation.{ControllerIncarnation}
-use Rattle.types.specs.declared.ScalableConsumerType.the-variants.{Stream}
-use Rattle.types.specs.KeyRanges.{keyRange}
+use Rattle.topic_types.specs.declared.ControllerIncarnation.{ControllerIncarnation}
+use Rattle.topic_types.specs.declared.ScalableConsumerType.the-variants.{Stream}
+use Rattle.topic_types.specs.KeyRanges.{keyRange}
 use Rattle.refusal.specs.declared.Refusal.{Refusal}
 use Rattle.refusal.specs.declared.Refusal.the-variants.{OverlappingBucketRanges, InvalidParent, AssignmentTooLong}
 use Rattle.refusal.specs.declared.Refusal.the-variants.{StaleEpoch, PreBaselineBufferFull}

@@ -18,7 +18,7 @@ use session::Changed;
 use session::SessionRecord;
 use session_store::MIN_STORE;
 use session_store::Tested;
-use types::ControllerIncarnation;
+use topic_types::ControllerIncarnation;
 
 // "CUD1", the first 4 bytes.
 const MARK: u32 = 0x43554431;

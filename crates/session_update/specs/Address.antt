@@ -5,7 +5,7 @@
 use Prim.Native.Nat.{ℕ}
 use mathlib.Core.Bool.{cond, not}
 use lib.Dec.{eqb}
-use Rattle.types.specs.declared.ControllerIncarnation.{ControllerIncarnation}
+use Rattle.topic_types.specs.declared.ControllerIncarnation.{ControllerIncarnation}
 use Rattle.refusal.specs.declared.Refusal.the-variants.{IncarnationMismatch, ConsumerMismatch}
 use Rattle.intake_content.specs.Content.{Content}
 use Rattle.session.specs.declared.SessionRecord.{SessionRecord}

@@ -33,7 +33,7 @@ use session::SessionRecord;
 use session_intake::PlainMessage;
 use session_store::MAX_QUEUE;
 use session_store::Tested;
-use types::ControllerIncarnation;
+use topic_types::ControllerIncarnation;
 use wire_messages::Checked;
 use wire_messages::MessageKind;
 

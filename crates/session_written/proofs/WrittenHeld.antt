@@ -15,7 +15,7 @@ use lib.Dec.{eqb, ltb, leb}
 use borrow.Author.Tests.{le-ltb, leb-true, eq-eqb, ne-eqb}
 use Rattle.slice.specs.BoolLaws.{both-true}
 use Rattle.slice.proofs.PartLaws.{Bytes, Bytes-take, Bytes-drop}
-use Rattle.types.specs.declared.ControllerIncarnation.{ControllerIncarnation}
+use Rattle.topic_types.specs.declared.ControllerIncarnation.{ControllerIncarnation}
 use Rattle.slice_int.proofs.BeLaws.{bytesOf-front}
 use Rattle.wire_readers.specs.Messages.{updateOf, responseOf}
 use Rattle.name_parents.specs.Parents.{pathOf}

@@ -12,7 +12,7 @@ use mathlib.Core.List.{List, [], _∷_, _++_}
 use mathlib.Core.Option.{Option, some, none}
 use lib.ListN.{length, take}
 use Rattle.slice.specs.Bytes.{Bytes}
-use Rattle.types.specs.declared.ControllerIncarnation.{ControllerIncarnation}
+use Rattle.topic_types.specs.declared.ControllerIncarnation.{ControllerIncarnation}
 use Rattle.packed.specs.Assignment.{ConsumerAssignment, decodeAssignment}
 use Rattle.packed.specs.Equal.{sameAssignment}
 use Rattle.packed_queue.specs.Entries.{sizeEntry}

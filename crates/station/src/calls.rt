@@ -2,8 +2,8 @@
 use export_record::Record;
 use export_record::SessionReply;
 use log_calls::CallName;
-use types::ControllerIncarnation;
-use types::ScalableConsumerType;
+use topic_types::ControllerIncarnation;
+use topic_types::ScalableConsumerType;
 
 fn consumer_type(word: &[u8]) -> ScalableConsumerType {
     if slice::same(word, b"checkpoint") {

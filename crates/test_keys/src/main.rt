@@ -15,7 +15,7 @@ use log_text::decimal;
 use log_text::four_bytes;
 use log_text::labelled;
 use log_text::text;
-use types::SegmentId;
+use topic_types::SegmentId;
 
 // The most bytes that are read.
 const INPUT: usize = 262144;

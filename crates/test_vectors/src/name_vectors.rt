@@ -7,7 +7,7 @@ use log_text::newline;
 use log_text::text;
 use name_source::SourceAnswer;
 use name_topic::NameAnswer;
-use types::SegmentId;
+use topic_types::SegmentId;
 
 fn answer(r: NameAnswer, out: &[u8]) {
     match r {

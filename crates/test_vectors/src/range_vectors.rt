@@ -3,7 +3,7 @@ ghost use Prim.Native.Nat.{_≤_};
 use crate::print;
 use ranges_calls::LengthAnswer;
 use ranges_calls::TestAnswer;
-use types::KeyRange;
+use topic_types::KeyRange;
 
 // length START END
 fn length(line: &[u8]) {

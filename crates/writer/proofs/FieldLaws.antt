@@ -11,7 +11,7 @@ use mathlib.Core.Path.{_≡_, refl, ap, _∙_}
 use mathlib.Core.List.{List, [], _∷_, _++_, append-assoc, append-nil}
 use lib.ListN.{length, drop, length-append}
 use borrow.Author.Tests.{le-leb, lt-leb}
-use Rattle.types.specs.declared.KeyRange.{KeyRange}
+use Rattle.topic_types.specs.declared.KeyRange.{KeyRange}
 use Rattle.slice.proofs.PartLaws.{Bytes, Bytes-drop}
 use Rattle.wire_writer.specs.Encode.{numberField, partHead, partField}
 use Rattle.packed.specs.Assignment.{AssignedSegment, decodeRange, decodeRanges, decodeSegment, decodeSegments, sizeSegment}

@@ -9,7 +9,7 @@ use mathlib.Core.Path.{_≡_, refl, sym, ap, _∙_}
 use mathlib.Core.List.{List, _∷_}
 use mathlib.Core.Option.{Option}
 use lib.ListN.{drop}
-use Rattle.types.specs.declared.KeyRange.{KeyRange}
+use Rattle.topic_types.specs.declared.KeyRange.{KeyRange}
 use Rattle.refusal.specs.declared.Refusal.the-variants.{BucketOutsideSegment}
 use Rattle.slice_int.specs.Be.{beAt}
 use Rattle.packed.specs.Assignment.{AssignedSegment, decodeRange, decodeRanges, decodeSegment, decodeSegments, sizeSegment}

@@ -9,8 +9,8 @@ use native.Mathlib.Omega.{arith}
 use mathlib.Core.Path.{_≡_, refl, ap, subst}
 use mathlib.Core.List.{List, [], _∷_}
 use lib.ListN.{length, length-append}
-use Rattle.types.specs.declared.KeyRange.{KeyRange}
-use Rattle.types.specs.declared.SegmentId.{SegmentId}
+use Rattle.topic_types.specs.declared.KeyRange.{KeyRange}
+use Rattle.topic_types.specs.declared.SegmentId.{SegmentId}
 use Rattle.name_topic.specs.Names.{decimalWithin, decimal, segmentTopic}
 use Rattle.name_topic.proofs.NameLaws.{decimal-length, descriptor-length, segmentTopic-length, decimal-next, decimal-end, digits-fewer}
 use Rattle.wire_writer.specs.Encode.{varintBytes, numberKey, partKey, numberField, partHead, partField}

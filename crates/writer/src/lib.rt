@@ -20,8 +20,8 @@ use name_topic::NameAnswer;
 use output::WriteAnswer;
 use packed::Packed;
 use refusal::Refusal;
-use types::KeyRange;
-use types::SegmentId;
+use topic_types::KeyRange;
+use topic_types::SegmentId;
 
 // How many bytes the segments need.
 enum Room {

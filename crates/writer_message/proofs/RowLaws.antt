@@ -9,7 +9,7 @@ use native.Mathlib.Omega.{arith}
 use mathlib.Core.Path.{_≡_, refl, sym, ap, _∙_, subst}
 use mathlib.Core.List.{List, [], _∷_, _++_, map, append-nil}
 use lib.ListN.{length, length-append}
-use Rattle.types.specs.declared.KeyRange.{KeyRange}
+use Rattle.topic_types.specs.declared.KeyRange.{KeyRange}
 use Rattle.wire.specs.Fields.{Field, fieldsOf}
 use Rattle.wire.proofs.FieldsLaws.{fields-nil}
 use Rattle.wire_writer.specs.Encode.{numberField, partHead, partField}

@@ -12,7 +12,7 @@ use lib.ListN.{length, length-append, length-drop}
 use lib.Dec.{leb}
 use borrow.Author.Tests.{leb-true}
 use Rattle.slice.specs.BoolLaws.{both-true}
-use Rattle.types.specs.declared.KeyRange.{KeyRange}
+use Rattle.topic_types.specs.declared.KeyRange.{KeyRange}
 use Rattle.name_parents.specs.Parents.{pathOf}
 use Rattle.name_topic.proofs.NameLaws.{descriptor-short, segmentTopic-length}
 use Rattle.wire_writer.specs.Encode.{varintBytes, numberKey, partKey, numberField, partHead, partField}

@@ -12,8 +12,8 @@ use lib.ListN.{length, drop, getD, take-append-drop}
 use lib.Dec.{leb, eqb, ltb}
 use borrow.Author.Tests.{leb-true, eqb-false}
 use Rattle.slice.specs.BoolLaws.{both-true}
-use Rattle.types.specs.declared.KeyRange.{KeyRange}
-use Rattle.types.specs.declared.SegmentId.{SegmentId}
+use Rattle.topic_types.specs.declared.KeyRange.{KeyRange}
+use Rattle.topic_types.specs.declared.SegmentId.{SegmentId}
 use Rattle.slice.specs.Same.{startsWith}
 use Rattle.slice.proofs.SameLaws.{same-eq}
 use Rattle.utf8.specs.Table.{Span, table, within, fits, sequenceIn, sequenceOf, textAfter, isUtf8}

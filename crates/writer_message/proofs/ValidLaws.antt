@@ -10,7 +10,7 @@ use mathlib.Core.Bool.{true}
 use mathlib.Core.List.{List, [], _∷_, map}
 use lib.ListN.{length}
 use borrow.Author.Tests.{eq-eqb}
-use Rattle.types.specs.declared.KeyRange.{KeyRange}
+use Rattle.topic_types.specs.declared.KeyRange.{KeyRange}
 use Rattle.utf8.specs.Table.{isUtf8}
 use Rattle.name_parents.specs.Parents.{pathOf}
 use Rattle.wire.specs.Fields.{fieldsOf}

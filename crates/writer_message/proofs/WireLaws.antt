@@ -17,9 +17,9 @@ use lib.ListN.{length}
 use lib.Dec.{eqb}
 use borrow.Author.Tests.{eq-eqb, lt-ltb, leb-true}
 use Rattle.slice.specs.BoolLaws.{both-true}
-use Rattle.types.specs.declared.SegmentId.{SegmentId}
-use Rattle.types.specs.declared.KeyRange.{KeyRange}
-use Rattle.types.proofs.KeyRangeLaws.{valid-new}
+use Rattle.topic_types.specs.declared.SegmentId.{SegmentId}
+use Rattle.topic_types.specs.declared.KeyRange.{KeyRange}
+use Rattle.topic_types.proofs.KeyRangeLaws.{valid-new}
 use Rattle.slice.proofs.SameLaws.{same-refl}
 use Rattle.ranges.specs.Overlap.{anyOverlap}
 use Rattle.utf8.specs.Table.{isUtf8}

@@ -5,7 +5,7 @@
 -- Assumes nothing.
 use Prim.Native.Nat.{ℕ}
 use mathlib.Core.List.{List, [], _∷_, _++_}
-use Rattle.types.specs.declared.KeyRange.{KeyRange}
+use Rattle.topic_types.specs.declared.KeyRange.{KeyRange}
 use Rattle.name_topic.specs.Names.{segmentTopic}
 use Rattle.wire_writer.specs.Encode.{numberField, partField}
 use Rattle.packed.specs.Assignment.{AssignedSegment, ConsumerAssignment}

@@ -3,7 +3,7 @@
 use Prim.Native.Nat.{ℕ}
 use mathlib.Core.List.{List, map}
 use lib.IntN.{pos}
-use Rattle.types.specs.declared.KeyRange.{KeyRange}
+use Rattle.topic_types.specs.declared.KeyRange.{KeyRange}
 use Rattle.wire.specs.declared.WireType.the-variants as type
 use Rattle.wire.specs.Fields.{number, bytes, Field, field}
 use Rattle.wire_readers.specs.declared.IntRange.{IntRange}

@@ -1,8 +1,8 @@
 -- `reply::range` meets its contract.
 -- Assumes nothing.
 use mathlib.Core.Path.{_≡_, ap, sym, _∙_}
-use Rattle.types.specs.declared.KeyRangeError.{KeyRangeError}
-use Rattle.types.specs.KeyRanges.{errorKind, errorNumbers}
+use Rattle.topic_types.specs.declared.KeyRangeError.{KeyRangeError}
+use Rattle.topic_types.specs.KeyRanges.{errorKind, errorNumbers}
 use Rattle.refusal.specs.Refusals.{sourceValues}
 use Rattle.export_reply.specs.declared.Reply.{Reply}
 use Rattle.export_reply.specs.Replies.{replyWith, wordAt, wordOf}

@@ -6,7 +6,7 @@ use mathlib.Core.List.{List}
 use mathlib.Core.Path.{_≡_, refl, sym, ap, _∙_}
 use lib.ListN.{drop}
 use borrow.Author.Needs.{needs}
-use Rattle.types.specs.declared.KeyRange.{KeyRange}
+use Rattle.topic_types.specs.declared.KeyRange.{KeyRange}
 use Rattle.key_in_segment.specs.Ends.{lesserOf, leastIn}
 use Rattle.key_in_segment.proofs.LeastLaws.{lesser-none, row-turn}
 use Rattle.packed.specs.Assignment.{decodeRanges}

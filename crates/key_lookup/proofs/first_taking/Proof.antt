@@ -2,7 +2,7 @@
 -- many records are left. Assumes nothing.
 use native.Mathlib.Omega.{arith}
 use mathlib.Core.Path.{refl, sym, ap, _∙_}
-use Rattle.types.specs.declared.SegmentId.{SegmentId}
+use Rattle.topic_types.specs.declared.SegmentId.{SegmentId}
 use Rattle.packed_records.proofs.WalkLaws.{Turn, turn-start, turn-end, turn-head, turn-inside, turn-found, turn-next}
 use Rattle.key_lookup.specs.Lookup.{firstTaking}
 use Rattle.key_lookup.specs.declared.SegmentAnswer.the-variants.{Segment}

@@ -7,7 +7,7 @@ use mathlib.Core.List.{List}
 use lib.Seq.{length-take-le}
 use borrow.Author.Needs.{needs}
 use Rattle.slice.proofs.PartLaws.{rest}
-use Rattle.types.specs.KeyRanges.{newKeyRange}
+use Rattle.topic_types.specs.KeyRanges.{newKeyRange}
 use Rattle.name_digits.specs.declared.Number.the-variants.{Is}
 use Rattle.name_digits.specs.Digits.{hexWord, segmentIdOf}
 use Rattle.name_source.specs.Parse.{startPart, endPart, idPart, rangeStage, descriptorStage}

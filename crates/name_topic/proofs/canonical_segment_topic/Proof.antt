@@ -6,8 +6,8 @@ use mathlib.Core.Bool.{true}
 use borrow.Author.Needs.{needs}
 use borrow.Author.Tests.{not-true, not-false}
 use Rattle.slice.proofs.PartLaws.{rest}
-use Rattle.types.specs.KeyRanges.{newKeyRange}
-use Rattle.types.specs.declared.RangeResult.the-variants.{Valid}
+use Rattle.topic_types.specs.KeyRanges.{newKeyRange}
+use Rattle.topic_types.specs.declared.RangeResult.the-variants.{Valid}
 use Rattle.utf8.specs.Table.{isUtf8}
 use Rattle.name_parents.proofs.PathLaws.{parent-long}
 use Rattle.name_topic.proofs.BuildLaws.{canonical-not-utf8, canonical-no-range, canonical-no-parent, canonical-written}

@@ -2,7 +2,7 @@
 -- Assumes nothing.
 use native.Mathlib.Omega.{arith}
 use mathlib.Core.Path.{sym, _∙_}
-use Rattle.types.proofs.KeyRangeLaws.{new-valid}
+use Rattle.topic_types.proofs.KeyRangeLaws.{new-valid}
 use Rattle.ranges_calls.specs.Calls.{lengthOf}
 use borrow.Author.Needs.{needs}
 use Rattle.ranges_calls.proofs.len.Statement.{statement}

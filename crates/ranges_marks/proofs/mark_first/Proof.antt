@@ -15,8 +15,8 @@ use denote.Signature.{plain}
 use denote.Slice.{sliceVal, MutSlice, finally, mut-slice-tells}
 use denote.Array.{Array}
 use denote.Triple.Walked.{Stays, stay-dropped, gave-slice, goes-dropped, goes-gave-slice, walkOf, ends-at, says}
-use Rattle.types.specs.declared.KeyRange.{KeyRange}
-use Rattle.types.proofs.KeyRange as T
+use Rattle.topic_types.specs.declared.KeyRange.{KeyRange}
+use Rattle.topic_types.proofs.KeyRange as T
 use Rattle.ranges_marks.proofs.Walk.{flat-bool, low, IsLow, fits, held, envOf, lifts, lays, mine, sets, lands-in, Meant, has, asks, ends}
 use Rattle.ranges_marks.proofs.Walk.{table, knows, proved}
 use Rattle.ranges_marks.proofs.Row.{value, Own, len-fits}

@@ -18,8 +18,8 @@ use denote.Exit.{yes}
 use denote.Signature.{plain, shrSlice}
 use denote.Slice.{sliceVal, MutSlice, mut-slice-tells}
 use denote.Triple.Walked.{Stays, stay-dropped, stay-slice, goes-dropped, goes-slice, walkOf, ends-at, says}
-use Rattle.types.specs.declared.KeyRange.{KeyRange}
-use Rattle.types.proofs.KeyRange as T
+use Rattle.topic_types.specs.declared.KeyRange.{KeyRange}
+use Rattle.topic_types.proofs.KeyRange as T
 use lib.Ieee.Bits.{is-true, is-false}
 use Rattle.ranges_marks.proofs.Walk.{flat-bool, low, IsLow, fits, held, envOf, mine, sets, resets, resets-last, lands-in, guards, whiles}
 use Rattle.ranges_marks.proofs.Walk.{answers, Less, Turned, rounds, Meant, has, asks, ends, table, knows, proved}

@@ -1,7 +1,7 @@
 -- `session_update::addressed` meets its contract: 23 and 24, then what stands in the buffer.
 -- Assumes nothing.
 use mathlib.Core.Path.{refl, sym, ap, _∙_}
-use Rattle.types.specs.declared.ControllerIncarnation.{ControllerIncarnation}
+use Rattle.topic_types.specs.declared.ControllerIncarnation.{ControllerIncarnation}
 use Rattle.intake_content.specs.Content.{Content}
 use Rattle.session.specs.Session.{view}
 use Rattle.session.specs.Tails.{updateContent}

@@ -2,7 +2,7 @@
 -- Assumes nothing.
 use mathlib.Core.Path.{ap, _∙_}
 use mir.Facts.{toZ-ofZ}
-use Rattle.types.specs.ConsumerTypes.{toWire, fromWire}
+use Rattle.topic_types.specs.ConsumerTypes.{toWire, fromWire}
 use Rattle.export.proofs.ExportLaws.{kind-call}
 use borrow.Author.Needs.{needs}
 use Rattle.export.proofs.range_calls.cuddrewyn_consumer_type.Statement.{statement}

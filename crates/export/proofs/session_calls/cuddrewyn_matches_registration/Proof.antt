@@ -2,7 +2,7 @@
 -- Assumes nothing.
 use mathlib.Core.Path.{_≡_, ap, sym, _∙_}
 use mir.Facts.{toZ-ofZ}
-use Rattle.types.specs.ConsumerTypes.{fromWire}
+use Rattle.topic_types.specs.ConsumerTypes.{fromWire}
 use Rattle.session.specs.declared.Match.{Match}
 use Rattle.session.specs.Calls.{matchOf}
 use Rattle.export.specs.Exports.{matchReply}

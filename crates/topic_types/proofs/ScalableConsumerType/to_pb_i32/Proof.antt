@@ -2,9 +2,9 @@
 -- Assumes nothing.
 use mathlib.Core.Path.{sym, ap}
 use borrow.Author.Needs.{needs}
-use Rattle.types.specs.ConsumerTypes.{toWire}
-use Rattle.types.proofs.ScalableConsumerType.to_pb_i32.Statement.{statement}
-use Rattle.types.proofs.ScalableConsumerType.to_pb_i32.Tie as tie
+use Rattle.topic_types.specs.ConsumerTypes.{toWire}
+use Rattle.topic_types.proofs.ScalableConsumerType.to_pb_i32.Statement.{statement}
+use Rattle.topic_types.proofs.ScalableConsumerType.to_pb_i32.Tie as tie
 
 returns : tie.Need-returns
 unfolding toWire

@@ -1,9 +1,9 @@
 -- `KeyRange::new` meets its contract: each return is the case of `newKeyRange` that the tests before it leave.
 -- Assumes nothing.
 use borrow.Author.Tests.{lt-ltb, le-ltb}
-use Rattle.types.specs.KeyRanges.{newKeyRange}
-use Rattle.types.proofs.KeyRange.new.Statement.{statement}
-use Rattle.types.proofs.KeyRange.new.Tie as tie
+use Rattle.topic_types.specs.KeyRanges.{newKeyRange}
+use Rattle.topic_types.proofs.KeyRange.new.Statement.{statement}
+use Rattle.topic_types.proofs.KeyRange.new.Tie as tie
 
 returns : tie.Need-returns
 unfolding newKeyRange

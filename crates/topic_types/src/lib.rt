@@ -4,8 +4,8 @@
 // the type itself does not say so, and nobody relies on it unasked.
 ghost use mathlib.Core.Path.{_≡_};
 ghost use mathlib.Core.Bool.{false};
-ghost use Rattle.types.specs.KeyRanges.{newKeyRange};
-ghost use Rattle.types.specs.ConsumerTypes.{toWire, fromWire};
+ghost use Rattle.topic_types.specs.KeyRanges.{newKeyRange};
+ghost use Rattle.topic_types.specs.ConsumerTypes.{toWire, fromWire};
 
 // A segment's id, unique within its topic.
 pub struct SegmentId(pub u64);

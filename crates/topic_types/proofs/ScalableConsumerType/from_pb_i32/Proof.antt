@@ -7,10 +7,10 @@ use mir.Syntax.{w32}
 use mir.Val.{toZ, ofZ}
 use mir.Facts.{toZ-ofZ}
 use borrow.Author.Tests.{ne-eqb}
-use Rattle.types.specs.ConsumerTypes.{fromWire}
-use Rattle.types.specs.declared.ScalableConsumerType.the-variants.{Stream}
-use Rattle.types.proofs.ScalableConsumerType.from_pb_i32.Statement.{statement}
-use Rattle.types.proofs.ScalableConsumerType.from_pb_i32.Tie as tie
+use Rattle.topic_types.specs.ConsumerTypes.{fromWire}
+use Rattle.topic_types.specs.declared.ScalableConsumerType.the-variants.{Stream}
+use Rattle.topic_types.proofs.ScalableConsumerType.from_pb_i32.Statement.{statement}
+use Rattle.topic_types.proofs.ScalableConsumerType.from_pb_i32.Tie as tie
 
 unknown : (v : ℤ) → (v ≡ pos 1 → ⊥) → fromWire v ≡ Stream
 unfolding fromWire
