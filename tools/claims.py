@@ -24,7 +24,7 @@ import usage
 # One function of a source, up to its body.
 FUNCTION = re.compile(r'^[ \t]*(?P<pub>pub )?(?P<extern>extern "C" )?fn (?P<name>\w+)(?P<head>(?:(?!^[ \t]*\{$|\{$).)*?)(?:^[ \t]*\{$|\{$)', re.M | re.S)
 # The crates of the programs' texts and of measurements: what they write is tested, not proved.
-TEXTS = {"log_lines", "log_text", "log_lists", "log_calls", "log_questions", "test_keys", "test_vectors", "bench_speed", "station"}
+TEXTS = {"log_lines", "log_text", "log_lists", "log_calls", "test_keys", "test_vectors", "bench_speed", "station"}
 
 ROOT = Path(__file__).resolve().parent.parent
 LIST = ROOT / "docs/sentences.txt"
@@ -117,7 +117,7 @@ def check_names(text):
         if not (ROOT / path).exists():
             fault(f"{citation}: no such file")
         elif path.endswith(".edit"):
-            tried = [function for function, _ in refused.named(ROOT / path)]
+            tried = [function for function, _, _ in refused.named(ROOT / path)]
             if name not in tried and (name or len(tried) > 1):
                 fault(f"{citation}: " + ("no wrong program of it there" if name else "several wrong programs, so name the function"))
         elif path.endswith((".rt", ".antt")) != bool(name) and not path.endswith((".rs", ".c", ".h")):

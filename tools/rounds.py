@@ -1,140 +1,184 @@
 #!/usr/bin/env python3
-"""Generator: joins single must-fail edits to rounds: in a round at most one wrong program of each function, of any number of functions.
+"""Generator: joins wrong programs to rounds, or sets them apart; without --write it says how many edits there would be.
 
-    python3 tools/rounds.py [CRATE...]              says how many rounds there would be
-    python3 tools/rounds.py --write [CRATE...]      rewrites crates/CRATE/must-fail, and what docs/CLAIMS.md cites of it
+    python3 tools/rounds.py --write [CRATE...]              rewrites crates/CRATE/must-fail, and what docs/CLAIMS.md cites of it
+    python3 tools/rounds.py --apart --write [CRATE...]      sets each wrong program into an edit of its own
 
 An edit costs a whole check of its crate, whatever it changes, and the checker judges each function by itself, its callees by their contracts: so a round
-of wrong lines costs one check, and each gets the refusal that it has alone (tools/refused.py holds the log to that). An edit of specs/, and one of a constant,
-reaches many functions: it stays alone in its file.
+with one wrong line in each of several functions costs one check, and each gets the refusal that it has alone (tools/refused.py holds the log to that).
+A definition, a constant, or a second wrong line of a function reaches further. It joins a round where a declaration tells it from the others: a fact that
+fails there by it alone, and by none of the others when they are alone. Where a changed definition answers a wrong line, so that the round is not refused for
+both, --kinds keeps definitions and lines in rounds of their own. That is read off target/must-fail, so `rt must-fail CRATE` comes first,
+with the programs apart or in the rounds that they have; what joined before stands by its declaration and is not joined anew.
 """
 import re
 from pathlib import Path
 
+import refused
 import usage
 
 ROOT = Path(__file__).resolve().parent.parent
-FN = re.compile(r'^(\s*)(?:pub(?:\([a-z]+\))?\s+)?(?:extern\s+"C"\s+)?fn\s+(\w+)', re.M)
-IMPL = re.compile(r"^impl\s+(\w+)", re.M)
-CONST = re.compile(r"\s*(?:pub )?const (\w+)")
-DEFINED = re.compile(r"^\s*(?:(?:pub|abbrev|unfoldable|record|data) +)*([^\s:(){}]+)(?: [{(].*)? *:", re.M)
 
 
-def function_at(text, pos, module):
-    """The path of the function that a place of a source file lies in, or the constant."""
-    start = text.rfind("\n", 0, pos) + 1
-    if constant := CONST.match(text, start):
-        return constant[1], False
-    found = [m for m in FN.finditer(text) if m.start() <= pos]
-    if not found:
-        return None, False
-    owner = [i[1] for i in IMPL.finditer(text) if i.start() <= found[-1].start()]
-    return "::".join(module + ([owner[-1]] if found[-1][1] and owner else []) + [found[-1][2]]), True
+class Program:
+    """A wrong program: what it is wrong in, the declaration named, what is wrong, the changes (file, old, new), its edit."""
+
+    def __init__(self, name, at, what, edit):
+        self.name, self.at, self.what, self.changes, self.edit = name, at, what, [], edit
+        self.fails, self.reach = set(), set()
+
+    def in_function(self):
+        """Whether it is a line of one function, and no definition or constant."""
+        return all(f.startswith("src/") for f, _, _ in self.changes) and self.name.split("::")[-1][:1].islower()
+
+    def joins(self, some, kinds):
+        """Whether it may stand beside others: beside none that joined before, and with `kinds` lines beside lines, definitions beside definitions."""
+        return all(not p.at and (not kinds or p.in_function() == self.in_function()) for p in some)
+
+    def text(self, at):
+        lines, last = [f"# {self.name}{f' at {at[0][:-5]}.{at[1]}' if at else ''}: {self.what}"], None
+        for f, old, new in self.changes:
+            lines += ([f"file: {f}"] if f != last else []) + [f"old: {old}", f"new: {new}".rstrip()]
+            last = f
+        return "\n".join(lines) + "\n"
 
 
-def definition_at(text, pos):
-    """The definition that a place of a specs file lies in."""
-    line_end = text.find("\n", pos)
-    found = [m for m in DEFINED.finditer(text, 0, line_end) if m.start() <= pos]
-    return found[-1][1] if found else None
-
-
-def wrong_programs(edit, crate):
-    """The wrong programs of an edit: name, whether it is a function's, what is wrong, the changes (file, old, new)."""
-    out, name, reason, f, old, texts = [], None, None, None, None, {}
+def programs_of(edit):
+    """The wrong programs of an edit."""
+    out, f, old = [], None, None
     for line in edit.read_text(encoding="utf-8").split("\n"):
-        if line.startswith("# "):
-            m = re.match(r"# ((?:[^\s:]+::)*[^\s:]+): (.+)$", line)
-            name, reason = (m[1], m[2]) if m else (None, (reason + " " if reason and not out else "") + line[2:].strip())
-            if m or out:
-                out.append([name, None, reason, []])
+        if m := refused.NAMED.match(line):
+            out.append(Program(m[1], (m[2] + ".antt", m[3]) if m[2] else None, m[4], edit))
+        elif line.startswith("#"):
+            out[-1].what += " " + line[1:].strip()
         elif line.startswith("file: "):
             f = line[6:]
         elif line.startswith("old: "):
             old = line[5:]
         elif line.startswith("new:"):
-            new = line[5:] if line.startswith("new: ") else line[4:]
-            text = texts.setdefault(f, (crate / f).read_text(encoding="utf-8"))
-            at = text.find(old) + len(old) - len(old.lstrip())
-            stem = f[4:-3]
-            found, is_function = function_at(text, at, [] if stem in ("lib", "main") else stem.split("/")) if f.startswith("src/") else (definition_at(text, at), False)
-            if not out:
-                out.append([None, None, reason, []])
-            out[-1][0] = out[-1][0] or found
-            out[-1][1] = is_function if out[-1][1] is None else out[-1][1] and is_function
-            out[-1][2] = out[-1][2] or edit.stem.replace("_", " ").replace("-", " ")
-            out[-1][3].append((f, old, new))
-            texts[f] = text.replace(old, new)
+            out[-1].changes.append((f, old, line[5:]))
     return out
+
+
+def failing(copy):
+    """The declarations, with their files, at which a fact fails in the copy of an edit."""
+    out = set()
+    log = (copy / ".log").read_text(encoding="utf-8", errors="replace") if (copy / ".log").is_file() else ""
+    for place, _ in refused.facts(log):
+        file, line, _ = place.rsplit(":", 2)
+        if (copy / file).is_file():
+            out.add((file, refused.declaration((copy / file).read_text(encoding="utf-8"), int(line))))
+    return out
+
+
+def measured(crate):
+    """A crate's wrong programs with what fails by each: in a function of a round, what fails in its own proof."""
+    out = []
+    for edit in sorted((crate / "must-fail").glob("*.edit")):
+        fails, programs = failing(ROOT / "target/must-fail" / crate.name / edit.stem), programs_of(edit)
+        for p in programs:
+            p.fails = {x for x in fails if refused.folder(p.name).match(x[0])} if p.in_function() else fails
+            p.reach = fails if len(programs) == 1 else p.fails
+        out += programs
+    return sorted(out, key=lambda p: (not p.in_function(), len(p.fails) if not p.in_function() else 0))
 
 
 def unique(crate, some):
     """Every old text still stands once when its turn comes."""
     texts = {}
-    for _, _, _, changes in some:
-        for f, old, new in changes:
-            text = texts.setdefault(f, (crate / f).read_text(encoding="utf-8"))
-            if text.count(old) != 1:
-                return False
-            texts[f] = text.replace(old, new)
+    for f, old, new in (c for p in some for c in p.changes):
+        text = texts.setdefault(f, (crate / f).read_text(encoding="utf-8"))
+        if text.count(old) != 1:
+            return False
+        texts[f] = text.replace(old, new)
     return True
 
 
-def text_of(programs):
-    lines = []
-    for name, _, reason, changes in programs:
-        lines.append(f"# {name}: {reason}")
-        last = None
-        for f, old, new in changes:
-            lines += ([f"file: {f}"] if f != last else []) + [f"old: {old}", f"new: {new}".rstrip()]
-            last = f
-    return "\n".join(lines) + "\n"
+def told_apart(some):
+    """For each program the declaration that tells it from the others, or none where its function does; None where nothing does."""
+    out = {}
+    for p in some:
+        others = set().union(*[q.reach for q in some if q is not p])
+        shared = any(q.name == p.name for q in some if q is not p) or any(refused.folder(p.name).match(x[0]) for x in others)
+        own = sorted((x for x in p.fails - others if x[1]), key=lambda x: (x[0].startswith("specs"), len(x[0]) + len(x[1]), x))
+        if len(some) == 1 or p.in_function() and not shared:
+            out[p] = None
+        elif own:
+            out[p] = own[0]
+        else:
+            return None
+    return out
 
 
-def joined(crate):
-    """A crate's wrong programs in rounds, each with its edit, and the edits that stay apart."""
-    rounds, apart = [], []
-    for edit in sorted((crate / "must-fail").glob("*.edit")):
-        programs = wrong_programs(edit, crate)
-        if not all(p[1] for p in programs):
-            apart.append((edit, programs))
+def joined(crate, kinds):
+    """A crate's wrong programs in rounds."""
+    programs = measured(crate)
+    rounds = {}
+    for p in programs:
+        if p.at:
+            rounds.setdefault(p.edit, [q for q in programs if q.edit == p.edit])
+    kept = [q for r in rounds.values() for q in r]
+    rounds = list(rounds.values())
+    for p in programs:
+        if p in kept:
             continue
-        for p in programs:
-            into = next((r for r in rounds if all(p[0] != q[0] for q, _ in r) and unique(crate, [q for q, _ in r] + [p])), None)
-            if into is None:
-                rounds.append(into := [])
-            into.append((p, edit))
-    return rounds, apart
+        into = next((r for r in rounds if p.joins(r, kinds) and unique(crate, r + [p]) and told_apart(r + [p])), None)
+        if into is None:
+            rounds.append(into := [])
+        into.append(p)
+    return rounds
 
 
-def rewrite(crate, rounds, apart):
+def rewrite(crate, rounds):
     """Rewrites a crate's edits; gives what is cited as what."""
-    moved = {}
-    for edit, programs in apart:
-        edit.write_text(text_of(programs), encoding="utf-8")
-    for edit in {e for r in rounds for _, e in r}:
+    moved, files, free = {}, {}, 1
+    for r in rounds:
+        label = r[0].edit.stem
+        if len(r) > 1 or r[0].in_function():
+            label, free = f"round-{free}", free + 1
+        at = {p: p.at for p in r} if any(p.at for p in r) else told_apart(r)
+        target = crate / "must-fail" / f"{label}.edit"
+        files[target] = "".join(p.text(at[p]) for p in r)
+        for p in r:
+            old = p.edit.relative_to(ROOT)
+            name = f":{p.name}" if len(r) > 1 or label.startswith("round-") else ""
+            for cited in (f"`{old}:{p.name}`", f"`{old}`"):
+                moved.setdefault(cited, f"`{target.relative_to(ROOT)}{name}`")
+    for edit in (crate / "must-fail").glob("*.edit"):
         edit.unlink()
-    for i, r in enumerate(rounds):
-        target = crate / "must-fail" / f"round-{i + 1}.edit"
-        target.write_text(text_of([p for p, _ in r]), encoding="utf-8")
-        for p, edit in r:
-            old = str(edit.relative_to(ROOT))
-            for cited in (f"`{old}:{p[0]}`", f"`{old}`"):
-                moved.setdefault(cited, f"`{target.relative_to(ROOT)}:{p[0]}`")
+    for path, text in files.items():
+        path.write_text(text, encoding="utf-8")
     return moved
+
+
+def set_apart(crate):
+    """Each wrong program in an edit of its own, numbered."""
+    programs = [p for edit in sorted((crate / "must-fail").glob("*.edit")) for p in programs_of(edit)]
+    for edit in (crate / "must-fail").glob("*.edit"):
+        edit.unlink()
+    for i, p in enumerate(programs):
+        (crate / "must-fail" / f"apart-{i + 1}.edit").write_text(p.text(None), encoding="utf-8")
 
 
 def main():
     parser = usage.Parser(__doc__)
     parser.add_argument("crates", nargs="*", metavar="CRATE", help="these alone")
+    parser.add_argument("--apart", action="store_true", help="each wrong program in an edit of its own; what docs/CLAIMS.md cites stays")
+    parser.add_argument("--kinds", action="store_true", help="definitions and lines in rounds of their own")
     parser.add_argument("--write", action="store_true", help="rewrite the edits, and docs/CLAIMS.md")
     args, moved, claims = parser.parse_args(), {}, ROOT / "docs/CLAIMS.md"
     for crate in sorted((ROOT / "crates").iterdir()):
-        if (crate / "must-fail").is_dir() and (not args.crates or crate.name in args.crates):
-            rounds, apart = joined(crate)
-            moved |= rewrite(crate, rounds, apart) if args.write else {}
-            print(f"{crate.name}: {sum(map(len, rounds))} in {len(rounds)} rounds, {len(apart)} apart")
-    if args.write:
+        if not (crate / "must-fail").is_dir() or args.crates and crate.name not in args.crates:
+            continue
+        if args.apart:
+            print(f"{crate.name}: {sum(len(programs_of(e)) for e in (crate / 'must-fail').glob('*.edit'))} apart")
+            if args.write:
+                set_apart(crate)
+            continue
+        rounds = joined(crate, args.kinds)
+        print(f"{crate.name}: {sum(map(len, rounds))} wrong programs in {len(rounds)} edits")
+        moved |= rewrite(crate, rounds) if args.write else {}
+    if moved:
         claims.write_text(re.sub(r"`[^`\n]+`", lambda m: moved.get(m[0], m[0]), claims.read_text(encoding="utf-8")), encoding="utf-8")
 
 
