@@ -75,7 +75,7 @@ fn is_bucket(r: IntRange) -> bool
     if r.start < 0 {
         return false;
     }
-    if 65535 < r.end {
+    if (topic_types::MAX_HASH as i32) < r.end {
         return false;
     }
     r.start <= r.end

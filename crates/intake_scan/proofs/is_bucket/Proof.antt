@@ -28,4 +28,4 @@ returns-3 c =
     rw (a, b) (order-decides (r .start) (r .end) (rw a at (e .before .before .before .if1 .left)) (rw b at (e .if2 .left)))
 
 pub is-bucket-spec : {M : Type 1} → statement M
-is-bucket-spec = tie.close (tie.spec returns returns-2 returns-3)
+is-bucket-spec = tie.close (tie.spec returns (λ c. search needs) returns-2 returns-3)
