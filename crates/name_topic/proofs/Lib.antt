@@ -1,3 +1,4 @@
 pub mod NameLaws
 mod TailLaws
+mod CompareLaws
 mod BuildLaws

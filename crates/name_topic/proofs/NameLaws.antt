@@ -2,22 +2,21 @@
 --
 -- In order: lengths (`hex4-length`, `decimal-length`, `decimal-nonempty`, `descriptor-length`, `descriptor-short`,
 -- `segmentTopic-length`); the digits of a number from its last on (`decimal-next`, `decimal-end`, `digits-fewer`); a text that has another
--- scheme or path than the name, or the same (`name-other-scheme`, `name-other-path`, `name-same-path`), and that such a text is long
--- enough for both (`path-inside`).
+-- scheme or path than the name, or the same (`name-other-scheme`, `name-other-path`, `name-same-path`).
 -- Assumes nothing.
 use Prim.Native.Nat.{ℕ, zero, suc, _+_, _/_, _%_, _^_, _≤_, _<_}
 use native.Mathlib.Omega.{arith}
 use mathlib.Core.Path.{_≡_, refl, _∙_}
 use mathlib.Core.Bool.{Bool, true, false, cond}
 use mathlib.Core.List.{List, [], _∷_, _++_, append-assoc}
-use lib.ListN.{length, drop, length-append, length-drop}
+use lib.ListN.{length, drop, length-append}
 use lib.Seq.{drop-drop}
 use lib.Dec.{ltb}
 use borrow.Author.Tests.{lt-ltb, le-ltb}
 use Rattle.topic_types.specs.declared.KeyRange.{KeyRange}
 use Rattle.topic_types.specs.declared.SegmentId.{SegmentId}
 use Rattle.slice.specs.Same.{sameBytes, startsWith}
-use Rattle.slice.proofs.SameLaws.{same-append, starts-long}
+use Rattle.slice.proofs.SameLaws.{same-append}
 use Rattle.name_topic.specs.Names.{segmentScheme, hex4, decimalWithin, decimal, descriptor, segmentTopic}
 
 -- ---- lengths
@@ -89,9 +88,3 @@ module _ (text path : List ℕ) (range : KeyRange) (id : SegmentId) where
     pub name-same-path : startsWith path (drop 10 text) ≡ true
         → sameBytes text (segmentTopic path range id) ≡ sameBytes (drop (10 + length path) text) (descriptor range id)
     name-same-path k = behind-scheme ∙ same-append path (descriptor range id) (drop 10 text) ∙ rw (k, drop-drop (length path) 10 text)
-
--- such a text is long enough for scheme and path
-pub path-inside : (text path : List ℕ) → startsWith segmentScheme text ≡ true → startsWith path (drop 10 text) ≡ true
-    → 10 + length path ≤ length text
-path-inside text path h k =
-    omega (arith, starts-long segmentScheme text h, starts-long path (drop 10 text) k, length-drop 10 text)

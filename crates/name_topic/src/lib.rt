@@ -4,14 +4,21 @@
 mod descriptor;
 
 ghost use mathlib.Core.Path.{_≡_};
-ghost use Rattle.slice.specs.Same.{sameBytes};
-ghost use Rattle.name_topic.specs.Names.{segmentTopic};
+ghost use Prim.Native.Nat.{_≤_};
+ghost use lib.ListN.{length};
+ghost use Rattle.slice.specs.Same.{sameBytes, startsWith};
+ghost use Rattle.name_topic.specs.Names.{segmentScheme, segmentTopic};
 ghost use Rattle.name_topic.specs.Build.{nameOutcome, written, canonicalSegmentTopic};
 pub use name_parents::is_parent;
 use refusal::Refusal;
 use topic_types::KeyRange;
 use topic_types::RangeResult;
 use topic_types::SegmentId;
+
+// "segment:" and "//" as numbers of 8 and of 2 bytes.
+const SEGMENT_COLON: u64 = 0x7365_676D_656E_743A;
+
+const TWO_SLASHES: u16 = 0x2F2F;
 
 // What a call that writes a name answers.
 pub enum NameAnswer {
@@ -20,21 +27,35 @@ pub enum NameAnswer {
     Refused(Refusal),
 }
 
-// The text is the name of the segment with that range and id below the path.
+// The text starts with "segment://".
+fn has_scheme(text: &[u8]) -> bool
+    requires { ⌜ 10 ≤ length (now text) ⌝ }
+    ensures { λ r. ⌜ r ≡ startsWith segmentScheme (now (text .entry)) ⌝ }
+{
+    if slice_int::read_u64(text, 0) != SEGMENT_COLON {
+        return false;
+    }
+    slice_int::read_u16(text, 8) == TWO_SLASHES
+}
+
+// The text is the name of the segment with that range and id below the path. The shortest such name has 12 bytes behind the path.
 pub fn is_segment_topic(text: &[u8], path: &[u8], range: KeyRange, id: SegmentId) -> bool
     ensures { λ r. ⌜ r ≡ sameBytes (now (text .entry)) (segmentTopic (now (path .entry)) range id) ⌝ }
 {
-    if !slice::starts_with(text, b"segment://") {
+    if text.len() < 22 {
         return false;
     }
-    if !slice::starts_with(&text[10..], path) {
+    if text.len() - 22 < path.len() {
+        return false;
+    }
+    if !has_scheme(text) {
         return false;
     }
     let n = 10 + path.len();
-    let tail = descriptor::descriptor_of(range, id);
-    let from = tail.from;
-    let bytes = tail.bytes;
-    slice::same(&text[n..], &bytes[from..])
+    if !slice::same(&text[10..n], path) {
+        return false;
+    }
+    descriptor::is_descriptor(text, n, range, id)
 }
 
 // Writes the name of the segment with that range and id below the path, where it fits (21 where not).

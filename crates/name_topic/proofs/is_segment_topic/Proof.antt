@@ -1,85 +1,70 @@
 -- `is_segment_topic` meets its contract: the scheme, then the path, then the descriptor, each compared in place.
 -- Assumes nothing.
-use Prim.Native.Nat.{_+_, _≤_}
+use Prim.Native.Nat.{_+_, _-_}
 use native.Mathlib.Omega.{arith}
 use mathlib.Core.Path.{_≡_, sym, ap, _∙_}
 use mathlib.Core.Bool.{true}
-use lib.ListN.{length, drop}
+use lib.ListN.{length, take, drop}
 use borrow.Author.Needs.{needs}
 use borrow.Author.Tests.{not-true, not-false}
-use Rattle.slice.specs.Same.{startsWith}
-use Rattle.slice.proofs.PartLaws.{rest}
-use Rattle.slice.proofs.SameLaws.{starts-long}
+use Rattle.slice.specs.Same.{sameBytes, startsWith}
 use Rattle.name_topic.specs.Names.{segmentScheme}
-use Rattle.name_topic.proofs.NameLaws.{name-other-scheme, name-other-path, name-same-path, path-inside}
-use Rattle.name_topic.proofs.TailLaws.{descriptor-part}
+use Rattle.name_topic.proofs.NameLaws.{name-other-scheme, name-other-path, name-same-path}
+use Rattle.name_topic.proofs.CompareLaws.{name-short}
 use Rattle.name_topic.proofs.is_segment_topic.Statement.{statement}
 use Rattle.name_topic.proofs.is_segment_topic.Tie as tie
 
-has-scheme : (c : tie.Else1) → startsWith segmentScheme (c .before .before .before .before .before .args .text .now) ≡ true
-has-scheme c = sym (c .before .starts-with .ensures) ∙ not-false _ (c .if1 .left)
+abbrev start : tie.Else3 → tie.Start
+start c = c .before .before .before .before .before .before
 
-path-test : (c : tie.After-starts-with2) →
-    let a = c .before .before .before .before .before .before .before .args in
-    c .starts-with2 .result ≡ startsWith (a .path .now) (drop 10 (a .text .now))
+scheme : (c : tie.Else3) → startsWith segmentScheme (start c .args .text .now) ≡ true
+scheme c = sym (c .before .has-scheme .ensures) ∙ not-false _ (c .if3 .left)
+
+path-test : (c : tie.After-same) →
+    let a = start (c .before .before) .args in
+    c .same .result ≡ startsWith (a .path .now) (drop 10 (a .text .now))
+unfolding startsWith
 path-test c =
-    let a = c .before .before .before .before .before .before .before .args in
-    c .starts-with2 .ensures ∙ ap (startsWith (a .path .now)) (rest (a .text .now) 10)
-
-has-path : (c : tie.Else2) →
-    let a = c .before .before .before .before .before .before .before .before .args in
-    startsWith (a .path .now) (drop 10 (a .text .now)) ≡ true
-has-path c = sym (path-test (c .before)) ∙ not-false _ (c .if2 .left)
-
-inside : (c : tie.Else2) →
-    let a = c .before .before .before .before .before .before .before .before .args in
-    10 + length (a .path .now) ≤ length (a .text .now)
-inside c =
-    let a = c .before .before .before .before .before .before .before .before .args in
-    path-inside (a .text .now) (a .path .now) (has-scheme (c .before .before .before)) (has-path c)
+    let a = start (c .before .before) .args in
+    let n : 10 + length (a .path .now) - 10 ≡ length (a .path .now) = omega arith in
+    c .same .ensures ∙ ap (λ n. sameBytes (take n (drop 10 (a .text .now))) (a .path .now)) n
 
 returns : tie.Need-returns
 returns c =
-    let a = c .before .before .before .before .before .args in
-    let other = sym (c .before .starts-with .ensures) ∙ not-true _ (c .if1 .taken) in
-    sym (name-other-scheme (a .text .now) (a .path .now) (a .range) (a .id) other)
-
-sub-starts-with : tie.Need-sub-starts-with
-sub-starts-with c = starts-long segmentScheme (c .before .before .before .before .before .args .text .now) (has-scheme c)
-
-part-starts-with-start : tie.Need-part-starts-with-start
-part-starts-with-start c = omega (arith, sub-starts-with c)
+    let a = c .before .before .before .args in
+    sym (name-short (a .text .now) (a .path .now) (a .range) (a .id) (omega arith))
 
 returns-2 : tie.Need-returns-2
 returns-2 c =
-    let a = c .before .before .before .before .before .before .before .before .args in
-    let other = sym (path-test (c .before)) ∙ not-true _ (c .if2 .taken) in
-    sym (name-other-path (a .text .now) (a .path .now) (a .range) (a .id) (has-scheme (c .before .before .before)) other)
-
-sub-same : tie.Need-sub-same
-sub-same c = inside (c .before .before)
-
-part-same-start : tie.Need-part-same-start
-part-same-start c = omega (arith, inside (c .before .before))
-
-part-same-end-2 : tie.Need-part-same-end-2
-part-same-end-2 c = omega (arith, c .before .before .before .descriptor-of .ensures .room .long)
+    let a = c .before .before .before .before .args in
+    sym (name-short (a .text .now) (a .path .now) (a .range) (a .id) (omega arith))
 
 returns-3 : tie.Need-returns-3
 returns-3 c =
-    let place = c .before .before .before .before .before in
-    let d = place .descriptor-of in
-    let e = place .before in
-    let a = e .before .before .before .before .before .before .before .before .args in
-    c .same .ensures
-    ∙ rw (rest (a .text .now) (10 + length (a .path .now)), descriptor-part (a .range) (a .id) (d .result) (d .ensures))
-    (sym (name-same-path (a .text .now) (a .path .now) (a .range) (a .id) (has-scheme (e .before .before .before)) (has-path e)))
+    let a = c .before .before .before .before .before .before .args in
+    let other = sym (c .before .has-scheme .ensures) ∙ not-true _ (c .if3 .taken) in
+    sym (name-other-scheme (a .text .now) (a .path .now) (a .range) (a .id) other)
+
+returns-4 : tie.Need-returns-4
+returns-4 c =
+    let e = c .before .before .before in
+    let a = start e .args in
+    let other = sym (path-test (c .before)) ∙ not-true _ (c .if4 .taken) in
+    sym (name-other-path (a .text .now) (a .path .now) (a .range) (a .id) (scheme e) other)
+
+returns-5 : tie.Need-returns-5
+returns-5 c =
+    let f = c .before in
+    let e = f .before .before .before in
+    let a = start e .args in
+    let same = sym (path-test (f .before)) ∙ not-false _ (f .if4 .left) in
+    c .is-descriptor .ensures ∙ sym (name-same-path (a .text .now) (a .path .now) (a .range) (a .id) (scheme e) same)
 
 pub is-segment-topic-spec : {M : Type 1} → statement M
 is-segment-topic-spec =
     tie.close
-    (tie.spec (λ c. search needs) (λ c κs. search needs) returns sub-starts-with part-starts-with-start
-    (λ c. search needs) (λ c κs. search needs) returns-2
-    (λ c. search needs) (λ c κs. search needs) sub-same part-same-start
-    (λ c. search needs) (λ c. search needs) (λ c. search needs) part-same-end-2
-    (λ c κs. search needs) returns-3)
+    (tie.spec returns
+    (λ c. search needs) returns-2
+    (λ c κs. search needs) returns-3
+    (λ c. search needs) (λ c. search needs) (λ c. search needs) (λ c. search needs) (λ c κs. search needs) returns-4
+    (λ c κs. search needs) returns-5)
