@@ -1,7 +1,7 @@
 -- Laws of `frontSize`, `frontRead` and `wholeRead`, as the readers of src/ meet them.
 --
 -- In order: `frontSize` by the records at the front (`size-is`, `size-short` to `size-records`), and what it says of the bytes (`size-none`, `Sized`, `size-some`), so of
--- `startsAssignment` (`starts-told`), of `isAssignment` (`whole-not`, `whole-is`) and of `frontRead` (`front-none`, `front-some`); the cases of `wholeRead` by the answer of `read_front` (`whole-all`,
+-- `startsAssignment` (`starts-told`), of `isAssignment` (`whole-not` to `whole-ends`) and of `frontRead` (`front-none`, `front-some`); the cases of `wholeRead` by the answer of `read_front` (`whole-all`,
 -- `whole-more`, `whole-refused`).
 -- Assumes nothing.
 use Prim.Native.Nat.{ℕ, _+_, _*_, _≤_, _<_, min}
@@ -94,6 +94,10 @@ module _ (s : List ℕ) {z : ℕ} (e : z ≡ frontSize s) where
   pub whole-is : (z ≡ 0 → ⊥) → eqb z (length s) ≡ isAssignment s
   unfolding isAssignment
   whole-is h = let f : Sized s z = size-some h in simp (f .starts-is, f .size-is)
+
+  -- it ends where the bytes end
+  pub whole-ends : z ≡ length s → 0 < z → isAssignment s ≡ true
+  whole-ends h k = sym (whole-is (λ e. absurd (omega (arith, e)))) ∙ eq-eqb z (length s) h
 
   pub front-none : z ≡ 0 → Malformed ≡ frontRead s
   unfolding frontRead

@@ -4,7 +4,7 @@
 // compared pairwise where they are few, and marked where they are many.
 ghost use mathlib.Core.Path.{_≡_};
 ghost use Prim.Native.Nat.{_+_, _*_, _%_, _≤_, _<_, min};
-ghost use mathlib.Core.Bool.{not, _&&_};
+ghost use mathlib.Core.Bool.{true, not, _&&_};
 ghost use lib.ListN.{length, drop};
 ghost use Rattle.topic_types.specs.KeyRanges.{keyRange};
 ghost use Rattle.ranges.specs.Overlap.{overlapsAny, risingFrom};
@@ -290,10 +290,49 @@ pub fn is_front(s: &[u8]) -> bool
     front_size(s) != 0
 }
 
+// The bytes are a packed assignment of records without buckets, one at least. Of any other this tells nothing.
+fn all_bare(s: &[u8]) -> bool
+    ensures { λ r. ⌜ (r ≡ true → isAssignment (now (s .entry)) ≡ true) ⌝ }
+{
+    let end = s.len();
+    if end <= ASSIGNMENT_HEAD {
+        return false;
+    }
+    if SLOT < end {
+        return false;
+    }
+    let count = slice_int::read_u16(s, 8) as usize;
+    if ASSIGNMENT_HEAD + RECORD_HEAD * count != end {
+        return false;
+    }
+    let mut p: usize = ASSIGNMENT_HEAD;
+    let mut id = slice_int::read_u64(s, p);
+    loop {
+        if slice_int::read_u16(s, p + 10) < slice_int::read_u16(s, p + 8) {
+            return false;
+        }
+        if slice_int::read_u16(s, p + 12) != 0 {
+            return false;
+        }
+        p = p + RECORD_HEAD;
+        if p == end {
+            return true;
+        }
+        let next = slice_int::read_u64(s, p);
+        if next <= id {
+            return false;
+        }
+        id = next;
+    }
+}
+
 // The bytes are a packed assignment; none may be left over.
 pub fn is_whole(s: &[u8]) -> bool
     ensures { λ r. ⌜ r ≡ isAssignment (now (s .entry)) ⌝ }
 {
+    if all_bare(s) {
+        return true;
+    }
     let size = front_size(s);
     if size == 0 {
         return false;
