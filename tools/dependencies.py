@@ -1,11 +1,13 @@
 #!/usr/bin/env python3
-"""Generator: a line of crates.txt names the crates that the crate's own files name, in the order in which they stand there.
+"""Generator: a line of crates.txt names the crates that the crate's own files name, and those whose types these use, in the order in which they stand there.
 
     python3 tools/dependencies.py [--check | --write]
 
-A crate is named in code by a path (`slice_int::read_u64`, `use wire::Key`) and in definitions and proofs by its modules (`Rattle.wire.specs`). The kit's
-libraries (io, libc, os) stay as they are written, before the others; the crates that those of a line use in turn are found by rt.
+A crate is named in code by a path (`slice_int::read_u64`, `use wire::Key`) and in definitions and proofs by its modules (`Rattle.wire.specs`). A value may
+hold one of a type that only its own crate names: the checker asks for the crate that declares it. The kit's libraries (io, libc, os) stay as they are
+written, before the others; what those of a line use besides is found by rt.
 """
+import functools
 import re
 import sys
 from pathlib import Path
@@ -16,19 +18,37 @@ ROOT = Path(__file__).resolve().parent.parent
 LINE = re.compile(r"^(\w+):(.*)$", re.M)
 CODE = re.compile(r"(?<![\w:])(\w+)::|^\s*(?:pub )?use (\w+)\b", re.M)
 MODULE = re.compile(r"Rattle·(\w+)")
+TYPE = re.compile(r"(?<![\w:])(\w+)::[A-Z]\w*[a-z]")
 COMMENT = re.compile(r"^\s*//.*$", re.M)
+
+
+def files(crate, *suffixes):
+    """The texts of a crate's files, without comments."""
+    paths = sorted((ROOT / "crates" / crate).rglob("*"))
+    return [COMMENT.sub("", path.read_text(encoding="utf-8")) for path in paths if path.suffix in suffixes]
 
 
 def named_by(crate):
     """The names that a crate's files have in the place of a crate's."""
-    out = set()
-    for path in sorted((ROOT / "crates" / crate).rglob("*")):
-        if path.suffix in (".rt", ".antt"):
-            text = path.read_text(encoding="utf-8")
-            out |= set(MODULE.findall(text))
-            if path.suffix == ".rt":
-                out |= {a or b for a, b in CODE.findall(COMMENT.sub("", text))}
-    return out
+    code = {name for text in files(crate, ".rt") for pair in CODE.findall(text) for name in pair}
+    return code | {name for text in files(crate, ".rt", ".antt") for name in MODULE.findall(text)}
+
+
+@functools.cache
+def typed_by(crate):
+    """The crates whose types a crate's code names."""
+    return {name for text in files(crate, ".rt") for name in TYPE.findall(text)}
+
+
+def needed_by(crate, order):
+    """What a crate names, and the types that those use, and so on."""
+    found, queue = set(), sorted(named_by(crate) & set(order))
+    while queue:
+        d = queue.pop()
+        if d not in found:
+            found.add(d)
+            queue += sorted(typed_by(d) & set(order))
+    return found - {crate}
 
 
 def lines():
@@ -38,8 +58,8 @@ def lines():
 
     def line(m):
         kit = [d for d in m[2].split() if d not in order]
-        named = named_by(m[1])
-        return " ".join([f"{m[1]}:", *kit, *(d for d in order if d in named and d != m[1])])
+        needed = needed_by(m[1], order)
+        return " ".join([f"{m[1]}:", *kit, *(d for d in order if d in needed)])
 
     return LINE.sub(line, text)
 
