@@ -3,18 +3,19 @@
 -- In order: a text is its first sequence and the rest (`text-step`); the end of a slice (`text-end`); at the place `at`
 -- of a slice: no sequence (`sequence-stops`), a sequence (`sequence-passes`), a byte of the first row (`plain-passes`,
 -- `plain-next`); bytes that may be passed over (`passes-none`, `passes-more`); bytes of the first row alone (`plain-one`,
--- `plain-join`, `plain-text`).
+-- `plain-join`, `plain-text`, `plain-turn`).
 -- Assumes nothing.
 use Prim.Native.Nat.{ℕ, zero, suc, _+_, _-_, _≤_, _<_}
 use native.Mathlib.Decide.{decLe}
 use native.Mathlib.Omega.{arith}
 use mathlib.Core.Path.{_≡_, refl, sym, _∙_}
-use mathlib.Core.Bool.{true, false, cond}
+use mathlib.Core.Bool.{Bool, true, false, cond, _&&_}
 use mathlib.Core.List.{List, [], _∷_}
 use lib.ListN.{length, getD, drop, length-drop, drop-of-length-le}
 use lib.Seq.{drop-drop}
-use lib.Dec.{eqb}
-use borrow.Author.Tests.{eq-eqb, ne-eqb}
+use lib.Dec.{eqb, ltb}
+use borrow.Author.Tests.{eq-eqb, ne-eqb, ltb-true}
+use Rattle.slice.specs.BoolLaws.{both-true}
 use Rattle.utf8.specs.Table.{sequenceOf, textAfter, isUtf8}
 use Rattle.utf8.specs.Passes.{Passes, Plain}
 use Rattle.utf8.proofs.RowLaws.{first-row, sequence-le}
@@ -102,14 +103,14 @@ module _ (s : List ℕ) where
   pub plain-text : Plain s 0 (length s) → isUtf8 s ≡ true
   plain-text p = plain-from p (length s) 0 (omega arith)
 
-  -- the bytes of a block up to i are no larger than the largest of them
-  module _ (at i most : ℕ) (h : (k : ℕ) → at ≤ k → k < at + i → getD s k 0 ≤ most) where
-    pub most-one : (r : ℕ) → most ≤ r → getD s (at + i) 0 ≤ r → (k : ℕ) → at ≤ k → k < at + (i + 1) → getD s k 0 ≤ r
-    most-one r l m k a b = go (decLe (suc k) (at + i))
-      where
-        go : Dec (suc k ≤ at + i) → getD s k 0 ≤ r
-        go (yes j) = omega (arith, h k a j)
-        go (no j) = let e : k ≡ at + i = omega arith in rw e m
+  -- the bytes of a block up to i, and one more
+  pub plain-start : (at : ℕ) → Plain s at (at + 0)
+  plain-start at i h k = absurd (let z : ⊥ = omega arith in z)
 
-    pub most-plain : 16 ≤ i → most < 128 → Plain s at (at + 16)
-    most-plain l m k a b = omega (arith, h k a (omega arith))
+  pub plain-turn : (at i : ℕ) (plain : Bool) → (plain ≡ true → Plain s at (at + i)) → (r : Bool) → r ≡ (plain && ltb (getD s (at + i) 0) 128) → r ≡ true
+      → Plain s at (at + (i + 1))
+  plain-turn at i plain h r e f =
+      let k : (plain ≡ true) × (ltb (getD s (at + i) 0) 128 ≡ true) = both-true plain (ltb (getD s (at + i) 0) 128) (sym e ∙ f) in
+      let b : getD s (at + i) 0 ≤ 127 = omega (arith, ltb-true (getD s (at + i) 0) 128 (k .1)) in
+      let z : at + i + 1 ≡ at + (i + 1) = omega arith in
+      rw z at (plain-one at (at + i) (h (k .0)) b)

@@ -1,6 +1,6 @@
 -- Internal: cited by the contracts of helpers alone; whoever reads the claims may skip it.
 --
--- What `eights_end`, `plain_end` and `block_plain` answer.
+-- What `eights_end`, `plain_end`, `block_plain` and `all_plain` answer.
 -- Assumes nothing.
 use Prim.Native.Nat.{ℕ, _≤_, _<_}
 use mathlib.Core.Path.{_≡_}

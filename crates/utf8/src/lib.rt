@@ -4,10 +4,11 @@
 // through the part sequence by sequence; behind one of the first row it passes over what follows of that row, eight
 // bytes at a time.
 ghost use mathlib.Core.Path.{_≡_};
-ghost use mathlib.Core.Bool.{true, cond};
+ghost use mathlib.Core.Bool.{true, cond, _&&_};
 ghost use mathlib.Core.List.{[], _∷_};
 ghost use Prim.Native.Nat.{_+_, _≤_};
 ghost use lib.ListN.{length, drop};
+ghost use lib.Dec.{ltb};
 ghost use Rattle.utf8.specs.Table.{span, fits, sequenceOf, isUtf8};
 ghost use Rattle.utf8.specs.Passes.{Passes, Plain};
 
@@ -133,31 +134,31 @@ fn plain_end(s: &[u8], from: usize) -> usize
     at
 }
 
-fn larger(a: u8, b: u8) -> u8
-    ensures { λ r. ⌜ (a ≤ r) × (b ≤ r) ⌝ }
+// Whether bytes are of the first row still with one more.
+fn stays_plain(plain: bool, b: u8) -> bool
+    ensures { λ r. ⌜ r ≡ (plain && ltb b 128) ⌝ }
 {
-    if a < b { b } else { a }
+    if plain { b < 0x80 } else { false }
 }
 
-// The 16 bytes from a place on are all of the first row: their largest is. There is no way out of the loop, so that a machine may compare
-// them at once.
+// The 16 bytes from a place on are all of the first row. There is no way out of the loop, so that a machine may test them at once.
 fn block_plain(s: &[u8], at: usize) -> bool
     requires { ⌜ at + 16 ≤ length (now s) ⌝ }
     ensures { λ r. ⌜ (r ≡ true → Plain (now (s .entry)) at (at + 16)) ⌝ }
 {
-    let mut most: u8 = 0;
+    let mut plain = true;
     let mut i: usize = 0;
     while i < 16 {
-        most = larger(most, s[at + i]);
+        plain = stays_plain(plain, s[at + i]);
         i = i + 1;
     }
-    most < 0x80
+    plain
 }
 
 // The part has 16 bytes or more, and all are of the first row. The last ones, which may not fill a block, are compared with those before them
 // once more.
-fn all_plain(s: &[u8]) -> bool
-    ensures { λ r. ⌜ (r ≡ true → isUtf8 (now (s .entry)) ≡ true) ⌝ }
+pub fn all_plain(s: &[u8]) -> bool
+    ensures { λ r. ⌜ (r ≡ true → Plain (now (s .entry)) 0 (length (now (s .entry)))) ⌝ }
 {
     if s.len() < 16 {
         return false;

@@ -151,8 +151,8 @@ fn is_before_next(a: &[u8], b: &[u8]) -> bool
     }
 }
 
-// The lengths lead to the end of the slice, and each topic is UTF-8.
-fn is_list(s: &[u8]) -> bool
+// The lengths lead to the end of the slice, and each topic is UTF-8, topic by topic.
+fn is_utf8_list(s: &[u8]) -> bool
     ensures { λ r. ⌜ r ≡ (isWhole (now (s .entry)) && allUtf8 (decodeTopics (now (s .entry)))) ⌝ }
 {
     let mut at: usize = 0;
@@ -172,6 +172,36 @@ fn is_list(s: &[u8]) -> bool
         at = end;
     }
     true
+}
+
+// The lengths lead to the end of the slice.
+fn is_whole(s: &[u8]) -> bool
+    ensures { λ r. ⌜ r ≡ isWhole (now (s .entry)) ⌝ }
+{
+    let mut at: usize = 0;
+    while at < s.len() {
+        if s.len() - at < 2 {
+            return false;
+        }
+        let n = slice_int::read_u16(s, at) as usize;
+        if s.len() - at - 2 < n {
+            return false;
+        }
+        at = at + 2 + n;
+    }
+    true
+}
+
+// The lengths lead to the end of the slice, and each topic is UTF-8. Where all bytes are plain, those of the lengths too, no topic is looked at
+// by itself.
+fn is_list(s: &[u8]) -> bool
+    ensures { λ r. ⌜ r ≡ (isWhole (now (s .entry)) && allUtf8 (decodeTopics (now (s .entry)))) ⌝ }
+{
+    if utf8::all_plain(s) {
+        is_whole(s)
+    } else {
+        is_utf8_list(s)
+    }
 }
 
 // Each topic of a packed list stands before the next.

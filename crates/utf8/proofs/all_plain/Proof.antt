@@ -8,7 +8,7 @@ use borrow.Author.Needs.{needs}
 use borrow.Author.Tests.{not-false}
 use lib.ListN.{length}
 use Rattle.utf8.specs.Passes.{Plain}
-use Rattle.utf8.proofs.TextLaws.{plain-none, plain-join, plain-text}
+use Rattle.utf8.proofs.TextLaws.{plain-none, plain-join}
 use Rattle.utf8.proofs.all_plain.Statement.{statement}
 use Rattle.utf8.proofs.all_plain.Tie as tie
 
@@ -53,7 +53,7 @@ returns-3 c = λ e.
     let l = c .before .before in
     let s = l .before .before .before .args .s .now in
     let n : length s - 16 + 16 ≡ length s = omega arith in
-    plain-text s (plain-join s 0 (l .loop .at) (length s - 16) (length s) (omega arith) (l .loop .inv .1) (rw n at (c .block-plain2 .ensures e)))
+    plain-join s 0 (l .loop .at) (length s - 16) (length s) (omega arith) (l .loop .inv .1) (rw n at (c .block-plain2 .ensures e))
 
 pub all-plain-spec : {M : Type 1} → statement M
 all-plain-spec =
