@@ -209,16 +209,10 @@ last-in b st n h =
     let e : n ≡ suc (n - 1) = omega arith in
     ap (λ m. lastList b (decodeEntries m (drop 6144 st))) e ∙ last-of b (n - 1) (drop 6144 st)
 
-pub last-none : (st b last last′ : List ℕ) (n size : ℕ) → n ≡ 0 → Scratch b size → length last ≡ 2048 → last′ ≡ put last 0 (take 2048 b)
-    → LastIs st b n size last′
+-- nothing is replayed
+pub last-none : (st b : List ℕ) (size : ℕ) → Scratch b size → LastIs st b 0 size b
 unfolding lastList queueIn decodeEntries
-last-none st b last last′ n size e s l w =
-    let v : last′ ≡ b =
-    w ∙ ap (put last 0) (take-all 2048 b (omega (arith, s .long))) ∙ put-whole last b (l ∙ sym (s .long)) in
-    record {
-      scratch = subst (λ (x : List ℕ). Scratch x size) (sym v) s;
-      is-last = ap decodeAssignment v ∙ ap (λ (m : ℕ). lastList (decodeAssignment b) (queueIn st m)) (sym e);
-    }
+last-none st b size s = record { scratch = s; is-last = refl }
 
 module _ (st b last last′ : List ℕ) (n at size : ℕ) (h : 0 < n) (bytes : Bytes st) (y : Lies st at size (entryIn st (n - 1)))
     (z : size ≡ sizeAssignment (entryIn st (n - 1))) (l : length last ≡ 2048) (w : last′ ≡ put last 0 (take (at + size - at) (drop at st))) where

@@ -5,7 +5,7 @@
 ghost use mathlib.Core.Path.{_≡_};
 ghost use mathlib.Core.Bool.{true, false, cond};
 ghost use mathlib.Core.List.{List};
-ghost use Prim.Native.Nat.{ℕ, _≤_};
+ghost use Prim.Native.Nat.{ℕ, _≤_, _<_};
 ghost use lib.ListN.{length};
 ghost use Rattle.wire_schema.specs.FirstFault.{firstFault};
 ghost use Rattle.wire_readers.specs.Messages.{WireResponse, responseOf};
@@ -19,7 +19,6 @@ ghost use Rattle.session_store.specs.Scratch.{Scratch};
 ghost use Rattle.session_intake.specs.Taken.{contentFrom, Ready, Answers};
 ghost use Rattle.session_response.specs.Replay.{staleOf, LastBegins, LastIs, deniedBy, responseSays, registeredBy, registered};
 use intake::Intake;
-use packed::SLOT;
 use packed_queue::LENGTH;
 use refusal::Refusal;
 use session::Answer;
@@ -62,18 +61,13 @@ fn first_stale(store: &[u8], epoch: u64, n: usize) -> Stale
     Stale::Nowhere(last)
 }
 
-// Copies the last list of the replay of n queue entries, whose last begins at a byte place, over the assignment of size bytes in b, and answers its size.
-fn load_last(store: &[u8], n: usize, at: usize, b: &[u8], size: usize, last: &mut [u8]) -> usize
+// Copies the last list of the replay of n queue entries, whose last begins at a byte place, and answers its size. One list at least is replayed, over that in b.
+fn load_last(store: &[u8], n: usize, at: usize, b: &[u8], last: &mut [u8]) -> usize
     requires { ⌜ (minStore ≤ length (now store)) × (queueReads (now store) n ≡ true) ⌝ }
-    requires { ⌜ LastBegins (now store) n at ⌝ }
-    requires { ⌜ Scratch (now b) size ⌝ }
+    requires { ⌜ (0 < n) × LastBegins (now store) n at ⌝ }
     requires { ⌜ length (now last) ≡ packed-form.slotSize ⌝ }
     ensures { λ r. ⌜ LastIs (now (store .entry)) (now (b .entry)) n r (now (last .exit)) ⌝ }
 {
-    if n == 0 {
-        slice_int::put_bytes(last, 0, &b[..SLOT]);
-        return size;
-    }
     let len = slice_int::read_u16(store, at) as usize;
     let from = at + LENGTH;
     let to = from + len;
@@ -106,7 +100,25 @@ fn registered_with(r: SessionRecord, epoch: u64, count: usize) -> SessionRecord
     }
 }
 
-// The baseline of size bytes in the buffer b is set, and with it the last list and the floor. The last of count queue entries begins at a byte place.
+// The baseline of size bytes in the buffer b is set, and with it the last list and the floor. No push is replayed: the baseline is the last list.
+fn register_alone(r: SessionRecord, store: &mut [u8], b: &[u8], size: usize) -> Changed
+    requires { ⌜ 6144 ≤ length (now store) ⌝ }
+    requires { ⌜ Scratch (now b) size ⌝ }
+    requires { ⌜ 0 ≡ cond (r .registered) 0 (r .«queue_count») ⌝ }
+    ensures { λ x. ⌜ ((out : List ℕ) → callOutcome (x .answer) (x .next) (now (store .exit)) out
+        ≡ effectOf (registered (view r (now (store .entry))) (packed-form.decodeAssignment (now (b .entry)))) (now (store .entry)) out) ⌝ }
+{
+    let epoch = slice_int::read_u64(b, 0);
+    session_store::write_slot(store, 1, b, size);
+    session_store::write_slot(store, 2, b, size);
+    let next = registered_with(r, epoch, 0);
+    Changed {
+        next,
+        answer: Answer::Accepted,
+    }
+}
+
+// The same where count pushes are replayed, of which the last begins at a byte place.
 fn register(
     r: SessionRecord,
     store: &mut [u8],
@@ -122,8 +134,11 @@ fn register(
     ensures { λ x. ⌜ ((out : List ℕ) → callOutcome (x .answer) (x .next) (now (store .exit)) out
         ≡ effectOf (registered (view r (now (store .entry))) (packed-form.decodeAssignment (now (b .entry)))) (now (store .entry)) out) ⌝ }
 {
+    if count == 0 {
+        return register_alone(r, store, b, size);
+    }
     let mut last = [0u8; SLOT];
-    let len = load_last(store, count, at, b, size, &mut last);
+    let len = load_last(store, count, at, b, &mut last);
     let epoch = slice_int::read_u64(&last, 0);
     session_store::write_slot(store, 1, b, size);
     session_store::write_slot(store, 2, &last, len);
