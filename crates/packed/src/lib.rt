@@ -306,7 +306,7 @@ fn all_bare(s: &[u8]) -> bool
         return false;
     }
     let mut p: usize = ASSIGNMENT_HEAD;
-    let mut id = slice_int::read_u64(s, p);
+    let mut prev = slice_int::read_u64(s, p);
     loop {
         if slice_int::read_u16(s, p + 10) < slice_int::read_u16(s, p + 8) {
             return false;
@@ -319,10 +319,10 @@ fn all_bare(s: &[u8]) -> bool
             return true;
         }
         let next = slice_int::read_u64(s, p);
-        if next <= id {
+        if next <= prev {
             return false;
         }
-        id = next;
+        prev = next;
     }
 }
 

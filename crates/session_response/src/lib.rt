@@ -102,7 +102,7 @@ fn registered_with(r: SessionRecord, epoch: u64, count: usize) -> SessionRecord
 
 // The baseline of size bytes in the buffer b is set, and with it the last list and the floor. No push is replayed: the baseline is the last list.
 fn register_alone(r: SessionRecord, store: &mut [u8], b: &[u8], size: usize) -> Changed
-    requires { ⌜ 6144 ≤ length (now store) ⌝ }
+    requires { ⌜ minStore ≤ length (now store) ⌝ }
     requires { ⌜ Scratch (now b) size ⌝ }
     requires { ⌜ 0 ≡ cond (r .registered) 0 (r .«queue_count») ⌝ }
     ensures { λ x. ⌜ ((out : List ℕ) → callOutcome (x .answer) (x .next) (now (store .exit)) out

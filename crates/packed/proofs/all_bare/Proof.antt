@@ -12,10 +12,10 @@ use Rattle.packed.proofs.all_bare.Statement.{statement}
 use Rattle.packed.proofs.all_bare.Tie as tie
 
 abbrev Inv-loop : tie.InvT-loop
-Inv-loop s end count p₀ id₀ p id = Walk s 10 count end p end id
+Inv-loop s end count p₀ prev₀ p prev = Walk s 10 count end p end prev
 
 abbrev μ-loop : tie.MeasureT-loop
-μ-loop s end count p₀ id₀ p id = end - p
+μ-loop s end count p₀ prev₀ p prev = end - p
 
 -- the record at the place has room
 room : (c : tie.At-loop Inv-loop μ-loop) → c .loop .p + 14 ≤ length (c .before .before .before .before .before .before .before .args .s .now)
@@ -35,7 +35,7 @@ behind : (k : tie.Else5 Inv-loop μ-loop)
     → let l = k .before .before .before .before .before in
     let u = l .before .before .before in
     let s = u .before .before .before .before .args .s .now in
-    Past s 10 (u .read-u16 .result) (length s) (l .loop .p) (l .loop .id) (l .loop .p + 14) (length s)
+    Past s 10 (u .read-u16 .result) (length s) (l .loop .p) (l .loop .prev) (l .loop .p + 14) (length s)
 behind k =
     let e = k .before .before in
     let b = e .before in
