@@ -1,6 +1,6 @@
 -- Laws of `takes` and `firstTaking` over records that are read where they lie.
 --
--- In order: a row of ranges by its first (`any-found`, `any-further`); a record by its range and its count (`counted-size`,
+-- In order: a row of ranges (`any-point`); a record by its range and its count (`counted-size`,
 -- `takes-outside`, `takes-whole`, `takes-bucketed`); records by the first of them (`first-found`, `first-further`,
 -- `first-none`); the cases of `segmentForKey` (`for-long`, `for-malformed`, `for-whole`).
 -- Assumes nothing.
@@ -12,6 +12,7 @@ use lib.ListN.{length, drop}
 use borrow.Author.Tests.{lt-ltb, le-ltb}
 use Rattle.topic_types.specs.declared.KeyRange.{KeyRange}
 use Rattle.refusal.specs.declared.Refusal.the-variants.{KeyTooLong, MalformedInput}
+use Rattle.ranges.specs.Overlap.{overlapsAny}
 use Rattle.ranges_calls.specs.Calls.{holds}
 use Rattle.slice_int.specs.Be.{beAt}
 use Rattle.packed.specs.Assignment.{AssignedSegment, decodeRange, decodeRanges, decodeSegment, decodeSegments, sizeSegment, isAssignment}
@@ -22,14 +23,11 @@ use Rattle.packed.proofs.WholeLaws.{Whole}
 
 -- ---- a row of ranges
 
-module _ (hash : ℕ) (r : KeyRange) (rs : List KeyRange) where
-  pub any-found : holds hash r ≡ true → anyHolds hash (r ∷ rs) ≡ true
-  unfolding anyHolds
-  any-found e = ap (λ (t : Bool). t || anyHolds hash rs) e
-
-  pub any-further : holds hash r ≡ false → anyHolds hash (r ∷ rs) ≡ anyHolds hash rs
-  unfolding anyHolds
-  any-further e = ap (λ (t : Bool). t || anyHolds hash rs) e
+-- one has the hash where one shares a value with the range of the hash alone
+pub any-point : (hash : ℕ) (rs : List KeyRange) → overlapsAny (record { start = hash; end = hash }) rs ≡ anyHolds hash rs
+unfolding overlapsAny anyHolds
+any-point hash [] = refl
+any-point hash (r ∷ rs) = ap (λ (t : Bool). holds hash r || t) (any-point hash rs)
 
 -- ---- a record at a place, by the range and the count that were read there
 

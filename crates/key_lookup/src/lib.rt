@@ -7,6 +7,7 @@ ghost use Rattle.packed.proofs.AssignmentLaws.{Rest};
 ghost use Rattle.key_lookup.specs.Lookup.{anyHolds, takes, firstTaking, segmentForKey};
 use packed::Packed;
 use refusal::Refusal;
+use topic_types::KeyRange;
 use topic_types::SegmentId;
 
 // The most bytes of a key.
@@ -20,21 +21,14 @@ pub enum SegmentAnswer {
     Refused(Refusal),
 }
 
-// One of the n ranges from a place on has the hash.
+// One of the n ranges from a place on has the hash: it shares a value with the range of the hash alone.
 fn bucket_holds(s: &[u8], at: usize, n: usize, hash: u32) -> bool
     requires { ⌜ at + 4 * n ≤ length (now s) ⌝ }
     ensures { λ r. ⌜ r ≡ anyHolds hash (decodeRanges n (drop at (now (s .entry)))) ⌝ }
 {
-    let mut p = at;
-    let mut left = n;
-    while 0 < left {
-        if ranges_calls::holds_hash(packed::range_at(s, p), hash) {
-            return true;
-        }
-        p = p + 4;
-        left = left - 1;
-    }
-    false
+    let start = hash;
+    let end = hash;
+    packed::bucket_overlaps(s, at, n, KeyRange { start, end })
 }
 
 // The segment whose record stands at the place p takes the hash: its range has it, and a bucket where there are buckets.

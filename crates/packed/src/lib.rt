@@ -122,7 +122,7 @@ fn rise_by_words(s: &[u8], at: usize, n: usize) -> bool
 }
 
 // One of the n ranges from a place on shares a value with the range.
-fn bucket_overlaps(s: &[u8], at: usize, n: usize, range: KeyRange) -> bool
+pub fn bucket_overlaps(s: &[u8], at: usize, n: usize, range: KeyRange) -> bool
     requires { ⌜ at + 4 * n ≤ length (now s) ⌝ }
     ensures { λ r. ⌜ r ≡ overlapsAny range (decodeRanges n (drop at (now (s .entry)))) ⌝ }
 {
