@@ -24,7 +24,7 @@ import usage
 # One function of a source, up to its body.
 FUNCTION = re.compile(r'^[ \t]*(?P<pub>pub )?(?P<extern>extern "C" )?fn (?P<name>\w+)(?P<head>(?:(?!^[ \t]*\{$|\{$).)*?)(?:^[ \t]*\{$|\{$)', re.M | re.S)
 # The crates of the programs' texts and of measurements: what they write is tested, not proved.
-TEXTS = {"log_lines", "log_text", "log_lists", "log_calls", "test_keys", "test_vectors", "bench_speed", "station"}
+TEXTS = {"log_lines", "log_text", "log_lists", "log_calls", "log_questions", "test_keys", "test_vectors", "bench_speed", "station"}
 
 ROOT = Path(__file__).resolve().parent.parent
 LIST = ROOT / "docs/sentences.txt"
