@@ -81,7 +81,7 @@ class Session:
         self.baseline, self.queue, self.drained = new, queue, [0] * READERS
         self.held = [new, *queue][-1]
         self.raise_floor(self.held.epoch)
-        return "accepted"
+        return f"accepted baseline epoch {new.epoch} segments {len(new.segments)}"
 
     def drain(self, reader):
         if reader >= READERS:

@@ -12,8 +12,6 @@ import usage
 from name_vectors import Refused
 
 VECTORS = pathlib.Path(__file__).resolve().parent.parent / "vectors"
-# the refusals as station names them
-NAMES = refusal_table.names()
 
 
 def argument(kind, word):
@@ -42,7 +40,7 @@ def answer(text, commands):
         return f"{name} {command(*map(argument, kinds, words))}", False
     except Refused as refusal:
         number, *values = refusal.args
-        return " ".join([name, "refused", str(number), NAMES[number], *map(str, values)]), True
+        return f"{name} {refusal_table.told(number, values)}", True
 
 
 def output(log, commands):

@@ -13,20 +13,21 @@ import usage
 from pass_log import Fault, lines_of, sent_by, shown, times_of, topic_of
 from pass_spans import Segment, taken
 
-# the lines that tell what is held behind them
-CALLS = ("open", "update", "response", "drain", "begin", "invalidate")
+# the lines that may set anew what is held
+CALLS = ("open", "update", "response", "begin", "invalidate", "restore")
 ANSWER = re.compile(r"^(\d{1,20}) (\S+) (.*)$")
 HELD = re.compile(r"^  held (?:none|epoch (\d{1,20}) segments (\d{1,5}))$")
 TOTAL = re.compile(r"^\d+ calls: \d+ accepted, \d+ refused; (\d+) damaged lines$")
 SEGMENT = re.compile(r"^(\d{1,20}) ([0-9a-f]{4}-[0-9a-f]{4}) (-|[0-9a-f,-]+)$")
-REFUSED = re.compile(r"^refused (\d{1,3}) (\w+)((?: -?\d{1,20})*)( text \".*\")?$")
-# of refusal 9, the kinds of its source and their numbers, as docs/refusals.txt tells them
-KIND = re.compile(r"(\d): ([^,;()]+), ([^;()]+)")
+BASELINE = re.compile(r"^accepted baseline epoch (\d{1,20}) segments (\d{1,5})$")
+REFUSED = re.compile(r"^refused (\d{1,3}) (\w+)((?: \w+ -?\d{1,20})*)( text \".*\")?$")
+# of refusal 9, the kinds of its source, as docs/refusals.txt tells them
+KIND = re.compile(r"(\d): ([^,;()]+), ")
 
 
 @dataclass
 class Entry:
-    """A line of the log: its call, what was answered, and what was held then (None: no list), which a question does not tell."""
+    """A line of the log: its call, what was answered, and what was held then (None: no list), which it tells where it was set anew."""
 
     line: int
     call: str
@@ -42,6 +43,8 @@ class Entry:
     state: str = ""
     lost: list = field(default_factory=list)
     gained: list = field(default_factory=list)
+    # the segments of the baseline that an accepted response gave
+    given: tuple = ()
 
     def kind(self):
         """How it is shown: damaged, refused, changed (what is held, or what an uploader was handed), link (which empties the list), or plain."""
@@ -49,13 +52,18 @@ class Entry:
             return "damaged"
         if self.answer.startswith("refused "):
             return "refused"
-        if self.answer == "accepted":
+        if self.answer.startswith("accepted"):
             return "changed" if self.call == "response" else "link"
         return "changed" if self.answer.startswith(("delta ", "replay ")) else "plain"
 
     def baseline(self):
         """Epoch and segments of the baseline that an accepted response gave."""
-        return self.sent if self.call == "response" and self.answer == "accepted" else None
+        m = BASELINE.match(self.answer)
+        return (int(m[1]), self.given) if m else None
+
+    def tells(self):
+        """Whether what is held was set anew, so that the lines behind the answer tell it."""
+        return self.call in CALLS and self.answer.startswith(("accepted", "delta "))
 
     def spans(self):
         """The values that were held."""
@@ -81,19 +89,15 @@ class Log:
 def table():
     text = (usage.ROOT / refusal_table.REFUSALS).read_text(encoding="utf-8")
     refusals = refusal_table.read_refusals(text)
-    kinds = {number: (kind, names.split(" and ")) for refusal in refusals for number, kind, names in KIND.findall(refusal.attached)}
+    kinds = {int(number): kind for refusal in refusals for number, kind in KIND.findall(refusal.attached)}
     return {(refusal.number, refusal.name): refusal for refusal in refusals}, kinds
 
 
-def named(names, numbers):
-    """The attached numbers by their names. A source is a kind and the kind's own numbers."""
-    found, kinds = {}, table()[1]
-    for name in names:
-        if name == "source" and numbers:
-            found["kind"], names_of_kind = kinds.get(numbers[0], (numbers[0], []))
-            return found | dict(zip(names_of_kind, map(int, numbers[1:])))
-        if numbers:
-            found[name.replace("_", " ")], numbers = int(numbers[0]), numbers[1:]
+def named(words):
+    """The attached numbers by their names, with the kind of a range in words."""
+    found = {name.replace("_", " "): int(value) for name, value in zip(words[::2], words[1::2])}
+    if "kind" in found:
+        found["kind"] = table()[1].get(found["kind"], found["kind"])
     return found
 
 
@@ -103,7 +107,7 @@ def refusal_of(answer):
     if not m:
         return None
     refusal = table()[0].get((int(m[1]), m[2]))
-    found = {"number": int(m[1]), "name": m[2], "attached": named(refusal.values if refusal else (), m[3].split())}
+    found = {"number": int(m[1]), "name": m[2], "attached": named(m[3].split())}
     if m[4]:
         found["text"] = m[4][7:-1]
     return found | ({"is": refusal.sentence, "do": refusal.do} if refusal else {})
@@ -137,10 +141,12 @@ def read_detail(entry, line):
         entry.lost.append(int(m[1]))
     elif line.startswith("  gained ") and (segment := segment_of(line[9:])):
         entry.gained.append(segment)
+    elif line.startswith("  baseline ") and (segment := segment_of(line[11:])):
+        entry.given += (segment,)
 
 
 def carry(before, entry):
-    """Questions and damaged lines change nothing: what was held before them is held behind them. Equal lists are kept once."""
+    """What no line tells is as it was: what was held before is held behind it. Equal lists are kept once."""
     if before and (not entry.told or (entry.epoch, entry.held) == (before.epoch, before.held)):
         entry.epoch, entry.held = before.epoch, before.held
 
@@ -174,7 +180,7 @@ def read_output(name, lines):
     """The entries of an output that was made with --lists and --state."""
     entries = []
     for entry in whole_entries(name, lines):
-        if entry.call in CALLS and not entry.told:
+        if entry.tells() and not entry.told:
             raise Fault(f"{name}: line {entry.line} does not tell what is held: it was made without --lists")
         carry(entries[-1] if entries else None, entry)
         entries.append(entry)

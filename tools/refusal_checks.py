@@ -18,6 +18,8 @@ ENUMS = {"AssignmentError": ERROR, "SegmentTopicError": ERROR, "TopicsWatchError
 # of the Rust crate: the variant that wraps the error of a name, and the refusal that no `str` can give
 WRAPPED = {("AssignmentError", 12): "SegmentTopic"}
 NO_STR = {("SegmentTopicError", 7)}
+# the values of a reply
+PLACES = ("first", "second", "third", "fourth")
 # how a comment of the crates begins an order
 ORDERED = "Refused in order: "
 
@@ -91,9 +93,17 @@ def check_numbers(table, sources):
 
 
 def check_call_text(table, sources):
-    """A refusal that shares its number with one before it is named by an arm of its own."""
-    have = re.findall(r'Refusal::(\w+) \{[^}]*\} => text\(b"(\w+)"\)', sources[CALL_TEXT])
-    return differences(CALL_TEXT, have, [(name, name) for number in table.by_number for name in table.names(number)[1:]])
+    """A refusal that shares its number with one before it has an arm of its own, with its name and its numbers' names. A range of kind 2 has an end alone."""
+    text, arms, told, short = sources[CALL_TEXT], [], [], []
+    for first, *seconds in table.by_number.values():
+        if first.short_names != first.value_names:
+            short.append((str(first.number), PLACES[first.value_names.index("kind")], ",".join(first.short_names)))
+        for refusal in seconds:
+            arms.append(refusal.name)
+            told += [(refusal.name, ",".join(names)) for names in dict.fromkeys((refusal.short_names, refusal.value_names))]
+    faults = differences(CALL_TEXT, re.findall(r"Refusal::(\w+) \{[^}]*\} =>", text), arms)
+    faults += differences(CALL_TEXT, re.findall(r'refused_as\(r, b"(\w+)", b"([\w,]+)"\)', text), told)
+    return faults + differences(CALL_TEXT, re.findall(r'if number == (\d+) && r\.(\w+) == 2 \{\s*named_values\(r, b"([\w,]+)"\)', text), short)
 
 
 def fields_of(variant):

@@ -1,7 +1,7 @@
 #!/usr/bin/env python3
 """Part of tools/refusals.py: what it writes from the table. A part has a line with `tools/refusals.py writes: NAME` above it and one with
 `tools/refusals.py: end` below; in docs/EXPORTS.md the last cells of the calls' rows, in compare/src/tally.rs the numbers of REACH and in
-crates/log_text the row of names are written where they stand."""
+crates/log_text the rows of names, of refusals and of their numbers, are written where they stand."""
 import re
 import textwrap
 
@@ -12,7 +12,8 @@ ERROR, WATCH = "bindings/rust/src/error.rs", "bindings/rust/src/watch.rs"
 OWNED = "bindings/rust/src/owned/error.rs"
 HEADER, EXPORTS, OPERATOR = "bindings/c/cuddrewyn.h", "docs/EXPORTS.md", "docs/REFUSALS.md"
 TALLY, CALL_TEXT = "compare/src/tally.rs", "crates/log_text/src/refusals.rt"
-NAMES = re.compile(r'(lines::word\(\s*b")([^"]*)(",\s*number,)')
+NAMES = re.compile(r'(text\(log_lines::word\(\s*b")([^"]*)(",\s*number,)')
+VALUE_NAMES = re.compile(r'(named_values\(\s*r,\s*log_lines::word\(\s*b")([^"]*)(",\s*number,)')
 REACH = re.compile(r"^    \((\w+), &\[([\d, ]*)\], ", re.M)
 EXPORTED = re.compile(r"^(\| (?:`cuddrewyn_\w+`(?:, )?)+ \|.* \| )([^|]*)( \|)$", re.M)
 
@@ -114,16 +115,27 @@ def write_reach(table, text):
     return REACH.sub(lambda m: f"    ({m[1]}, &[{', '.join(map(str, numbers.get(m[1], [])))}], ", text)
 
 
-def write_names(table, text):
-    """The row of names by number, a dash where no refusal has the number; left as it is laid out where it has the right words."""
-    words = [table.names(number)[0] if table.names(number) else "-" for number in range(1, max(table.by_number) + 1)]
-    row = NAMES.search(text)
+def write_row(text, place, words):
+    """A row of words by number, from 1 on; left as it is laid out where it has the right words."""
+    row = place.search(text)
     if not row:
-        raise Fault("the row of names is not there")
+        raise Fault("a row of names is not there")
     if re.sub(r"\\\n *", "", row[2]) == " " + " ".join(words):
         return text
     lines = textwrap.wrap(" ".join(words), 100, break_on_hyphens=False)
     return text[:row.start(2)] + " " + (" \\\n" + 14 * " ").join(lines) + text[row.end(2):]
+
+
+def write_names(table, text):
+    """The names by number, a dash where no refusal has the number."""
+    return write_row(text, NAMES, [table.names(number)[0] if table.names(number) else "-" for number in range(1, max(table.by_number) + 1)])
+
+
+def write_value_names(table, text):
+    """The names of the attached numbers by number, a dash where there are none."""
+    last = max(number for number, refusals in table.by_number.items() if refusals[0].values)
+    rows = [table.by_number[number][0].value_names if number in table.by_number else () for number in range(1, last + 1)]
+    return write_row(text, VALUE_NAMES, [",".join(names) or "-" for names in rows])
 
 
 WRITES = [
@@ -144,6 +156,7 @@ WRITES = [
     (OWNED, part("owned TopicsWatchError", owned_lines("TopicsWatchError"))),
     (TALLY, write_reach),
     (CALL_TEXT, write_names),
+    (CALL_TEXT, write_value_names),
 ]
 
 

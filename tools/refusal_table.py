@@ -13,6 +13,8 @@ HEAD = re.compile(r"(\d+) (\w+), (ours|of the Rust)\n")
 LINE = re.compile(r"    (values|attached|case|is|text|do): (\S.*)\n")
 ITEM = r"(then )?(\d+)( \([^()]*\))?(, | or |$)"
 LEAST_RUN = 3
+# the numbers of a range that is none: its kind, then start (kind 1), end (kind 2) or both (kind 3)
+SOURCE = ("kind", "start", "end")
 
 
 class Fault(Exception):
@@ -36,6 +38,16 @@ class Refusal:
     def is_bare(self):
         """Of the port's own and without values: the Rust crate has it as a variant without fields, with one text."""
         return self.is_ours and not self.values
+
+    @property
+    def value_names(self):
+        """The names of its numbers, as the program `station` prints them: a source is a kind and the kind's own numbers."""
+        return tuple(name for value in self.values for name in (SOURCE if value == "source" else (value,)))
+
+    @property
+    def short_names(self):
+        """The names of a range of kind 2, which has an end alone; those of any other refusal."""
+        return tuple(name for name in self.value_names if name != "start") if "kind" in self.value_names else self.value_names
 
     @property
     def says(self):
@@ -124,10 +136,15 @@ class Table:
         return {number for call in self.calls if call.error == error for number in call.numbers}
 
 
-def names():
-    """The name that the program `station` prints for each number; the first one's where two refusals have it."""
+def told(number, values):
+    """A refusal as the program `station` prints it: number, name, and each value behind its name; of two refusals with the number the first."""
     refusals = read_refusals((ROOT / REFUSALS).read_text(encoding="utf-8"))
-    return {refusal.number: refusal.name for refusal in reversed(refusals)}
+    refusal = next(refusal for refusal in refusals if refusal.number == number)
+    names = refusal.value_names
+    if "kind" in names and values[names.index("kind")] == 2:
+        names = refusal.short_names
+    assert len(values) <= len(names), (refusal.name, values)
+    return " ".join([f"refused {number} {refusal.name}", *(f"{name} {value}" for name, value in zip(names, values))])
 
 
 def run_length(items):

@@ -73,7 +73,8 @@ def line(words, answer, rows):
     """The answer of a call, with the rows of its delta."""
     if words[0] == "refused":
         quoted = re.search(r' text "(.*)"$', answer)
-        values = answer[:quoted.start()].split()[3:] if quoted else words[3:]
+        # each value stands behind its name
+        values = (answer[:quoted.start()].split() if quoted else words)[4::2]
         return f"refused {words[1]} ({row([integer(v) for v in values])}) ({octets(text(quoted[1])) if quoted else '[]'})"
     if words[0] in ("delta", "replay"):
         epoch = words[words.index("epoch") + 1]
@@ -83,14 +84,20 @@ def line(words, answer, rows):
     return {"accepted": "accepted", "none": "unchanged"}[words[0]]
 
 
-def shown(block):
-    """What is seen behind a call, from its lines."""
+def held_by(block, before):
+    """The list that is held behind a call: that of before where its lines have none."""
+    held = next((r for r in block if r.startswith("  held")), None)
+    if held is None:
+        return before
+    segments = [segment(r.split()) for r in block if r.startswith("    ")]
+    return "none" if held == "  held none" else f"(some (list {held.split()[2]} ({row(segments)})))"
+
+
+def shown(block, kept):
+    """What is seen behind a call, from its lines and the list that is held."""
     answer = block[0].split(" ", 2)[2]
     state = block[1].split()
     value = dict(zip(state[1:9:2], state[2:9:2]))
-    held = next(r for r in block if r.startswith("  held"))
-    segments = [segment(r.split()) for r in block if r.startswith("    ")]
-    kept = "none" if held == "  held none" else f"(some (list {held.split()[2]} ({row(segments)})))"
     floor = "none" if value["floor"] == "none" else f"(some {value['floor']})"
     flags = " ".join("true" if value[flag] == "yes" else "false" for flag in ("registered", "invalidated"))
     return f"seen ({line(answer.split(), answer, block)}) {kept} {floor} {value['incarnation']} {flags}"
@@ -111,14 +118,15 @@ def sessions():
         if not text_line.startswith(" "):
             block = answers.setdefault(int(text_line.split()[0]), [])
         block.append(text_line)
-    found = []
+    found, kept = [], "none"
     for number, text_line in enumerate((ROOT / "compare/recorded/stdin").read_text().splitlines(), 1):
         words = text_line.split()
+        kept = held_by(answers.get(number, []), kept)
         if words[0] == "open":
             found.append((words[3], [], []))
         elif words[0] != "#":
             found[-1][1].append(call(words))
-            found[-1][2].append(shown(answers[number]))
+            found[-1][2].append(shown(answers[number], kept))
     return found[:SESSIONS]
 
 

@@ -13,6 +13,7 @@ use crate::scalable_consumer::{
     AssignedSegment, AssignmentDelta, AssignmentError, AssignmentReplay, ConsumerAssignment, ControllerIncarnation, ScalableConsumerSession,
     ScalableConsumerType, SegmentTopicError,
 };
+use crate::types::KeyRangeError;
 use crate::session::world::World;
 use std::collections::VecDeque;
 use std::fmt::Write as _;
@@ -42,22 +43,25 @@ struct Twin {
     lost: Vec<u64>,
 }
 
-fn name(error: &AssignmentError) -> &'static str {
+/// An error's name, and the names of its numbers.
+fn words(error: &AssignmentError) -> (&'static str, &'static [&'static str]) {
     match error {
-        AssignmentError::InvalidRange { .. } => "InvalidRange",
-        AssignmentError::InvalidBucketRange { .. } => "InvalidBucketRange",
-        AssignmentError::OverlappingBucketRanges { .. } => "OverlappingBucketRanges",
-        AssignmentError::SegmentTopic(SegmentTopicError::InvalidParent { .. }) => "InvalidParent",
-        AssignmentError::AttachmentMismatch { .. } => "AttachmentMismatch",
-        AssignmentError::DuplicateSegment { .. } => "DuplicateSegment",
-        AssignmentError::Broker { .. } => "Broker",
-        AssignmentError::Empty { .. } => "Empty",
-        AssignmentError::IncarnationMismatch { .. } => "IncarnationMismatch",
-        AssignmentError::ConsumerMismatch { .. } => "ConsumerMismatch",
-        AssignmentError::NonAdvancingIncarnation { .. } => "NonAdvancingIncarnation",
-        AssignmentError::CrossIncarnationEpochRegression { .. } => "CrossIncarnationEpochRegression",
-        AssignmentError::StaleEpoch { .. } => "StaleEpoch",
-        AssignmentError::PreBaselineBufferFull { .. } => "PreBaselineBufferFull",
+        AssignmentError::InvalidRange { source: KeyRangeError::StartOutOfBounds { .. }, .. } => ("InvalidRange", &["segment_id", "kind", "start"]),
+        AssignmentError::InvalidRange { source: KeyRangeError::EndOutOfBounds { .. }, .. } => ("InvalidRange", &["segment_id", "kind", "end"]),
+        AssignmentError::InvalidRange { .. } => ("InvalidRange", &["segment_id", "kind", "start", "end"]),
+        AssignmentError::InvalidBucketRange { .. } => ("InvalidBucketRange", &["segment_id", "index", "start", "end"]),
+        AssignmentError::OverlappingBucketRanges { .. } => ("OverlappingBucketRanges", &["segment_id"]),
+        AssignmentError::SegmentTopic(SegmentTopicError::InvalidParent { .. }) => ("InvalidParent", &[]),
+        AssignmentError::AttachmentMismatch { .. } => ("AttachmentMismatch", &["segment_id"]),
+        AssignmentError::DuplicateSegment { .. } => ("DuplicateSegment", &["segment_id"]),
+        AssignmentError::Broker { .. } => ("Broker", &["code"]),
+        AssignmentError::Empty { .. } => ("Empty", &["request_id"]),
+        AssignmentError::IncarnationMismatch { .. } => ("IncarnationMismatch", &["got", "expected"]),
+        AssignmentError::ConsumerMismatch { .. } => ("ConsumerMismatch", &["got", "expected"]),
+        AssignmentError::NonAdvancingIncarnation { .. } => ("NonAdvancingIncarnation", &["got", "prev"]),
+        AssignmentError::CrossIncarnationEpochRegression { .. } => ("CrossIncarnationEpochRegression", &["got", "floor"]),
+        AssignmentError::StaleEpoch { .. } => ("StaleEpoch", &["got", "prev"]),
+        AssignmentError::PreBaselineBufferFull { .. } => ("PreBaselineBufferFull", &["max"]),
         other => unreachable!("{other:?}: nothing here gives it"),
     }
 }
@@ -74,14 +78,15 @@ fn escaped(text: &str) -> String {
     })
 }
 
-/// `refused N NAME VALUES`, for the broker's with its text.
+/// `refused N NAME` and each value behind its name, for the broker's with its text.
 fn refusal(error: &AssignmentError) -> String {
     let reply = oracle::refusal(error);
-    let values = [reply.first, reply.second, reply.third, reply.fourth];
-    let mut out = format!("refused {} {}", reply.number, name(error));
-    for (at, value) in values.iter().take(reply.count.into()).enumerate() {
+    let (name, names) = words(error);
+    assert_eq!(names.len(), usize::from(reply.count), "{name}: each value has its name");
+    let mut out = format!("refused {} {name}", reply.number);
+    for (at, (name, value)) in names.iter().zip([reply.first, reply.second, reply.third, reply.fourth]).enumerate() {
         let signed = reply.number == 16 || (reply.number == 10 && at > 1);
-        if signed { write!(out, " {}", *value as i64) } else { write!(out, " {value}") }.expect("a string");
+        if signed { write!(out, " {name} {}", value as i64) } else { write!(out, " {name} {value}") }.expect("a string");
     }
     if let AssignmentError::Broker { message, .. } = error {
         write!(out, " text \"{}\"", escaped(message)).expect("a string");
@@ -100,6 +105,16 @@ fn change(delta: &AssignmentDelta) -> String {
     format!("epoch {} lost {} gained {}", delta.layout_epoch, delta.lost.len(), delta.gained.len())
 }
 
+fn counts(list: &ConsumerAssignment) -> String {
+    format!("epoch {} segments {}", list.layout_epoch(), list.segments().len())
+}
+
+/// What a delta loses and gains, a row each.
+fn changes(delta: &AssignmentDelta) -> Vec<String> {
+    let lost = delta.lost.iter().map(|id| format!("lost {}", id.0));
+    lost.chain(delta.gained.iter().map(|segment| format!("gained {}", row(segment)))).collect()
+}
+
 fn yes(b: bool) -> &'static str {
     if b { "yes" } else { "no" }
 }
@@ -110,8 +125,8 @@ impl Pages {
         writeln!(self.log, "# {text}").expect("a string");
     }
 
-    /// A call, its answer, and what is seen behind it.
-    fn call(&mut self, call: &str, words: &str, answer: &str, delta: Option<&AssignmentDelta>, twin: &Twin) {
+    /// A call, its answer, and what is seen behind it: the rows of a baseline or a delta, and the list that is held where it was set anew.
+    fn call(&mut self, call: &str, words: &str, answer: &str, rows: &[String], twin: &Twin) {
         self.line += 1;
         self.calls += 1;
         self.refused += usize::from(answer.starts_with("refused"));
@@ -134,14 +149,14 @@ impl Pages {
             churn.second
         )
         .expect("a string");
-        if let Some(delta) = delta {
-            delta.lost.iter().for_each(|id| writeln!(out, "  lost {}", id.0).expect("a string"));
-            delta.gained.iter().for_each(|segment| writeln!(out, "  gained {}", row(segment)).expect("a string"));
+        rows.iter().for_each(|row| writeln!(out, "  {row}").expect("a string"));
+        if !answer.starts_with("accepted") && !answer.starts_with("delta") {
+            return;
         }
         let Some(list) = session.assignment() else {
             return writeln!(out, "  held none").expect("a string");
         };
-        writeln!(out, "  held epoch {} segments {}", list.layout_epoch(), list.segments().len()).expect("a string");
+        writeln!(out, "  held {}", counts(list)).expect("a string");
         list.segments().iter().for_each(|segment| writeln!(out, "    {}", row(segment)).expect("a string"));
     }
 }
@@ -169,17 +184,17 @@ impl Twin {
         let read = oracle::update(message).expect("a message that the reader takes");
         let queues = !self.session.is_registered();
         match self.session.handle_assignment_update_for(ControllerIncarnation(incarnation), &read) {
-            Err(error) => pages.call("update", &words, &refusal(&error), None, self),
+            Err(error) => pages.call("update", &words, &refusal(&error), &[], self),
             Ok(None) => {
                 if queues {
                     let list = ConsumerAssignment::try_from_pb(&read.assignment, self.session.topic()).expect("a list that was taken");
                     self.queue.push(list);
                 }
-                pages.call("update", &words, "none", None, self);
+                pages.call("update", &words, "none", &[], self);
             }
             Ok(Some(delta)) => {
                 self.lost.push(delta.lost.len() as u64);
-                pages.call("update", &words, &format!("delta {}", change(&delta)), Some(&delta), self);
+                pages.call("update", &words, &format!("delta {}", change(&delta)), &changes(&delta), self);
             }
         }
     }
@@ -189,7 +204,7 @@ impl Twin {
         let read = oracle::response(message).expect("a message that the reader takes");
         let was = self.session.is_registered();
         match self.session.handle_subscribe_response_for(ControllerIncarnation(incarnation), &read) {
-            Err(error) => pages.call("response", &words, &refusal(&error), None, self),
+            Err(error) => pages.call("response", &words, &refusal(&error), &[], self),
             Ok(baseline) => {
                 if was {
                     self.queue.clear();
@@ -201,7 +216,8 @@ impl Twin {
                 assert_eq!(places.len(), replays.len(), "each replay has its place");
                 self.waiting = places.into_iter().zip(replays).collect();
                 self.drained = 0;
-                pages.call("response", &words, "accepted", None, self);
+                let rows: Vec<String> = baseline.segments().iter().map(|segment| format!("baseline {}", row(segment))).collect();
+                pages.call("response", &words, &format!("accepted baseline {}", counts(&baseline)), &rows, self);
             }
         }
     }
@@ -212,13 +228,13 @@ impl Twin {
                 self.drained = at + 1;
                 self.lost.push(replay.delta.lost.len() as u64);
                 let answer = format!("replay at {} {}", self.place(at), change(&replay.delta));
-                pages.call("drain", " 0", &answer, Some(&replay.delta), self);
+                pages.call("drain", " 0", &answer, &changes(&replay.delta), self);
             }
             None => {
                 if self.session.is_registered() {
                     self.drained = self.queue.len();
                 }
-                pages.call("drain", " 0", "none", None, self);
+                pages.call("drain", " 0", "none", &[], self);
             }
         }
     }
@@ -226,10 +242,10 @@ impl Twin {
     fn begin(&mut self, pages: &mut Pages, incarnation: u64) {
         let words = format!(" {incarnation}");
         match self.session.begin_incarnation(ControllerIncarnation(incarnation)) {
-            Err(error) => pages.call("begin", &words, &refusal(&error), None, self),
+            Err(error) => pages.call("begin", &words, &refusal(&error), &[], self),
             Ok(()) => {
                 self.unlinked();
-                pages.call("begin", &words, "accepted", None, self);
+                pages.call("begin", &words, "accepted", &[], self);
             }
         }
     }
@@ -258,7 +274,7 @@ fn session(pages: &mut Pages, seed: u64, number: usize) {
     let mut twin = Twin { session: new(1), queue: Vec::new(), waiting: VecDeque::new(), drained: 0, lost: Vec::new() };
     let mut world = World::new(topic);
     pages.comment(&format!("session {number}"));
-    pages.call("open", &format!(" {CONSUMER} 1 {topic} s n stream"), "accepted", None, &twin);
+    pages.call("open", &format!(" {CONSUMER} 1 {topic} s n stream"), "accepted", &[], &twin);
     for _ in 0..CALLS {
         let now = twin.session.incarnation().0;
         let link = if rng.one_in(16) { now + 1 } else { now };
@@ -276,7 +292,7 @@ fn session(pages: &mut Pages, seed: u64, number: usize) {
             3 if rng.one_in(4) => {
                 twin.session.invalidate_authority();
                 twin.unlinked();
-                pages.call("invalidate", "", "accepted", None, &twin);
+                pages.call("invalidate", "", "accepted", &[], &twin);
             }
             4..7 => {
                 let consumer = if rng.one_in(10) { 8 } else { CONSUMER };

@@ -65,20 +65,25 @@ pub fn line_end(s: &[u8], from: usize) -> usize
     end_of(s, from, ByteClass::Not(b'\n'))
 }
 
-// Word k of a line, counted from 0; empty where there are not as many.
-pub fn word(line: &[u8], k: usize) -> &[u8] {
+// Part k of a text, counted from 0, with a separator between two; empty where there are not as many.
+pub fn part(s: &[u8], k: usize, separator: u8) -> &[u8] {
     let mut at: usize = 0;
     let mut left = k;
     while 0 < left {
-        at = end_of(line, at, ByteClass::Not(b' '));
-        if line.len() <= at {
-            return &line[at..];
+        at = end_of(s, at, ByteClass::Not(separator));
+        if s.len() <= at {
+            return &s[at..];
         }
         at = at + 1;
         left = left - 1;
     }
-    let end = end_of(line, at, ByteClass::Not(b' '));
-    &line[at..end]
+    let end = end_of(s, at, ByteClass::Not(separator));
+    &s[at..end]
+}
+
+// Word k of a line.
+pub fn word(line: &[u8], k: usize) -> &[u8] {
+    part(line, k, b' ')
 }
 
 // How many words a line has: one more than it has spaces.

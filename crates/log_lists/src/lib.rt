@@ -118,14 +118,19 @@ pub fn changes(s: &[u8]) {
     segments(s, b"  gained ", at, slice_int::read_u16(s, 10));
 }
 
-// The list at the front of s: `  held epoch E segments N`, then a row for each segment.
-pub fn held(s: &[u8]) {
+// `epoch E segments N` of the list at the front of s.
+pub fn list_counts(s: &[u8]) {
     if s.len() < 10 {
         return;
     }
-    let count = slice_int::read_u16(s, 8);
-    labelled(b"  held epoch ", slice_int::read_u64(s, 0));
-    labelled(b" segments ", count as u64);
-    newline();
-    segments(s, b"    ", 10, count);
+    labelled(b"epoch ", slice_int::read_u64(s, 0));
+    labelled(b" segments ", slice_int::read_u16(s, 8) as u64);
+}
+
+// The segments of the list at the front of s, a row each behind a label.
+pub fn list_rows(s: &[u8], label: &[u8]) {
+    if s.len() < 10 {
+        return;
+    }
+    segments(s, label, 10, slice_int::read_u16(s, 8));
 }

@@ -1,6 +1,8 @@
-// Lines that ask and change nothing: about the list that is held, or about what the line itself has. The answer is written behind the call's name.
+// Lines that ask and change nothing: about the list that is held, or about what the line itself has. The answer is
+// written behind the call's name.
 //
-// Each function answers whether what it wrote is a refusal. The contracts say only what keeps the functions in bounds; what is written is not proved.
+// Each function answers whether what it wrote is a refusal. The contracts say only what keeps the functions in bounds;
+// what is written is not proved.
 mod commands;
 mod segments;
 
@@ -95,8 +97,8 @@ fn check_log(deltas: &[u8], line: &[u8]) -> bool {
     }
 }
 
-// The answer to a line whose first word behind the name stands for these bytes. The list is what the slot of the list that is held has, and empty
-// where none is held.
+// The answer to a line whose first word behind the name stands for these bytes. The list is what the slot of the list
+// that is held has, and empty where none is held.
 fn answer(question: Question, bytes: &[u8], line: &[u8], list: &[u8], window: &[u8]) -> bool {
     match question {
         Question::Segment => segments::segment(list, bytes),

@@ -1,4 +1,5 @@
-// Questions about the list that is held: which segment takes a key, and a key that falls in a segment. Where no list is held there is none.
+// Questions about the list that is held: which segment takes a key, and a key that falls in a segment. Where no list is
+// held there is none.
 use crate::none;
 use crate::number;
 use key_in_segment::KeyAnswer;

@@ -53,7 +53,8 @@ fn restored(r: Record, bytes: &[u8], store: &mut [u8]) -> SessionReply {
     opened(r, export_record::open_reply(answer, restored.next))
 }
 
-// The call of a line, by the function to which the exported call hands on. Its message is that of an update or a response; `kept` is what was saved last.
+// The call of a line, by the function to which the exported call hands on. Its message is that of an update or a
+// response; `kept` is what was saved last.
 pub fn call(
     r: Record,
     name: CallName,

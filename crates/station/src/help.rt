@@ -9,7 +9,7 @@ pub fn show() {
     station --help
 
   --state   after each call, the session's record
-  --lists   after each call, what it lost and gained, and the list that is held
+  --lists   after a call, what it lost and gained, and the list that is held where it was set anew
   --stop    the run ends at the first damaged line
   --help    this page
 
@@ -49,6 +49,7 @@ of up to 2046 bytes each may wait in its queue.
 For each call a line LINE CALL ANSWER, where LINE is its number in the log and ANSWER one of
 
   accepted
+  accepted baseline epoch E segments N       of a response: the list that it gave
   none                                       nothing changed; no segment; no key; no open second
   saved N                                    the session has N bytes
   ID                                         the segment that takes the key
@@ -66,14 +67,16 @@ For each call a line LINE CALL ANSWER, where LINE is its number in the log and A
   other TYPE                                 another command
   delta epoch E lost L gained G              what the push changed, in numbers
   replay at PLACE epoch E lost L gained G    the same of a push of the queue, and its place
-  refused N NAME V1 V2 ..                    the specification's number, the name, its numbers
+  refused N NAME WORD V ..                   the specification's number, the name, and each number
+                                             that comes with it behind its own name
 
-and behind `refused 16 Broker CODE` the broker's text: text \"..\". In quotes every byte that is
+and behind `refused 16 Broker code N` the broker's text: text \"..\". In quotes every byte that is
 not printable ASCII, and each quote and backslash, is written \\xHH.
 With --state:   state incarnation I floor F registered R invalidated V queue Q drained D0 D1 .. D7
 lost S largest M, where D0 to D7 count the pushes that each reader has drained
-With --lists:   lost ID, gained ID START-END BUCKETS, and held epoch E segments N with a row
-ID START-END BUCKETS for each segment; - for no buckets.
+With --lists:   lost ID and gained ID START-END BUCKETS of a delta or a replay, baseline ID START-END BUCKETS
+of an accepted response; - for no buckets. Behind a delta and an accepted call the list that is held
+then, held none or held epoch E segments N with a row ID START-END BUCKETS for each segment.
 For a line that is no call LINE damaged: REASON; the run goes on.
 At the end C calls: A accepted, R refused; D damaged lines.
 

@@ -1,7 +1,7 @@
 // The lines of standard input, one after the other, and the sum at the end.
 //
-// The input is read into a buffer. The lines that are whole are run, and what is left moves to the front. A line that fills the buffer is dropped as it comes,
-// and is damaged at its end.
+// The input is read into a buffer. The lines that are whole are run, and what is left moves to the front. A line that
+// fills the buffer is dropped as it comes, and is damaged at its end.
 ghost use Prim.Native.Nat.{_+_, _≤_, _<_};
 ghost use lib.ListN.{length};
 use crate::arguments::Options;
@@ -63,7 +63,8 @@ fn move_down(buffer: &mut [u8], from: usize, n: usize)
     }
 }
 
-// Reads once, behind the first n bytes, and answers how many came: none at the end of the input, or where it cannot be read.
+// Reads once, behind the first n bytes, and answers how many came: none at the end of the input, or where it cannot be
+// read.
 fn read_behind(buffer: &mut [u8], n: usize) -> usize
     requires { ⌜ n ≤ length (now buffer) ⌝ }
     ensures { λ r. ⌜ n + r ≤ length (now (buffer .entry)) ⌝ }
@@ -81,8 +82,8 @@ struct Filled {
     is_last: bool,
 }
 
-// Reads once, behind the first n bytes. At the end of the input it ends the last line, which no line break ends: there is one where bytes wait, or
-// where its front was dropped.
+// Reads once, behind the first n bytes. At the end of the input it ends the last line, which no line break ends: there
+// is one where bytes wait, or where its front was dropped.
 fn fill(buffer: &mut [u8], n: usize, is_cut: bool) -> Filled
     requires { ⌜ n < length (now buffer) ⌝ }
     ensures { λ r. ⌜ r .end ≤ length (now (buffer .entry)) ⌝ }
@@ -107,7 +108,8 @@ fn fill(buffer: &mut [u8], n: usize, is_cut: bool) -> Filled
     }
 }
 
-// Reads once, behind the bytes that wait, and runs the lines that are whole. Where the bytes that wait fill the buffer they are dropped.
+// Reads once, behind the bytes that wait, and runs the lines that are whole. Where the bytes that wait fill the buffer
+// they are dropped.
 fn read_and_run(
     options: Options,
     run: Run,
@@ -135,7 +137,8 @@ fn read_and_run(
     next
 }
 
-// A proved loop has to end, and nothing says that the input does: the turns are counted down from a number that no run uses up.
+// A proved loop has to end, and nothing says that the input does: the turns are counted down from a number that no run
+// uses up.
 fn run_input(
     options: Options,
     buffer: &mut [u8],
@@ -155,7 +158,8 @@ fn run_input(
     run
 }
 
-// Runs the log in standard input by a buffer on a store, with a window of lost counts and a buffer for a saved session beside it.
+// Runs the log in standard input by a buffer on a store, with a window of lost counts and a buffer for a saved session
+// beside it.
 pub fn run_log(
     options: Options,
     buffer: &mut [u8],

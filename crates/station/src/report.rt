@@ -2,6 +2,7 @@
 use export_record::Record;
 use export_reply::Reply;
 use libc::STDOUT_FILENO;
+use log_calls::CallName;
 use log_text::decimal;
 use log_text::labelled;
 use log_text::newline;
@@ -10,6 +11,22 @@ use log_text::space;
 use log_text::text;
 use packed::SLOT;
 use session::READERS;
+
+// The slot of the baseline.
+fn baseline(store: &[u8]) -> &[u8] {
+    if session_store::MIN_STORE <= store.len() {
+        return &store[SLOT..2 * SLOT];
+    }
+    &store[..0]
+}
+
+// The slot of the list while registered, else nothing.
+pub fn held(is_registered: bool, store: &[u8]) -> &[u8] {
+    if is_registered && session_store::MIN_STORE <= store.len() {
+        return &store[2 * SLOT..3 * SLOT];
+    }
+    &store[..0]
+}
 
 // The broker's text in the message of a response.
 fn show_broker_text(message: &[u8], store: &[u8]) {
@@ -38,13 +55,22 @@ fn show_replay(place: u64, out: &[u8]) {
     log_lists::delta_counts(out);
 }
 
+// `accepted`, and of a response the baseline that it gave.
+fn show_accepted(name: CallName, store: &[u8]) {
+    text(b"accepted");
+    if let CallName::Response = name {
+        text(b" baseline ");
+        log_lists::list_counts(baseline(store));
+    }
+}
+
 // The answer; a delta stands at the front of the output.
-pub fn show_answer(r: Reply, message: &[u8], store: &[u8], out: &[u8]) {
+pub fn show_answer(name: CallName, r: Reply, message: &[u8], store: &[u8], out: &[u8]) {
     if r.answer == export_reply::REFUSED {
         show_refused(r, message, store);
     }
     if r.answer == export_reply::ACCEPTED {
-        text(b"accepted");
+        show_accepted(name, store);
     }
     if r.answer == export_reply::UNCHANGED {
         text(b"none");
@@ -97,26 +123,37 @@ pub fn show_state(r: Record, window: &[u8]) {
     newline();
 }
 
-// What an answer's delta loses and gains.
-pub fn show_changes(r: Reply, out: &[u8]) {
-    if r.answer == export_reply::DELTA || r.answer == export_reply::REPLAY {
+// The list that is held.
+fn show_held(is_registered: bool, store: &[u8]) {
+    if !is_registered {
+        text(b"  held none\n");
+        return;
+    }
+    let list = held(true, store);
+    text(b"  held ");
+    log_lists::list_counts(list);
+    newline();
+    log_lists::list_rows(list, b"    ");
+}
+
+// The rows below an accepted call: the baseline of a response, and the list that is held, which was set anew.
+fn show_set(name: CallName, is_registered: bool, store: &[u8]) {
+    if let CallName::Response = name {
+        log_lists::list_rows(baseline(store), b"  baseline ");
+    }
+    show_held(is_registered, store);
+}
+
+// The lists below an answer: what a delta loses and gains, and what is held where it was set anew.
+pub fn show_lists(name: CallName, r: Reply, is_registered: bool, store: &[u8], out: &[u8]) {
+    if r.answer == export_reply::DELTA {
+        log_lists::changes(out);
+        show_held(is_registered, store);
+    }
+    if r.answer == export_reply::REPLAY {
         log_lists::changes(out);
     }
-}
-
-// The slot of the list while registered, else nothing.
-pub fn held(is_registered: bool, store: &[u8]) -> &[u8] {
-    if is_registered && session_store::MIN_STORE <= store.len() {
-        return &store[2 * SLOT..3 * SLOT];
-    }
-    &store[..0]
-}
-
-// The list that is held.
-pub fn show_held(is_registered: bool, store: &[u8]) {
-    if is_registered {
-        log_lists::held(held(true, store));
-    } else {
-        text(b"  held none\n");
+    if r.answer == export_reply::ACCEPTED {
+        show_set(name, is_registered, store);
     }
 }

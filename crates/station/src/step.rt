@@ -91,8 +91,16 @@ fn settled(run: Run, changed: SessionReply) -> Run {
     counted(next, false)
 }
 
-// The rows below a call that the options ask for.
-fn show_details(options: Options, run: Run, told: Reply, store: &[u8], window: &[u8], out: &[u8]) {
+// The rows below a call that the options ask for: the record, then the lists.
+fn show_details(
+    options: Options,
+    name: CallName,
+    run: Run,
+    told: Reply,
+    store: &[u8],
+    window: &[u8],
+    out: &[u8],
+) {
     let record = run.record;
     if options.state {
         if run.is_open {
@@ -102,9 +110,27 @@ fn show_details(options: Options, run: Run, told: Reply, store: &[u8], window: &
         }
     }
     if options.lists {
-        report::show_changes(told, out);
-        report::show_held(record.registered != 0, store);
+        report::show_lists(name, told, record.registered != 0, store, out);
     }
+}
+
+// Shows what a call gave, and the rows below it; the run behind it.
+fn show_call(
+    options: Options,
+    name: CallName,
+    run: Run,
+    changed: SessionReply,
+    message: &[u8],
+    store: &[u8],
+    window: &[u8],
+    out: &[u8],
+) -> Run {
+    let told = changed.reply;
+    report::show_answer(name, told, message, store, out);
+    newline();
+    let next = settled(run, changed);
+    show_details(options, name, next, told, store, window, out);
+    next
 }
 
 // Runs a call and shows what it gives; of an update or a response with its message.
@@ -121,13 +147,8 @@ fn run_message(
     let mut out = [0u8; packed_diff::LONGEST];
     let record = run.record;
     let changed = calls::call(record, name, line, message, store, kept, &mut out);
-    let told = changed.reply;
     window::after(name, record, changed, &out, window);
-    report::show_answer(told, message, store, &out);
-    newline();
-    let next = settled(run, changed);
-    show_details(options, next, told, store, window, &out);
-    next
+    show_call(options, name, run, changed, message, store, window, &out)
 }
 
 // Runs a call. Its third word stands for the message, where it has one.

@@ -4,7 +4,8 @@ use export_record::SessionReply;
 use log_calls::CallName;
 use session::READERS;
 
-// The window behind an accepted call. A new session, a new link, no link at all and a session that was saved have no deltas yet.
+// The window behind an accepted call. A new session, a new link, no link at all and a session that was saved have no
+// deltas yet.
 fn accepted(name: CallName, window: &mut [u8]) {
     match name {
         CallName::Response => {}

@@ -44,7 +44,7 @@ pub fn bytes(s: &[u8]) {
 pub fn refusal(x: Refusal) {
     let r = export_reply::refused(x);
     labelled(b"refused ", r.number as u64);
-    log_text::values(r, false);
+    log_text::values(r);
 }
 
 // A refusal of a call that writes nothing.
