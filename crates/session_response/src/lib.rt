@@ -19,6 +19,7 @@ ghost use Rattle.session_store.specs.Scratch.{Scratch};
 ghost use Rattle.session_intake.specs.Taken.{contentFrom, Ready, Answers};
 ghost use Rattle.session_response.specs.Replay.{staleOf, LastBegins, LastIs, deniedBy, responseSays, registeredBy, registered};
 use intake::Intake;
+use packed::SLOT;
 use packed_queue::LENGTH;
 use refusal::Refusal;
 use session::Answer;
