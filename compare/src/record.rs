@@ -13,8 +13,8 @@ use crate::scalable_consumer::{
     AssignedSegment, AssignmentDelta, AssignmentError, AssignmentReplay, ConsumerAssignment, ControllerIncarnation, ScalableConsumerSession,
     ScalableConsumerType, SegmentTopicError,
 };
-use crate::types::KeyRangeError;
 use crate::session::world::World;
+use crate::types::KeyRangeError;
 use std::collections::VecDeque;
 use std::fmt::Write as _;
 
