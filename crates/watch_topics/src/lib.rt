@@ -78,14 +78,16 @@ fn compare_end(a: &[u8], b: &[u8], n: usize) -> Order
     Order::Equal
 }
 
-// A place up to which both are alike: the first word that differs, or `last`. The words are compared as they lie, in no order.
+// A place up to which both are alike: the first word that differs, or `last`. The words are compared for equality alone, which needs no order of their bytes.
 fn alike(a: &[u8], b: &[u8], last: usize) -> usize
     requires { ⌜ (last + 8 ≤ length (now a)) × (last + 8 ≤ length (now b)) ⌝ }
     ensures { λ r. ⌜ (r ≤ last) × (take r (now (a .entry)) ≡ take r (now (b .entry))) ⌝ }
 {
     let mut i: usize = 0;
     while i < last {
-        if !slice::same(&a[i..i + 8], &b[i..i + 8]) {
+        let x = slice_int::read_u64(a, i);
+        let y = slice_int::read_u64(b, i);
+        if x != y {
             return i;
         }
         i = i + 8;

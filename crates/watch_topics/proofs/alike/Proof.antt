@@ -3,12 +3,10 @@
 use Prim.Native.Nat.{_+_, _-_, _<_}
 use native.Mathlib.Omega.{arith}
 use borrow.Author.Needs.{needs}
-use borrow.Author.Tests.{not-false}
-use mathlib.Core.Path.{_≡_, refl, sym, _∙_}
+use mathlib.Core.Path.{_≡_, refl}
 use lib.ListN.{take}
-use Rattle.slice.proofs.SameLaws.{same-eq}
-use Rattle.watch_topics.proofs.OrderLaws.{front-same, front-part}
-use Rattle.watch_topics.proofs.WalkLaws.{part-is}
+use Rattle.slice_int.specs.Be.{beAt}
+use Rattle.watch_topics.proofs.OrderLaws.{front-word, front-part}
 use Rattle.watch_topics.proofs.alike.Statement.{statement}
 use Rattle.watch_topics.proofs.alike.Tie as tie
 
@@ -23,19 +21,21 @@ loop-holds c = (omega arith, refl)
 
 returns : tie.Need-returns Inv-loop μ-loop
 returns c =
-    let l = c .before .before .before .before .before in
+    let l = c .before .before .before .before in
     (omega arith, l .loop .inv .1)
 
 loop-again : tie.Need-loop-again Inv-loop μ-loop
 loop-again c =
-    let l = c .before .before .before .before .before in
+    let r = c .before in
+    let l = r .before .before .before in
     let s = l .before .before .before .args in
-    let i = l .loop .i in (
+    let i = l .loop .i in
+    let x = r .before .read-u64 .ensures in
+    let y = r .read-u642 .ensures in
+    let e : beAt 8 (s .a .now) i ≡ beAt 8 (s .b .now) i = omega (arith, x, y) in (
       omega arith,
-      front-same 8 (s .a .now) (s .b .now) i (l .loop .inv .1)
-          (sym (part-is (s .a .now) i 8)
-          ∙ same-eq _ _ (sym (c .before .same .ensures) ∙ not-false _ (c .if1 .left))
-          ∙ part-is (s .b .now) i 8),
+      front-word 8 (s .a .now) (s .b .now) i (λ j. l .before .before .shared-slice-known .given j .fits)
+          (λ j. l .before .shared-slice-known2 .given j .fits) (omega arith) (omega arith) (l .loop .inv .1) e,
     )
 
 returns-2 : tie.Need-returns-2 Inv-loop μ-loop
@@ -48,7 +48,5 @@ pub alike-spec : {M : Type 1} → statement M
 alike-spec =
     tie.close
     (tie.spec Inv-loop μ-loop loop-holds
-    (λ c. search needs) (λ c. search needs) (λ c. search needs) (λ c. search needs)
-    (λ c. search needs) (λ c. search needs) (λ c. search needs) (λ c. search needs)
-    (λ c κs. search needs) returns
+    (λ c κs. search needs) (λ c κs. search needs) returns
     (λ c. search needs) (λ c. search needs) loop-again returns-2)
