@@ -4,8 +4,8 @@
     python3 tools/probes.py ARCHIVE
 
 A frame of more than some pages is touched page by page before it is used; the compiler counts in %r11 (`mov %rsp,%r11`). Where a function returns early
-before it has a frame, an argument was once kept in that register across the probe, and lost: in a small program at -O3, not in this library. The proof is of
-the program and not of the machine code, so the machine code is looked at: before the probe nothing of the function may name %r11. It needs objdump.
+before it has a frame, an argument was once seen in that register across the probe, and was lost: in a trial program at -O3, not in this library. The proof is
+of the program and not of the machine code, so the machine code is looked at: before the probe nothing of the function may name %r11. It needs objdump.
 """
 import re
 import shutil
