@@ -152,18 +152,23 @@ def rewrite(crate, rounds):
 
 
 def set_apart(crate):
-    """Each wrong program in an edit of its own, numbered."""
+    """Each wrong program in an edit of its own, numbered; gives what is cited as what."""
     programs = [p for edit in sorted((crate / "must-fail").glob("*.edit")) for p in programs_of(edit)]
     for edit in (crate / "must-fail").glob("*.edit"):
         edit.unlink()
+    moved = {}
     for i, p in enumerate(programs):
-        (crate / "must-fail" / f"apart-{i + 1}.edit").write_text(p.text(None), encoding="utf-8")
+        target = crate / "must-fail" / f"apart-{i + 1}.edit"
+        target.write_text(p.text(None), encoding="utf-8")
+        for cited in (f"`{p.edit.relative_to(ROOT)}:{p.name}`", f"`{p.edit.relative_to(ROOT)}`"):
+            moved.setdefault(cited, f"`{target.relative_to(ROOT)}`")
+    return moved
 
 
 def main():
     parser = usage.Parser(__doc__)
     parser.add_argument("crates", nargs="*", metavar="CRATE", help="these alone")
-    parser.add_argument("--apart", action="store_true", help="each wrong program in an edit of its own; what docs/CLAIMS.md cites stays")
+    parser.add_argument("--apart", action="store_true", help="each wrong program in an edit of its own")
     parser.add_argument("--kinds", action="store_true", help="definitions and lines in rounds of their own")
     parser.add_argument("--write", action="store_true", help="rewrite the edits, and docs/CLAIMS.md")
     args, moved, claims = parser.parse_args(), {}, ROOT / "docs/CLAIMS.md"
@@ -172,8 +177,7 @@ def main():
             continue
         if args.apart:
             print(f"{crate.name}: {sum(len(programs_of(e)) for e in (crate / 'must-fail').glob('*.edit'))} apart")
-            if args.write:
-                set_apart(crate)
+            moved |= set_apart(crate) if args.write else {}
             continue
         rounds = joined(crate, args.kinds)
         print(f"{crate.name}: {sum(map(len, rounds))} wrong programs in {len(rounds)} edits")
