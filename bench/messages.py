@@ -158,7 +158,7 @@ def long():
 for count in SIZES:
     MESSAGES |= watch_updates(count)
 
-# texts of some 4 KB: plain; of sequences of two, three and four bytes; German, whose letters are mostly plain; and a segment's name
+# texts of some 4 KB: ASCII; of sequences of two, three and four bytes; German, whose letters are mostly ASCII; and a segment's name
 TEXTS = {
     "ascii": "a" * 4096, "two": "é" * 2048, "three": "€" * 1365, "four": "🛰" * 1024,
     "german": "Größe über Flüsse: naïve café, " * 128, "name": "segment://tenant/namespace/topic/0000-7fff-1",

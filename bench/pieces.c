@@ -1,4 +1,4 @@
-// Runs a piece of an update as often as asked, over libbench_speed.a: pieces scan|intake FILE TIMES, or pieces plain FILE TIMES of its assignment alone; pieces text FILE TIMES of a text. Prints how many runs refused the message.
+// Runs a piece of an update as often as asked, over libbench_speed.a: pieces scan|intake FILE TIMES, or pieces ordered FILE TIMES of its assignment alone; pieces text FILE TIMES of a text. Prints how many runs refused the message.
 #include <stddef.h>
 #include <stdint.h>
 #include <stdio.h>
@@ -8,7 +8,7 @@
 uint8_t speed_first_fault(const uint8_t *message, size_t length);
 uint8_t speed_text(const uint8_t *text, size_t length);
 size_t speed_take_in(const uint8_t *message, size_t length, const uint8_t *parent, size_t parent_length);
-size_t speed_take_plain(const uint8_t *message, size_t length, const uint8_t *parent, size_t parent_length);
+size_t speed_take_ordered(const uint8_t *message, size_t length, const uint8_t *parent, size_t parent_length);
 
 static const char PARENT[] = "topic://a/b/c";
 
@@ -17,7 +17,7 @@ static int refuses(const char *piece, const uint8_t *message, size_t length) {
     if (!strcmp(piece, "scan")) return speed_first_fault(message, length) != 0;
     if (!strcmp(piece, "text")) return speed_text(message, length) != 0;
     if (!strcmp(piece, "intake")) return speed_take_in(message, length, parent, strlen(PARENT)) == 0;
-    return speed_take_plain(message, length, parent, strlen(PARENT)) == 0;
+    return speed_take_ordered(message, length, parent, strlen(PARENT)) == 0;
 }
 
 int main(int count, char **words) {

@@ -36,11 +36,11 @@ MESSAGES = {
 # The bytes of their packed lists.
 PACKED = {"a": 10 + 4 * 14, "b": 10 + 145 * 14, "c": 10 + 14 + 506 * 4}
 TEXTS = {
-    "ascii": "plain bytes alone (row 1)",
+    "ascii": "ASCII alone (row 1)",
     "two": "sequences of two bytes (row 2)",
     "three": "sequences of three bytes (row 4)",
     "four": "sequences of four bytes (row 7)",
-    "german": "German: plain bytes, now and then two",
+    "german": "German: ASCII, now and then two bytes",
     "name": "a segment's name",
 }
 # What it is; the two messages that come in turn; whether the session is registered; how many pushes its queue holds; how many segments each update loses and gains.
@@ -273,8 +273,8 @@ def intake_table(bench):
     return piece_table(bench, "intake", "intake", "abcs")
 
 
-def plain_table(bench):
-    return piece_table(bench, "both", "plain", "abc", "-assignment")
+def ordered_table(bench):
+    return piece_table(bench, "both", "ordered", "abc", "-assignment")
 
 
 def text_table(bench):
@@ -447,7 +447,7 @@ def size_table(bench):
 
 TABLES = {
     "update": update_table, "hostile": hostile_table, "long": long_table, "reconnect": reconnect_table, "queue": queue_table, "scan": scan_table, "intake": intake_table,
-    "plain": plain_table, "text": text_table, "watch": watch_table, "keys": key_table, "logs": log_table, "growth": growth_table, "memory": memory_table,
+    "ordered": ordered_table, "text": text_table, "watch": watch_table, "keys": key_table, "logs": log_table, "growth": growth_table, "memory": memory_table,
     "sizes": size_table,
 }
 

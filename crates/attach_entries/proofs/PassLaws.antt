@@ -191,9 +191,9 @@ attaches-differ low (g ∷ gs) e =
 
 -- ---- whole logs
 
-abbrev pub AllGood : List AssignmentDelta → Type 0
-AllGood [] = Unit {0}
-AllGood (d ∷ ds) = (okDelta d ≡ true) × AllGood ds
+abbrev pub AllValid : List AssignmentDelta → Type 0
+AllValid [] = Unit {0}
+AllValid (d ∷ ds) = (okDelta d ≡ true) × AllValid ds
 
 module _ (d : AssignmentDelta) (e : okDelta d ≡ true) where
   lost-different : Different (detaches d)
@@ -204,7 +204,7 @@ module _ (d : AssignmentDelta) (e : okDelta d ≡ true) where
   unfolding okDelta
   gained-different = attaches-differ 0 (d .gained) (both-true (idsFrom 0 (d .lost)) _ e .1)
 
-pub follows-passes : (ds : List AssignmentDelta) (es : List Entry) → AllGood ds → follows ds es ≡ true → Passes ds es
+pub follows-passes : (ds : List AssignmentDelta) (es : List Entry) → AllValid ds → follows ds es ≡ true → Passes ds es
 unfolding follows Passes
 follows-passes [] es g h = none-left es (eqb-true (length es) 0 h)
 follows-passes (d ∷ ds) es g h =

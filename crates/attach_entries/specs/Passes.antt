@@ -12,7 +12,7 @@ use Rattle.packed_delta.specs.Delta.{AssignmentDelta}
 use Rattle.attach_entries.specs.declared.Entry.{Entry}
 use Rattle.attach_entries.specs.declared.Entry.the-variants.{Detach, Attach}
 use Rattle.attach_entries.specs.declared.LogAnswer.{LogAnswer}
-use Rattle.attach_entries.specs.declared.LogAnswer.the-variants.{Told, Refused}
+use Rattle.attach_entries.specs.declared.LogAnswer.the-variants.{Answered, Refused}
 use Rattle.attach_entries.specs.Log.{areDeltas, deltasOf, isLog, logEntries}
 
 -- es is a permutation of the list: its first stands somewhere in es, and the rest of es is a permutation of its rest
@@ -44,7 +44,7 @@ unfoldable pub Checked : (deltas log : List ℕ) → LogAnswer → Type 0
 Checked deltas log (Refused x) =
     ((areDeltas deltas ≡ false) × (x ≡ MalformedInput))
     ⊎ ((areDeltas deltas ≡ true) × (isLog log ≡ false) × (x ≡ InvalidLog))
-Checked deltas log (Told passed) =
+Checked deltas log (Answered passed) =
     (areDeltas deltas ≡ true) × (isLog log ≡ true)
     × (passed ≡ true → Passes (deltasOf deltas) (logEntries log))
     × (Passes (deltasOf deltas) (logEntries log) → passed ≡ true)

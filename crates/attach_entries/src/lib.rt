@@ -7,7 +7,7 @@ pub const ENTRY: usize = 9;
 
 pub enum LogAnswer {
     // Whether the log passes.
-    Told(bool),
+    Answered(bool),
     Refused(Refusal),
 }
 

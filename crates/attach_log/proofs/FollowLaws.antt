@@ -2,7 +2,7 @@
 --
 -- In order: a delta's entries at the front of a log (`in-both`, `in-not`); a walk over deltas and log (`Follow`:
 -- `follow-start`, `follow-bad`, `follow-few`, `follow-wrong`, `follow-next`, `follow-end`); which bytes are a log
--- (`log-odd`, `log-set`, `log-good`); the answers (`checked-deltas`, `checked-log`, `checked-told`).
+-- (`log-odd`, `log-set`, `log-valid`); the answers (`checked-deltas`, `checked-log`, `checked-told`).
 -- Assumes nothing.
 use Prim.Native.Nat.{ℕ, zero, suc, _+_, _-_, _*_, _/_, _%_, _≤_, _<_}
 use native.Mathlib.Omega.{arith}
@@ -21,7 +21,7 @@ use Rattle.packed_delta.specs.Delta.{AssignmentDelta, decodeIds, decodeDelta, s
 use Rattle.packed_delta.proofs.RoundLaws.{Front}
 use Rattle.attach_entries.specs.declared.Entry.{Entry}
 use Rattle.attach_entries.specs.declared.Entry.the-variants.{Detach}
-use Rattle.attach_entries.specs.declared.LogAnswer.the-variants.{Told, Refused}
+use Rattle.attach_entries.specs.declared.LogAnswer.the-variants.{Answered, Refused}
 use Rattle.attach_entries.specs.Log.{isNil, behind, areAtMost, deltasAtMost, areDeltas, deltasOf}
 use Rattle.attach_entries.specs.Log.{entriesIn, logEntries, clearIn, isLog}
 use Rattle.attach_entries.specs.Passes.{attachOf, detaches, attaches, Checked}
@@ -30,7 +30,7 @@ use Rattle.attach_log.specs.Steps.{partIn, deltaIn}
 use Rattle.attach_log.proofs.PartLaws.{attach-ids}
 use Rattle.attach_log.proofs.WalkLaws.{lost-count, gained-count, fits, not-nil, nil-end}
 use Rattle.attach_rows.proofs.EntryLaws.{length-entries, take-entries, drop-entries}
-use Rattle.attach_entries.proofs.PassLaws.{AllGood, follows-passes, passes-follows, not-both}
+use Rattle.attach_entries.proofs.PassLaws.{AllValid, follows-passes, passes-follows, not-both}
 
 -- ---- a delta's entries
 
@@ -100,12 +100,12 @@ pub record Follow (s log : List ℕ) (p q left : ℕ) : Type 0 where
   pub count : ℕ
   pub bound : p ≤ length s
   pub place : q + 9 * left ≤ length log
-  pub good : areAtMost count (drop p s) ≡ true
+  pub valid : areAtMost count (drop p s) ≡ true
   pub decides : follows (deltasOf s) (logEntries log) ≡ follows (deltasAtMost count (drop p s)) (entriesIn left (drop q log))
 
 pub follow-start : (s log : List ℕ) → areDeltas s ≡ true → Follow s log 0 0 (length log / 9)
 unfolding areDeltas deltasOf logEntries
-follow-start s log h = record { count = length s; bound = omega arith; place = omega arith; good = h; decides = refl }
+follow-start s log h = record { count = length s; bound = omega arith; place = omega arith; valid = h; decides = refl }
 
 module _ (s log : List ℕ) (p q left : ℕ) (w : Follow s log p q left) where
   pub follow-end : length s ≤ p → eqb left 0 ≡ follows (deltasOf s) (logEntries log)
@@ -118,7 +118,7 @@ module _ (s log : List ℕ) (p q left : ℕ) (w : Follow s log p q left) where
 
   module _ (h : p < length s) where
     here : Most (w .count) (drop p s)
-    here = most (w .count) (drop p s) (not-nil s p h) (w .good)
+    here = most (w .count) (drop p s) (not-nil s p h) (w .valid)
 
     -- a delta does stand there
     pub follow-bad : startsDelta (drop p s) ≡ false → ⊥
@@ -192,7 +192,7 @@ module _ (s log : List ℕ) (p q left : ℕ) (w : Follow s log p q left) where
               count = w .count - 1;
               bound = omega (arith, fits f);
               place = omega (arith, w .place);
-              good = ap (areAtMost (w .count - 1)) (sym behind-is) ∙ here .rest;
+              valid = ap (areAtMost (w .count - 1)) (sym behind-is) ∙ here .rest;
               decides =
                   turn-in
                   ∙ ap (λ (t : Bool). t && follows later (drop (m + n) es)) e
@@ -212,26 +212,26 @@ module _ (log : List ℕ) where
   unfolding isLog
   log-set h = simp (h, and-false)
 
-  pub log-good : length log % 9 ≡ 0 → clearIn (length log / 9) log ≡ true → isLog log ≡ true
+  pub log-valid : length log % 9 ≡ 0 → clearIn (length log / 9) log ≡ true → isLog log ≡ true
   unfolding isLog
-  log-good h k = simp (eq-eqb (length log % 9) 0 h, k)
+  log-valid h k = simp (eq-eqb (length log % 9) 0 h, k)
 
 -- ---- the answers
 
-all-good : (f : ℕ) (l : List ℕ) → areAtMost f l ≡ true → AllGood (deltasAtMost f l)
+all-valid : (f : ℕ) (l : List ℕ) → areAtMost f l ≡ true → AllValid (deltasAtMost f l)
 unfolding areAtMost deltasAtMost startsDelta
-all-good zero l h = tt
-all-good (suc f) l h = go (isNil l) refl (all-good f (behind l))
+all-valid zero l h = tt
+all-valid (suc f) l h = go (isNil l) refl (all-valid f (behind l))
   where
-    go : (t : Bool) → isNil l ≡ t → (areAtMost f (behind l) ≡ true → AllGood (deltasAtMost f (behind l)))
-        → AllGood (cond (isNil l) [] (decodeDelta l ∷ deltasAtMost f (behind l)))
-    go true e r = subst AllGood (sym (ap (λ (t : Bool). cond t [] (decodeDelta l ∷ deltasAtMost f (behind l))) e)) tt
+    go : (t : Bool) → isNil l ≡ t → (areAtMost f (behind l) ≡ true → AllValid (deltasAtMost f (behind l)))
+        → AllValid (cond (isNil l) [] (decodeDelta l ∷ deltasAtMost f (behind l)))
+    go true e r = subst AllValid (sym (ap (λ (t : Bool). cond t [] (decodeDelta l ∷ deltasAtMost f (behind l))) e)) tt
     go false e r =
         let k : (startsDelta l && areAtMost f (behind l)) ≡ true =
         sym (ap (λ (t : Bool). t || (startsDelta l && areAtMost f (behind l))) e) ∙ h in
         let b = both-true (startsDelta l) _ k in
         let o : okDelta (decodeDelta l) ≡ true = both-true (leb (sizeDelta (decodeDelta l)) (length l)) _ (b .0) .1 in
-        subst AllGood (sym (ap (λ (t : Bool). cond t [] (decodeDelta l ∷ deltasAtMost f (behind l))) e)) (o, r (b .1))
+        subst AllValid (sym (ap (λ (t : Bool). cond t [] (decodeDelta l ∷ deltasAtMost f (behind l))) e)) (o, r (b .1))
 
 module _ (s log : List ℕ) where
   pub checked-deltas : areDeltas s ≡ false → Checked s log (Refused MalformedInput)
@@ -243,11 +243,11 @@ module _ (s log : List ℕ) where
     unfolding Checked
     checked-log f = inr (e, f, refl)
 
-    pub checked-told : isLog log ≡ true → (b : Bool) → b ≡ follows (deltasOf s) (logEntries log) → Checked s log (Told b)
+    pub checked-told : isLog log ≡ true → (b : Bool) → b ≡ follows (deltasOf s) (logEntries log) → Checked s log (Answered b)
     unfolding Checked areDeltas deltasOf
     checked-told f b h = (
       e,
       f,
-      λ t. follows-passes (deltasOf s) (logEntries log) (all-good (length s) s e) (sym h ∙ t),
+      λ t. follows-passes (deltasOf s) (logEntries log) (all-valid (length s) s e) (sym h ∙ t),
       λ p. h ∙ passes-follows (deltasOf s) (logEntries log) p,
     )

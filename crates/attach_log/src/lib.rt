@@ -189,5 +189,5 @@ pub fn check(deltas: &[u8], log: &[u8]) -> LogAnswer
     if !filling_clear(log, log.len() / ENTRY) {
         return LogAnswer::Refused(Refusal::InvalidLog);
     }
-    LogAnswer::Told(log_follows(deltas, log))
+    LogAnswer::Answered(log_follows(deltas, log))
 }

@@ -1,6 +1,6 @@
 -- Laws of a row of ids with marks.
 --
--- In order: the one place of a number in a rising row (`seat`); one beyond its ends (`lacks-none`, `lacks-low`,
+-- In order: the one place of a number in a rising row (`position`); one beyond its ends (`lacks-none`, `lacks-low`,
 -- `lacks-high`, `mark-lacks`); its mark set, or none (`mark-hit`, `mark-miss`); an
 -- entry of either kind (`mark-detach` to `mark-no-attach`); entry after entry (`Marking`: `marking-start`,
 -- `marking-turn`, `marking-end`); all marks (`set-none`, `set-further`, `set-end`); a row whose ids are all marked
@@ -36,8 +36,8 @@ rises-apart low (y ∷ l) (suc i) (suc j) e h k =
     rises-apart (suc y) l i j (rises-cons low y l e .1) (omega arith) (omega arith)
 
 -- a number of the row stands behind those below it, and nowhere else
-seat : (x : ℕ) (l : List ℕ) (i : ℕ) → rises l ≡ true → i < length l → getD l i 0 ≡ x → i ≡ below x l
-seat x l i e h f = go (ltb (below x l) i) refl (below-not-past x 0 l i e h (omega arith))
+position : (x : ℕ) (l : List ℕ) (i : ℕ) → rises l ≡ true → i < length l → getD l i 0 ≡ x → i ≡ below x l
+position x l i e h f = go (ltb (below x l) i) refl (below-not-past x 0 l i e h (omega arith))
   where
     go : (t : Bool) → ltb (below x l) i ≡ t → below x l ≤ i → i ≡ below x l
     go true t k =
@@ -82,7 +82,7 @@ module _ (x : ℕ) (ids : List ℕ) (m : List Bool) (r : ℕ) (e : rises ids ≡
     where
       go : (t : Bool) → eqb x (getD ids i 0) ≡ t → getD (set m r true) i false ≡ (eqb x (getD ids i 0) || getD m i false)
       go true t =
-          let s : i ≡ r = seat x ids i e l (sym (eqb-true x (getD ids i 0) t)) ∙ sym f in
+          let s : i ≡ r = position x ids i e l (sym (eqb-true x (getD ids i 0) t)) ∙ sym f in
           rw (t, s) (getD-set-same m r true false (omega arith))
       go false t =
           let d : r ≡ i → ⊥ = λ z. not-both (eq-eqb x (getD ids i 0) (sym g ∙ ap (λ (j : ℕ). getD ids j 0) z)) t in
@@ -94,7 +94,7 @@ module _ (x : ℕ) (ids : List ℕ) (m : List Bool) (r : ℕ) (e : rises ids ≡
       go : (t : Bool) → eqb x (getD ids i 0) ≡ t → getD m i false ≡ (eqb x (getD ids i 0) || getD m i false)
       go true t =
           let g : getD ids i 0 ≡ x = sym (eqb-true x (getD ids i 0) t) in
-          let s : i ≡ r = seat x ids i e l g ∙ sym f in
+          let s : i ≡ r = position x ids i e l g ∙ sym f in
           absurd (n (omega arith) (ap (λ (j : ℕ). getD ids j 0) (sym s) ∙ g))
       go false t = rw t
 

@@ -1,6 +1,6 @@
 // What the benchmarks call of the pieces of an update, and the text check: one exported function for each piece that is measured.
 use intake::Intake;
-use intake_ordered::PlainIntake;
+use intake_ordered::OrderedIntake;
 use wire_schema::Checked;
 use wire_schema::MessageKind;
 
@@ -32,13 +32,13 @@ pub extern "C" fn speed_take_in(message: &[u8], parent: &[u8]) -> usize {
 
 // The same of an assignment by the one walk over its usual form; 0 where nothing is told of it.
 #[no_mangle]
-pub extern "C" fn speed_take_plain(assignment: &[u8], parent: &[u8]) -> usize {
+pub extern "C" fn speed_take_ordered(assignment: &[u8], parent: &[u8]) -> usize {
     let mut b = [0u8; 2048];
     if !utf8::is_utf8(parent) {
         return 0;
     }
-    match intake_ordered::take_plain(assignment, parent, &mut b) {
-        PlainIntake::Taken(_, size) => size,
-        PlainIntake::Other => 0,
+    match intake_ordered::take_ordered(assignment, parent, &mut b) {
+        OrderedIntake::Taken(_, size) => size,
+        OrderedIntake::Other => 0,
     }
 }

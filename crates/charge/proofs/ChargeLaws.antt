@@ -19,9 +19,9 @@ use Rattle.refusal.specs.declared.Refusal.the-variants.{MalformedInput, ChargeT
 use Rattle.ranges_calls.specs.Calls.{valuesIn}
 use Rattle.slice_int.specs.Be.{beAt}
 use Rattle.packed.specs.Assignment.{decodeRange, decodeRanges, decodeSegment, sizeSegment, inOrder, allInOrder, okBuckets, okSegment}
-use Rattle.packed.specs.Answers.{recordGood, recordRead}
+use Rattle.packed.specs.Answers.{recordValid, recordRead}
 use Rattle.packed.specs.declared.RecordRead.the-variants as read
-use Rattle.packed.proofs.AssignmentLaws.{ranges-none, size-least, segment-at, Seen, seen-size, Got}
+use Rattle.packed.proofs.AssignmentLaws.{ranges-none, size-least, segment-at, Seen, seen-size, RecordIs}
 use Rattle.charge.specs.declared.ChargeAnswer.the-variants.{Charged, Refused}
 use Rattle.charge.specs.declared.Holds.the-variants.{Values, Malformed}
 use Rattle.charge.specs.declared.Product.the-variants.{Fits, TooLarge}
@@ -104,7 +104,7 @@ held-none : (r : KeyRange) (n : ℕ) (l : List ℕ) → n ≡ 0 → heldIn r (de
 unfolding heldIn
 held-none r n l h = ap (heldIn r) (ranges-none n l (omega arith))
 
-not-read : (l : List ℕ) → read.Malformed ≡ recordRead l 0 (length l) → recordGood l 0 (length l) ≡ true → ⊥
+not-read : (l : List ℕ) → read.Malformed ≡ recordRead l 0 (length l) → recordValid l 0 (length l) ≡ true → ⊥
 unfolding recordRead
 not-read l e g =
     let f : read.Malformed ≡ read.Record (decodeSegment l .segmentId) (sizeSegment (decodeSegment l)) = e ∙ rw g in
@@ -115,23 +115,23 @@ module _ (l : List ℕ) where
   unfolding holdsOf
   holds-not e = rw e
 
-  read-good : sizeSegment (decodeSegment l) ≡ length l → okSegment (decodeSegment l) ≡ true → recordGood l 0 (length l) ≡ true
-  unfolding recordGood
-  read-good q k =
+  read-valid : sizeSegment (decodeSegment l) ≡ length l → okSegment (decodeSegment l) ≡ true → recordValid l 0 (length l) ≡ true
+  unfolding recordValid
+  read-valid q k =
       let m : leb (0 + sizeSegment (decodeSegment l)) (length l) ≡ true = le-leb (0 + sizeSegment (decodeSegment l)) (length l) (omega arith) in
       simp (m, k)
 
-  -- no good record stands at the front
+  -- no valid record stands at the front
   pub holds-bad : read.Malformed ≡ recordRead l 0 (length l) → Malformed ≡ holdsOf l
   unfolding isSegment
   holds-bad e = holds-not (go (eqb (sizeSegment (decodeSegment l)) (length l)) (okSegment (decodeSegment l)) refl refl)
     where
       go : (t u : Bool) → eqb (sizeSegment (decodeSegment l)) (length l) ≡ t → okSegment (decodeSegment l) ≡ u → t && u ≡ false
-      go true true h k = absurd (not-read l e (read-good (eqb-true _ _ h) k))
+      go true true h k = absurd (not-read l e (read-valid (eqb-true _ _ h) k))
       go true false h k = refl
       go false u h k = refl
 
-  module _ (i z : ℕ) (g : Got l 0 (length l) i z) where
+  module _ (i z : ℕ) (g : RecordIs l 0 (length l) i z) where
     -- bytes are left over
     pub holds-longer : (z ≡ length l → ⊥) → Malformed ≡ holdsOf l
     unfolding isSegment
@@ -143,16 +143,16 @@ module _ (l : List ℕ) where
       pub long-enough : 14 ≤ length l
       long-enough = omega (arith, size-least (decodeSegment l), g .size-is)
 
-      segment-good : isSegment l ≡ true
+      segment-valid : isSegment l ≡ true
       unfolding isSegment
-      segment-good =
+      segment-valid =
           let k : sizeSegment (decodeSegment l) ≡ length l = sym (g .size-is) ∙ e in
           let o : okSegment (decodeSegment l) ≡ true = g .ok in
           simp (eq-eqb (sizeSegment (decodeSegment l)) (length l) k, o)
 
       holds-values : (v : ℕ) → v ≡ valuesHeld (decodeSegment l) → Values v ≡ holdsOf l
       unfolding holdsOf
-      holds-values v h = simp (segment-good, h)
+      holds-values v h = simp (segment-valid, h)
 
       module _ (n : ℕ) (f : n ≡ beAt 2 l 12) where
         seen : Seen l 0 (beAt 8 l 0) (decodeRange (drop 8 l)) n
@@ -192,7 +192,7 @@ module _ (l : List ℕ) where
 -- ---- the answers of `charge`
 
 pub record Held (l : List ℕ) (v : ℕ) : Type 0 where
-  pub good : isSegment l ≡ true
+  pub valid : isSegment l ≡ true
   pub values-are : v ≡ valuesHeld (decodeSegment l)
 
 pub held : (l : List ℕ) (v : ℕ) → Values v ≡ holdsOf l → Held l v
@@ -200,7 +200,7 @@ unfolding holdsOf
 held l v e = go (isSegment l) refl
   where
     go : (t : Bool) → isSegment l ≡ t → Held l v
-    go true h = let f : Values v ≡ Values (valuesHeld (decodeSegment l)) = e ∙ rw h in record { good = h; values-are = cc }
+    go true h = let f : Values v ≡ Values (valuesHeld (decodeSegment l)) = e ∙ rw h in record { valid = h; values-are = cc }
     go false h = let f : Values v ≡ Malformed = e ∙ rw h in let z : _≡_ {A = ℕ} 0 1 = cc in absurd (omega arith)
 
 not-held : (l : List ℕ) → Malformed ≡ holdsOf l → isSegment l ≡ false
@@ -225,18 +225,18 @@ module _ (l : List ℕ) (s r m : ℕ) where
 
     pub refused-remainder : divisor ≤ m → Refused ChargeTooLarge ≡ chargeOf l s r m
     unfolding chargeOf tooLarge
-    refused-remainder k = simp (h .good, le-leb divisor m k, or-true)
+    refused-remainder k = simp (h .valid, le-leb divisor m k, or-true)
 
     pub refused-sum : 2 ^ 64 ≤ v * s * r + m → Refused ChargeTooLarge ≡ chargeOf l s r m
     unfolding chargeOf tooLarge
-    refused-sum k = simp (h .good, cost-is, le-leb (2 ^ 64) (v * s * r + m) k)
+    refused-sum k = simp (h .valid, cost-is, le-leb (2 ^ 64) (v * s * r + m) k)
 
     pub charged : m < divisor → (n : ℕ) → n ≡ v * s * r → n + m < 2 ^ 64
         → Charged ((n + m) / divisor) ((n + m) % divisor) ≡ chargeOf l s r m
     unfolding chargeOf tooLarge
     charged j n e k =
         let q : costOf l s r ≡ n = cost-is ∙ sym e in
-        simp (h .good, q, lt-leb divisor m j, lt-leb (2 ^ 64) (n + m) k)
+        simp (h .valid, q, lt-leb divisor m j, lt-leb (2 ^ 64) (n + m) k)
 
 -- what a charge says
 pub record Charges (l : List ℕ) (s r m charge next : ℕ) : Type 0 where

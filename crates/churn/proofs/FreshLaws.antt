@@ -20,7 +20,7 @@ use Rattle.churn.specs.Fresh.{Step, EmptyWindow, stepOn, answersOn, wind
 use Rattle.churn.specs.Fresh.{freshAnswer, freshAnswers, Fresh, FreshCurrent, ClearedEmpty}
 use Rattle.churn.specs.Fresh.Step.{count, clearing}
 use Rattle.churn.proofs.CountLaws.{latest-few, latest-again}
-use Rattle.churn.proofs.WindowLaws.{Window, window-good, window-is, pushed-window, pushed-counts, cleared-window, cleared-counts}
+use Rattle.churn.proofs.WindowLaws.{Window, window-valid, window-is, pushed-window, pushed-counts, cleared-window, cleared-counts}
 use Rattle.churn.proofs.WindowLaws.{push-large, push-is, current-is}
 
 record Holds (w kept : List ℕ) : Type 0 where
@@ -89,4 +89,4 @@ fresh-current w xs e = stands w [] (holds-empty w e) xs
 pub cleared-empty : ClearedEmpty
 unfolding clear
 cleared-empty w h =
-    record { is-window = window-good (cleared w) (cleared-window w (omega arith) h); no-counts = cleared-counts w (omega arith) }
+    record { is-window = window-valid (cleared w) (cleared-window w (omega arith) h); no-counts = cleared-counts w (omega arith) }

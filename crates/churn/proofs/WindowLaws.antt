@@ -1,7 +1,7 @@
 -- Laws of a window's bytes.
 --
--- In order: which bytes are one (`window-good`, `window-short`, `window-beyond`); a count pushed (`pushed-mark`,
--- `pushed-row`, `pushed-good`, `pushed-counts`); cleared (`cleared-empty`); the places in use give both answers
+-- In order: which bytes are one (`window-valid`, `window-short`, `window-beyond`); a count pushed (`pushed-mark`,
+-- `pushed-row`, `pushed-valid`, `pushed-counts`); cleared (`cleared-empty`); the places in use give both answers
 -- (`reckoned`); the answers of the calls (`push-large` to `current-answer`).
 -- Assumes nothing.
 use Prim.Native.Nat.{ℕ, _+_, _-_, _*_, _%_, _≤_, _<_, min}
@@ -39,9 +39,9 @@ pub window-read : (w : List ℕ) (m : ℕ) → m ≡ beAt 2 w 0 → 514 ≤ leng
 window-read w m e h k = record { long = h; mark-below = omega (arith, mark-read w m e) }
 
 module _ (w : List ℕ) where
-  pub window-good : Window w → isWindow w ≡ true
+  pub window-valid : Window w → isWindow w ≡ true
   unfolding isWindow
-  window-good g = simp (le-leb 514 (length w) (g .long), lt-ltb (markOf w) 512 (g .mark-below))
+  window-valid g = simp (le-leb 514 (length w) (g .long), lt-ltb (markOf w) 512 (g .mark-below))
 
   pub window-is : isWindow w ≡ true → Window w
   unfolding isWindow
@@ -185,7 +185,7 @@ module _ (w : List ℕ) (c : ℕ) where
   module _ (h : c ≤ 65535) (g : Window w) where
     pub push-is : push w c ≡ churnOutcome (Counted (totalsOf (countsOf (pushed w c)))) (pushed w c)
     unfolding push
-    push-is = simp (le-ltb 65535 c h, window-good w g)
+    push-is = simp (le-ltb 65535 c h, window-valid w g)
 
     -- what the program wrote and reckoned
     pub push-answer : (v : List ℕ) (t : Totals) → v ≡ pushed w c → t ≡ totalsOf (countsIn (min (nextMark (markOf w)) 256) (drop 2 v))
@@ -220,10 +220,10 @@ module _ (w : List ℕ) where
 
   pub current-is : Window w → current w ≡ Counted (totalsOf (countsOf w))
   unfolding current
-  current-is g = simp (window-good w g)
+  current-is g = simp (window-valid w g)
 
   pub current-answer : Window w → (t : Totals) (m : ℕ) → m ≡ markOf w → t ≡ totalsOf (countsIn (min m 256) (drop 2 w)) → Counted t ≡ current w
   unfolding current
   current-answer g t m e f =
       let j : t ≡ totalsOf (countsOf w) = f ∙ ap (λ (k : ℕ). totalsOf (countsIn (min k 256) (drop 2 w))) e ∙ reckoned w in
-      simp (window-good w g, j)
+      simp (window-valid w g, j)

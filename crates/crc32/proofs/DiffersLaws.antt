@@ -14,7 +14,7 @@ use Rattle.key_murmur3.specs.Words.{xor}
 use Rattle.key_for_hash.proofs.XorLaws.{xor-again, xor-word}
 use Rattle.slice.specs.Bytes.{Bytes}
 use Rattle.crc32.specs.Crc.{polynomial, step, steps, update, updates, crc32}
-use Rattle.crc32.specs.Differs.{Injective, OneByteTold}
+use Rattle.crc32.specs.Differs.{Injective, OneByteDiffers}
 use Rattle.crc32.proofs.XorLaws.{xor-comm, xor-same, xor-zero, xor-cancel}
 use Rattle.crc32.proofs.CrcLaws.{step-linear}
 
@@ -113,7 +113,7 @@ updates-byte (b ∷ l) c zero v h p q k e =
 updates-byte (b ∷ l) c (suc i) v h p q k e =
     updates-byte l (update c b) i v (behind b l h) (update-word c b p (h 0)) (omega arith) k e
 
-pub one-byte-told : OneByteTold
+pub one-byte-told : OneByteDiffers
 unfolding crc32
 one-byte-told l i v h q k e =
     updates-byte l 0xFFFFFFFF i v h (lit< tt) q k

@@ -13,5 +13,5 @@ pub record Injective : Type 0 where
   pub byte : (c a b : ℕ) → c < 2 ^ 32 → a < 256 → b < 256 → update c a ≡ update c b → a ≡ b
 
 -- with the byte v at the place i, bytes that have the same sum had v there
-abbrev pub OneByteTold : Type 0
-OneByteTold = (l : List ℕ) (i v : ℕ) → Bytes l → i < length l → v < 256 → crc32 (set l i v) ≡ crc32 l → v ≡ getD l i 0
+abbrev pub OneByteDiffers : Type 0
+OneByteDiffers = (l : List ℕ) (i v : ℕ) → Bytes l → i < length l → v < 256 → crc32 (set l i v) ≡ crc32 l → v ≡ getD l i 0

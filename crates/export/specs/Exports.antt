@@ -56,9 +56,9 @@ unfoldable pub lengthReply : LengthAnswer → Reply
 lengthReply (length′.Length n) = takenReply found (pos n ∷ [])
 lengthReply (length′.Refused x) = refusedReply x
 
-unfoldable pub toldReply : TestAnswer → Reply
-toldReply (test.Told b) = testReply b
-toldReply (test.Refused x) = refusedReply x
+unfoldable pub answeredReply : TestAnswer → Reply
+answeredReply (test.Answered b) = testReply b
+answeredReply (test.Refused x) = refusedReply x
 
 unfoldable pub sourceReply : SourceAnswer → Reply
 sourceReply (source.Source s) = takenReply found (pos (s .«key_range» .start) ∷ pos (s .«key_range» .end) ∷ [])
@@ -90,7 +90,7 @@ churnReply (churn.Refused x) = refusedReply x
 
 -- whether a second is open
 unfoldable pub hoursReply : OpenAnswer → Reply
-hoursReply (hours.Told b) = testReply b
+hoursReply (hours.Answered b) = testReply b
 hoursReply (hours.Refused x) = refusedReply x
 
 -- the earliest open second
@@ -100,7 +100,7 @@ earliestReply earliest.NoneOpen = takenReply no []
 earliestReply (earliest.Refused x) = refusedReply x
 
 unfoldable pub logReply : LogAnswer → Reply
-logReply (log.Told b) = testReply b
+logReply (log.Answered b) = testReply b
 logReply (log.Refused x) = refusedReply x
 
 unfoldable pub matchReply : Match → Reply

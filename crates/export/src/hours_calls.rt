@@ -12,7 +12,7 @@ pub extern "C" fn cuddrewyn_is_open(contract: &[u8], second: u64) -> Reply
     ensures { λ x. ⌜ x ≡ hoursReply (openAnswer (now (contract .entry)) second) ⌝ }
 {
     match hours::is_open(contract, second) {
-        OpenAnswer::Told(b) => export_reply::test(b),
+        OpenAnswer::Answered(b) => export_reply::test(b),
         OpenAnswer::Refused(x) => export_reply::refused(x),
     }
 }

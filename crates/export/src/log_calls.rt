@@ -9,7 +9,7 @@ pub extern "C" fn cuddrewyn_check_log(deltas: &[u8], log: &[u8]) -> Reply
     ensures { λ x. ⌜ LogReply (now (deltas .entry)) (now (log .entry)) x ⌝ }
 {
     match attach_log::check(deltas, log) {
-        LogAnswer::Told(b) => export_reply::test(b),
+        LogAnswer::Answered(b) => export_reply::test(b),
         LogAnswer::Refused(x) => export_reply::refused(x),
     }
 }

@@ -70,15 +70,15 @@ abbrev pub RecordReturns : Type 0
 RecordReturns = (r : SessionRecord) → recordOf (exportRecord r) ≡ r
 
 -- each field that goes out tells the field of its name
-pub record FieldsTold (r : SessionRecord) : Type 0 where
-  pub consumer-told : exportRecord r .«consumer_id» ≡ r .«consumer_id»
-  pub incarnation-told : exportRecord r .incarnation ≡ r .incarnation .0
-  pub registered-told : isSet (exportRecord r .registered) ≡ r .registered
-  pub invalidated-told : isSet (exportRecord r .invalidated) ≡ r .invalidated
-  pub has-floor-told : isSet (exportRecord r .«has_floor») ≡ hasFloor (r .«epoch_floor»)
-  pub floor-told : exportRecord r .«epoch_floor» ≡ floorValue (r .«epoch_floor»)
-  pub queue-told : exportRecord r .«queue_count» ≡ r .«queue_count»
-  pub positions-told : exportRecord r .«drain_positions» ≡ r .«drain_positions»
+pub record FieldsAgree (r : SessionRecord) : Type 0 where
+  pub consumer-agrees : exportRecord r .«consumer_id» ≡ r .«consumer_id»
+  pub incarnation-agrees : exportRecord r .incarnation ≡ r .incarnation .0
+  pub registered-agrees : isSet (exportRecord r .registered) ≡ r .registered
+  pub invalidated-agrees : isSet (exportRecord r .invalidated) ≡ r .invalidated
+  pub has-floor-agrees : isSet (exportRecord r .«has_floor») ≡ hasFloor (r .«epoch_floor»)
+  pub floor-agrees : exportRecord r .«epoch_floor» ≡ floorValue (r .«epoch_floor»)
+  pub queue-agrees : exportRecord r .«queue_count» ≡ r .«queue_count»
+  pub positions-agrees : exportRecord r .«drain_positions» ≡ r .«drain_positions»
 
 -- ---- the answer in numbers
 

@@ -48,7 +48,7 @@ use Rattle.export_record.proofs.Record as R
 use Rattle.export_record.proofs.SessionReply as C
 use Rattle.export_reply.proofs.Reply as A
 use Rattle.ranges_marks.proofs.Walk.{ty, low, IsLow, fits, held, envOf, allots, ends, Roomy, With, whole-of, sets, has, asks}
-use Rattle.ranges_marks.proofs.Walk.{Meant, Says, table, knows}
+use Rattle.ranges_marks.proofs.Walk.{Meant, Ensures, table, knows}
 use Rattle.export_session.proofs.Types.{record′, answer, replied, state-is, reply-is}
 use Rattle.export_session.proofs.Lend.{takes, puts}
 
@@ -198,8 +198,8 @@ module _ {M : Type 1} (𝓤 : URA M) (H : Heap 𝓤) (𝓜 : Model 𝓤 H) (𝓖
     Ends = walkOf 𝓤 H (𝓖 .A) (Lent ss) (all-stay ss) c .post ((κs, qs, tt, (r, rest), (ptr ∷ [], vs)), g)
 
     -- what the contract says, at the record and the answer of u
-    abbrev Told : SessionReply → Fin κs ss rest → SProp 𝓤
-    Told u ws = c κs (r, rest) .ensures g (u .reply) (atExit (Lent ss) κs (r, rest) (u .state, ws))
+    abbrev Answered : SessionReply → Fin κs ss rest → SProp 𝓤
+    Answered u ws = c κs (r, rest) .ensures g (u .reply) (atExit (Lent ss) κs (r, rest) (u .state, ws))
 
     -- the tokens of the others
     abbrev tokens : Item 𝓤
@@ -207,7 +207,7 @@ module _ {M : Type 1} (𝓤 : URA M) (H : Heap 𝓤) (𝓜 : Model 𝓤 H) (𝓖
 
     -- once the callee has answered u: what is said of the others' last values, the tokens, and what the contract says
     abbrev Settled : SessionReply → Fin κs ss rest → List (Item 𝓤) → List (Item 𝓤)
-    Settled u ws Γ = ‵ (said κs ss rest ws) ∷ tokens ∷ raw (Told u ws) ∷ Γ
+    Settled u ws Γ = ‵ (said κs ss rest ws) ∷ tokens ∷ raw (Answered u ws) ∷ Γ
 
     -- what there is at the end
     abbrev Left : SessionReply → Fin κs ss rest → List (Item 𝓤)
@@ -257,7 +257,7 @@ module _ {M : Type 1} (𝓤 : URA M) (H : Heap 𝓤) (𝓜 : Model 𝓤 H) (𝓖
         abbrev Agrees : Type 1
         Agrees = ent 𝓤 (emp 𝓤) (c′ (κs .1) (r .now, rest′) .requires g′) × ((u : SessionReply) (ws : Fin (κs .1) ss′ rest′)
             → (xs : Fin κs ss rest) × ent 𝓤 (sem 𝓤 H (𝓖 .A) (said (κs .1) ss′ rest′ ws)) (sem 𝓤 H (𝓖 .A) (said κs ss rest xs))
-            × ent 𝓤 (Says 𝓤 H (𝓖 .A) (Taken ss′) c′ to u (tt, ws)) (Told u xs))
+            × ent 𝓤 (Ensures 𝓤 H (𝓖 .A) (Taken ss′) c′ to u (tt, ws)) (Answered u xs))
 
         asked : Agrees → IsLow record′ (r .now) → ent 𝓤 (⋆ 𝓤 H (𝓖 .A) (tokens ∷ owned ∷ [])) (G .pre to)
         asked agree is =
@@ -276,7 +276,7 @@ module _ {M : Type 1} (𝓤 : URA M) (H : Heap 𝓤) (𝓜 : Model 𝓤 H) (𝓖
             let told = agree .1 u (ws .1) in
             -- [the tokens; the last values; what is said; the record; the open borrow; obs; auth; the locals]
             move t (1 ∷ []) $ fsplit t $ drop t $ use1 W (‵ (said κs ss rest (told .0))) (told .1) $
-            move t (2 ∷ []) $ use1 W (raw (Told u (told .0))) (told .2) $ move t (3 ∷ 4 ∷ 5 ∷ 6 ∷ 1 ∷ 2 ∷ 0 ∷ []) $
+            move t (2 ∷ []) $ use1 W (raw (Answered u (told .0))) (told .2) $ move t (3 ∷ 4 ∷ 5 ∷ 6 ∷ 1 ∷ 2 ∷ 0 ∷ []) $
             land t (from t (rw spot (stop t))) (init t (place-of d) room (fits replied W u is)) $
             rw (puts-it (low replied u)) (gives-back t d xs (spot, room, has-it, puts-it) u (told .0) is))
 

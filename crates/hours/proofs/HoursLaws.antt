@@ -16,7 +16,7 @@ use borrow.Author.Tests.{le-leb, leb-true, leb-false, lt-ltb, ltb-true, ltb-fals
 use Rattle.slice.specs.BoolLaws.{both-true}
 use Rattle.refusal.specs.declared.Refusal.the-variants.{InvalidContract}
 use Rattle.hours.specs.declared.Span.{Span}
-use Rattle.hours.specs.declared.OpenAnswer.the-variants as told
+use Rattle.hours.specs.declared.OpenAnswer.the-variants as answer
 use Rattle.hours.specs.declared.EarliestAnswer.{EarliestAnswer}
 use Rattle.hours.specs.declared.EarliestAnswer.the-variants.{At, NoneOpen, Refused}
 use Rattle.hours.specs.Contract.{week, largest, spansOf, windowsOf, okSpans, isContract}
@@ -297,13 +297,13 @@ module _ (l : List ℕ) (t m n : ℕ) (h : Shaped l m n) where
       ∙ ap (λ (ws : List Span). openIn (spansOf m (drop 4 l)) ws u) (h .windows-are)
 
   pub open-windows : anyHolds (spansOf m (drop 4 l)) t ≡ true
-      → (b : Bool) → b ≡ anyHolds (spansOf n (drop (4 + 16 * m) l)) (t % 604800) → told.Told b ≡ openAnswer l t
+      → (b : Bool) → b ≡ anyHolds (spansOf n (drop (4 + 16 * m) l)) (t % 604800) → answer.Answered b ≡ openAnswer l t
   unfolding openAnswer openIn
-  open-windows e b f = simp (h .good, opens-are t, e, ← f)
+  open-windows e b f = simp (h .valid, opens-are t, e, ← f)
 
-  pub open-terms : anyHolds (spansOf m (drop 4 l)) t ≡ false → told.Told false ≡ openAnswer l t
+  pub open-terms : anyHolds (spansOf m (drop 4 l)) t ≡ false → answer.Answered false ≡ openAnswer l t
   unfolding openAnswer openIn
-  open-terms e = simp (h .good, opens-are t, e)
+  open-terms e = simp (h .valid, opens-are t, e)
 
   firsts : FirstOf (spansOf m (drop 4 l)) (spansOf n (drop (4 + 16 * m) l)) t
       (firstOf (spansOf m (drop 4 l)) (spansOf n (drop (4 + 16 * m) l)) t)
@@ -316,7 +316,7 @@ module _ (l : List ℕ) (t m n : ℕ) (h : Shaped l m n) where
     pub earliest-at : b < largest → Earliest l t (At b)
     unfolding Earliest
     earliest-at k = (
-      h .good,
+      h .valid,
       record {
         is-open = opens-are b ∙ first-b .is-open k;
         not-before = first-b .not-before k;
@@ -327,7 +327,7 @@ module _ (l : List ℕ) (t m n : ℕ) (h : Shaped l m n) where
     pub earliest-none : b ≡ largest → Earliest l t NoneOpen
     unfolding Earliest openIn
     earliest-none k = (
-      h .good,
+      h .valid,
       λ u g i.
           let j : openIn (spansOf m (drop 4 l)) (spansOf n (drop (4 + 16 * m) l)) u ≡ true = sym (opens-are u) ∙ i in
           let held = both-true (anyHolds (spansOf m (drop 4 l)) u) _ j .0 in
@@ -335,7 +335,7 @@ module _ (l : List ℕ) (t m n : ℕ) (h : Shaped l m n) where
     )
 
 module _ (l : List ℕ) (t : ℕ) (e : isContract l ≡ false) where
-  pub open-not : told.Refused InvalidContract ≡ openAnswer l t
+  pub open-not : answer.Refused InvalidContract ≡ openAnswer l t
   unfolding openAnswer
   open-not = simp e
 

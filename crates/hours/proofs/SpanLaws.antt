@@ -2,7 +2,7 @@
 --
 -- In order: spans at a place (`span-read`, `spans-at`, `spans-none`); a walk that asks each (`Turn`, `turn-end`,
 -- `turn-first`, `turn-next`); the tests of the first of a row (`ok-first`,
--- `holds-found`, ..); the cases of `shapeOf` (`shape-short` to `shape-good`) and what it says (`Shaped`, `shaped`,
+-- `holds-found`, ..); the cases of `shapeOf` (`shape-short` to `shape-valid`) and what it says (`Shaped`, `shaped`,
 -- `not-shaped`).
 -- Assumes nothing.
 use Prim.Native.Nat.{ℕ, zero, suc, _+_, _-_, _*_, _%_, _≤_, _<_, min, max}
@@ -229,33 +229,33 @@ module _ (l : List ℕ) where
     unfolding isContract
     shape-bad-window b e f = not-contract (simp (window-spans, ← e, f, and-false))
 
-    pub shape-good : m ≤ 64 → n ≤ 28 → length l ≡ 4 + 16 * (m + n)
+    pub shape-valid : m ≤ 64 → n ≤ 28 → length l ≡ 4 + 16 * (m + n)
         → (b : Bool) → b ≡ okSpans largest (spansOf m (drop 4 l)) → b ≡ true
         → (c : Bool) → c ≡ okSpans week (spansOf n (drop (4 + 16 * m) l)) → c ≡ true
         → Counts m n ≡ shapeOf l
     unfolding shapeOf isContract
-    shape-good hm hn hl b eb fb c ec fc =
+    shape-valid hm hn hl b eb fb c ec fc =
         let len = eq-eqb (4 + 16 * (m + n)) (length l) (sym hl) in
         simp (term-spans, window-spans, terms-are, windows-are, le-leb m 64 hm, le-leb n 28 hn, len, ← eb, fb, ← ec, fc)
 
 -- what the counts say
 pub record Shaped (l : List ℕ) (m n : ℕ) : Type 0 where
-  pub good : isContract l ≡ true
+  pub valid : isContract l ≡ true
   pub terms-are : termsOf l ≡ spansOf m (drop 4 l)
   pub windows-are : windowsOf l ≡ spansOf n (drop (4 + 16 * m) l)
   pub inside : 4 + 16 * (m + n) ≤ length l
   pub terms-ok : okSpans largest (spansOf m (drop 4 l)) ≡ true
   pub windows-ok : okSpans week (spansOf n (drop (4 + 16 * m) l)) ≡ true
 
-good-shaped : (l : List ℕ) → isContract l ≡ true → Shaped l (termCount l) (windowCount l)
+valid-shaped : (l : List ℕ) → isContract l ≡ true → Shaped l (termCount l) (windowCount l)
 unfolding isContract termsOf windowsOf
-good-shaped l h =
+valid-shaped l h =
     let a = both-true (leb (termCount l) 64) _ h in
     let b = both-true (leb (windowCount l) 28) _ (a .1) in
     let c = both-true (eqb (4 + 16 * (termCount l + windowCount l)) (length l)) _ (b .1) in
     let d = both-true (okSpans largest (termsOf l)) _ (c .1) in
     let e : 4 + 16 * (termCount l + windowCount l) ≡ length l = eqb-true _ _ (c .0) in
-    record { good = h; terms-are = refl; windows-are = refl; inside = omega arith; terms-ok = d .0; windows-ok = d .1 }
+    record { valid = h; terms-are = refl; windows-are = refl; inside = omega arith; terms-ok = d .0; windows-ok = d .1 }
 
 pub shaped : (l : List ℕ) (m n : ℕ) → Counts m n ≡ shapeOf l → Shaped l m n
 unfolding shapeOf
@@ -266,7 +266,7 @@ shaped l m n e = go (isContract l) refl
         let f : Counts m n ≡ Counts (termCount l) (windowCount l) = e ∙ rw h in
         let fm : termCount l ≡ m = cc in
         let fn : windowCount l ≡ n = cc in
-        rw fm at (rw fn at (good-shaped l h))
+        rw fm at (rw fn at (valid-shaped l h))
     go false h = let f : Counts m n ≡ Malformed = e ∙ rw h in let z : _≡_ {A = ℕ} 0 1 = cc in absurd (omega arith)
 
 pub not-shaped : (l : List ℕ) → Malformed ≡ shapeOf l → isContract l ≡ false

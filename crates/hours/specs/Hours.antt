@@ -13,7 +13,7 @@ use Rattle.refusal.specs.declared.Refusal.the-variants.{InvalidContract}
 use Rattle.refusal.specs.Steps.{_>>_, refuseUnless}
 use Rattle.hours.specs.declared.Span.{Span}
 use Rattle.hours.specs.declared.OpenAnswer.{OpenAnswer}
-use Rattle.hours.specs.declared.OpenAnswer.the-variants as told
+use Rattle.hours.specs.declared.OpenAnswer.the-variants as answer
 use Rattle.hours.specs.declared.EarliestAnswer.{EarliestAnswer}
 use Rattle.hours.specs.declared.EarliestAnswer.the-variants.{At, NoneOpen, Refused}
 use Rattle.hours.specs.Contract.{week, termsOf, windowsOf, isContract}
@@ -41,8 +41,8 @@ isOpen contract t = openIn (termsOf contract) (windowsOf contract) t
 -- "whether a second is open"; 35 is "the only test"
 unfoldable pub openAnswer : (contract : List ℕ) (t : ℕ) → OpenAnswer
 openAnswer contract t = do
-  refuseUnless told.Refused (isContract contract) InvalidContract  -- 35
-  told.Told (isOpen contract t)
+  refuseUnless answer.Refused (isContract contract) InvalidContract  -- 35
+  answer.Answered (isOpen contract t)
 
 -- ---- the earliest
 

@@ -10,7 +10,7 @@ use lib.ListN.{length, replicate}
 use Rattle.slice_int.specs.Be.{beFrom, be, beAt, bytesOf}
 use Rattle.refusal.specs.declared.Refusal.the-variants.{InvalidContract}
 use Rattle.hours.specs.declared.Span.{Span}
-use Rattle.hours.specs.declared.OpenAnswer.the-variants as told
+use Rattle.hours.specs.declared.OpenAnswer.the-variants as answer
 use Rattle.hours.specs.Contract.{spanOf, spansOf, termCount, windowCount, termsOf, windowsOf, okSpans, isContract}
 use Rattle.hours.specs.Hours.{anyHolds, secondOfWeek, openIn, isOpen, openAnswer}
 
@@ -100,13 +100,13 @@ instant = span 0 1
 
 pub record ByteRows : Type 0 where
   -- Friday 23:59:59, Saturday 01:00:00; neither terms nor windows
-  pub inside : openAnswer (contractBytes leapDay weekly) 762652799 ≡ told.Told true
-  pub outside : openAnswer (contractBytes leapDay weekly) 762656400 ≡ told.Told false
-  pub bare : openAnswer (contractBytes [] []) 0 ≡ told.Told false
+  pub inside : openAnswer (contractBytes leapDay weekly) 762652799 ≡ answer.Answered true
+  pub outside : openAnswer (contractBytes leapDay weekly) 762656400 ≡ answer.Answered false
+  pub bare : openAnswer (contractBytes [] []) 0 ≡ answer.Answered false
   -- the most terms and windows, and one more
-  pub most : openAnswer (contractBytes (replicate 64 instant) (replicate 28 instant)) 0 ≡ told.Told true
-  pub terms-65 : openAnswer (contractBytes (replicate 65 instant) []) 0 ≡ told.Refused InvalidContract
-  pub windows-29 : openAnswer (contractBytes [] (replicate 29 instant)) 0 ≡ told.Refused InvalidContract
+  pub most : openAnswer (contractBytes (replicate 64 instant) (replicate 28 instant)) 0 ≡ answer.Answered true
+  pub terms-65 : openAnswer (contractBytes (replicate 65 instant) []) 0 ≡ answer.Refused InvalidContract
+  pub windows-29 : openAnswer (contractBytes [] (replicate 29 instant)) 0 ≡ answer.Refused InvalidContract
   -- a window that ends with the week, and a second later; ends at the start, of a term and of a window
   pub week-end : isContract (contractBytes [] (span 604799 604800 ∷ [])) ≡ true
   pub beyond : isContract (contractBytes [] (span 604799 604801 ∷ [])) ≡ false

@@ -29,7 +29,7 @@ const LARGEST: u64 = 18446744073709551615;
 
 pub enum OpenAnswer {
     // Whether the second is open.
-    Told(bool),
+    Answered(bool),
     Refused(Refusal),
 }
 
@@ -162,9 +162,9 @@ pub fn is_open(contract: &[u8], second: u64) -> OpenAnswer
         return OpenAnswer::Refused(Refusal::InvalidContract);
     };
     if any_holds(contract, HEAD, terms, second) {
-        OpenAnswer::Told(any_holds(contract, HEAD + SPAN * terms, windows, second % WEEK))
+        OpenAnswer::Answered(any_holds(contract, HEAD + SPAN * terms, windows, second % WEEK))
     } else {
-        OpenAnswer::Told(false)
+        OpenAnswer::Answered(false)
     }
 }
 

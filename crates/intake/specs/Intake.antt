@@ -75,12 +75,12 @@ abbrev pub headBytes : SegmentScan → List ℕ
 headBytes scan =
     bytesOf 8 (scan .head .«segment_id») ++ (bytesOf 2 (scan .head .«hash_start») ++ (bytesOf 2 (scan .head .«hash_end») ++ bytesOf 2 (scan .run .count)))
 
--- the segment p was walked over and is good, its record has room, and its buckets stand where they belong if the record goes behind the used bytes
+-- the segment p was walked over and is valid, its record has room, and its buckets stand where they belong if the record goes behind the used bytes
 pub record PutReady (b : List ℕ) (used at size : ℕ) (p : List ℕ) (scan : SegmentScan) : Type 0 where
   pub order : at ≤ used
   pub room : used + size ≤ length b
   pub scanned : ScanOf p scan
-  pub good : scan .run .good ≡ true
+  pub valid : scan .run .valid ≡ true
   pub small : (scan .head .«hash_start» < 65536) × (scan .head .«hash_end» < 65536) × (scan .run .count < 65536)
   pub size-is : size ≡ sizeSegment (assignedSegment (readSegment p))
   pub buckets : take (4 * length (readSegment p .bucketRanges)) (drop (used + 14) b) ≡ encodeRanges (bucketsOf (readSegment p))

@@ -17,8 +17,8 @@ use lib.Seq.{take-suc-set, length-take-le, append-snoc}
 use Rattle.topic_types.specs.declared.KeyRange.{KeyRange}
 use Rattle.ranges.specs.Overlap.{anyOverlap}
 use Rattle.ranges.proofs.OverlapLaws.{any-append}
-use Rattle.ranges_marks.specs.Marks.{AllGood, RowMarking}
-use Rattle.ranges_marks.proofs.RowLaws.{good-left, Apart}
+use Rattle.ranges_marks.specs.Marks.{AllValid, RowMarking}
+use Rattle.ranges_marks.proofs.RowLaws.{valid-left, Apart}
 use Rattle.wire_values.specs.declared.PartStep.the-variants as step
 use Rattle.wire_values.specs.Places.{NextPart}
 use Rattle.wire_readers.specs.declared.IntRange.{IntRange}
@@ -92,12 +92,12 @@ module _ {p : List ℕ} {at : ℕ} {l : Loaded} (L : LoadedIs p at l) where
     whole : bucketsFrom p 0 ≡ (M .before ++ here) ++ behind
     whole = M .split ∙ ap (λ (l : List KeyRange). M .before ++ l) (L .split) ∙ sym (append-assoc (M .before) here behind)
 
-    module _ (g : AllGood (bucketsFrom p 0)) {t : Bool} {words′ : List ℕ} (R : RowMarking words here t words′) where
-      good : AllGood (M .before ++ here)
-      good = good-left (M .before ++ here) behind (subst AllGood whole g)
+    module _ (g : AllValid (bucketsFrom p 0)) {t : Bool} {words′ : List ℕ} (R : RowMarking words here t words′) where
+      valid : AllValid (M .before ++ here)
+      valid = valid-left (M .before ++ here) behind (subst AllValid whole g)
 
       told : t ≡ anyOverlap (M .before ++ here)
-      told = R .told (M .before) (M .marks .holds) good (M .marks .apart)
+      told = R .told (M .before) (M .marks .holds) valid (M .marks .apart)
 
       pub marked-found : t ≡ true → true ≡ anyOverlap (bucketsFrom p 0)
       marked-found y = sym (ap anyOverlap whole ∙ any-append (M .before ++ here) behind ∙ rw (← told, y))
@@ -113,9 +113,9 @@ module _ {p : List ℕ} {at : ℕ} {l : Loaded} (L : LoadedIs p at l) where
         before = M .before ++ here;
         split = whole;
         marks = record {
-          good = good;
+          valid = valid;
           apart = sym told ∙ y;
-          holds = R .holds (M .before) (M .marks .holds) good (M .marks .apart) y;
+          holds = R .holds (M .before) (M .marks .holds) valid (M .marks .apart) y;
         };
       }
 

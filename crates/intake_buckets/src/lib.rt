@@ -5,7 +5,7 @@
 // test, which marks its values. So any number of ranges takes one row and the marks, and each range is read once.
 ghost use mathlib.Core.Path.{_≡_};
 ghost use Rattle.ranges.specs.Overlap.{anyOverlap};
-ghost use Rattle.ranges_marks.specs.Marks.{AllGood};
+ghost use Rattle.ranges_marks.specs.Marks.{AllValid};
 ghost use Rattle.intake_content.specs.Content.{firstOutside, outsideOf};
 ghost use Rattle.intake_buckets.specs.Rows.{bucketsFrom, LoadedIs};
 use intake_content::Outside;
@@ -45,7 +45,7 @@ fn load_row(p: &[u8], at: usize) -> Loaded
 
 // Two bucket ranges of the segment p share a value. Each row is marked in its turn, and so tested against all rows before it.
 pub fn buckets_overlap(p: &[u8]) -> bool
-    requires { ⌜ AllGood (bucketsFrom (now p) 0) ⌝ }
+    requires { ⌜ AllValid (bucketsFrom (now p) 0) ⌝ }
     ensures { λ r. ⌜ r ≡ anyOverlap (bucketsFrom (now (p .entry)) 0) ⌝ }
 {
     let mut words = [0u64; ranges_marks::WORDS];

@@ -3,7 +3,7 @@
 -- In order: the first refusal by the first segment (`refusal-fault`, `refusal-duplicate`, `refusal-next`, and back `refusal-none`); the ids
 -- that were seen are those of the segments in order so far (`SeenIds`: `seen-start`, `seen-next`, `seen-held`); what a segment that is put in
 -- its place keeps (`order-each`, `order-rises`); how long they are and how many (`order-size`, `order-length`, both of `measure-order`);
--- that they are good (`order-ok`) and fit their widths (`order-fit`); segments that come in id order stay so (`order-rising`,
+-- that they are valid (`order-ok`) and fit their widths (`order-fit`); segments that come in id order stay so (`order-rising`,
 -- `order-written`), and no id of theirs is refused (`refusal-rising`).
 -- Assumes nothing.
 use Prim.Native.Nat.{ℕ, suc, _+_, _*_, _≤_, _<_}
@@ -21,12 +21,12 @@ use Rattle.wire_readers.specs.Messages.{WireSegment}
 use Rattle.keyed.specs.Keyed.{orElse, isSome, self, Above, Rising, find, holds, insert}
 use Rattle.keyed.proofs.KeyedLaws.{choose, find-insert, rising-insert}
 use Rattle.packed.specs.Assignment.{AssignedSegment, idOf, sizeSegment, sizeSegments, okSegment, okFrom}
-use Rattle.packed.proofs.AssignmentLaws.{ok-good, ok-head, ok-tail}
+use Rattle.packed.proofs.AssignmentLaws.{ok-segment, ok-head, ok-tail}
 use Rattle.packed.proofs.RoundLaws.{FitSegment, FitSegments}
 use Rattle.intake_content.specs.Content.{wireId, bucketOf, segmentFault, duplicateFault, firstRefusal, assignedSegment, inIdOrder}
 pub use Rattle.intake_content.specs.Passing.{Passing}
 use Rattle.keyed.proofs.EachLaws.{Each, each-insert}
-use Rattle.intake_content.proofs.SoundLaws.{or-both, if-none, length-map, segment-good, segment-fit}
+use Rattle.intake_content.proofs.SoundLaws.{or-both, if-none, length-map, segment-valid, segment-fit}
 use Rattle.intake_content.proofs.WideLaws.{WideSegment}
 
 -- ---- the first refusal
@@ -136,45 +136,45 @@ module _ (parent : List ℕ) (ws : List WireSegment) (e : firstRefusal parent []
       let n : length (map assignedSegment ws) ≡ length ws = length-map assignedSegment ws in
       omega (arith, measure-order length (λ g. 1) refl (λ g gs. omega arith) parent [] [] ws seen-start e)
 
--- ---- they are good
+-- ---- they are valid
 
-abbrev pub Good : AssignedSegment → Type 0
-Good g = okSegment g ≡ true
+abbrev pub OkSegment : AssignedSegment → Type 0
+OkSegment g = okSegment g ≡ true
 
 above-ok : (low : ℕ) (gs : List AssignedSegment) → okFrom (suc low) gs ≡ true → Above idOf low gs
 above-ok low [] e = tt
 above-ok low (g ∷ gs) e = omega (arith, ok-head (suc low) g gs e)
 
--- good segments whose ids rise, and what both say
+-- valid segments whose ids rise, and what both say
 pub ok-rises : (low : ℕ) (gs : List AssignedSegment) → okFrom low gs ≡ true → Rising idOf gs
 ok-rises low [] e = tt
 ok-rises low (g ∷ gs) e = let t = ok-tail low g gs e in (above-ok (g .segmentId) gs t, ok-rises (suc (g .segmentId)) gs t)
 
-ok-each : (low : ℕ) (gs : List AssignedSegment) → okFrom low gs ≡ true → Each Good gs
+ok-each : (low : ℕ) (gs : List AssignedSegment) → okFrom low gs ≡ true → Each OkSegment gs
 ok-each low [] e = tt
-ok-each low (g ∷ gs) e = (ok-good low g gs e, ok-each (suc (g .segmentId)) gs (ok-tail low g gs e))
+ok-each low (g ∷ gs) e = (ok-segment low g gs e, ok-each (suc (g .segmentId)) gs (ok-tail low g gs e))
 
-rising-ok : (low : ℕ) (g : AssignedSegment) (gs : List AssignedSegment) → low ≤ g .segmentId → Each Good (g ∷ gs) → Rising idOf (g ∷ gs)
+rising-ok : (low : ℕ) (g : AssignedSegment) (gs : List AssignedSegment) → low ≤ g .segmentId → Each OkSegment (g ∷ gs) → Rising idOf (g ∷ gs)
     → okFrom low (g ∷ gs) ≡ true
 unfolding okFrom
 rising-ok low g [] h o r = simp (o .0, le-leb low (g .segmentId) h)
 rising-ok low g (k ∷ gs) h o r = simp (o .0, le-leb low (g .segmentId) h) (rising-ok (suc (g .segmentId)) k gs (omega arith) (o .1) (r .1))
 
-pub rises-ok : (gs : List AssignedSegment) → Each Good gs → Rising idOf gs → okFrom 0 gs ≡ true
+pub rises-ok : (gs : List AssignedSegment) → Each OkSegment gs → Rising idOf gs → okFrom 0 gs ≡ true
 unfolding okFrom
 rises-ok [] o r = refl
 rises-ok (g ∷ gs) o r = rising-ok 0 g gs (omega arith) o r
 
-pub segments-good : (parent seen : List ℕ) (ws : List WireSegment) → firstRefusal parent seen ws ≡ none → Each Good (map assignedSegment ws)
-segments-good parent seen [] e = tt
-segments-good parent seen (w ∷ ws) e =
+pub segments-valid : (parent seen : List ℕ) (ws : List WireSegment) → firstRefusal parent seen ws ≡ none → Each OkSegment (map assignedSegment ws)
+segments-valid parent seen [] e = tt
+segments-valid parent seen (w ∷ ws) e =
     let f : First parent seen w ws = refusal-none parent seen w ws e in
-    (segment-good parent w (f .passes), segments-good parent (w .segmentId ∷ seen) ws (f .others))
+    (segment-valid parent w (f .passes), segments-valid parent (w .segmentId ∷ seen) ws (f .others))
 
 pub order-ok-from : (parent seen : List ℕ) (done : List AssignedSegment) (ws : List WireSegment) → okFrom 0 done ≡ true
     → firstRefusal parent seen ws ≡ none → okFrom 0 (inIdOrder done ws) ≡ true
 order-ok-from parent seen done ws o e =
-    rises-ok (inIdOrder done ws) (order-each Good done ws (ok-each 0 done o) (segments-good parent seen ws e))
+    rises-ok (inIdOrder done ws) (order-each OkSegment done ws (ok-each 0 done o) (segments-valid parent seen ws e))
     (order-rises done ws (ok-rises 0 done o))
 
 pub order-ok : (parent : List ℕ) (ws : List WireSegment) → firstRefusal parent [] ws ≡ none → okFrom 0 (inIdOrder [] ws) ≡ true
@@ -241,7 +241,7 @@ order-behind done (w ∷ ws) r =
 pub order-rising : (ws : List WireSegment) → okFrom 0 (map assignedSegment ws) ≡ true → inIdOrder [] ws ≡ map assignedSegment ws
 order-rising ws o = order-behind [] ws (ok-rises 0 (map assignedSegment ws) o)
 
--- wire segments that stand for good ones, in id order
+-- wire segments that stand for valid ones, in id order
 pub order-written : (f : AssignedSegment → WireSegment) → ((g : AssignedSegment) → assignedSegment (f g) ≡ g) → (gs : List AssignedSegment)
     → okFrom 0 gs ≡ true → inIdOrder [] (map f gs) ≡ gs
 order-written f h gs o =

@@ -1,8 +1,8 @@
 -- What a segment that passes its tests is.
 --
 -- In order: when there is no refusal (`or-both`, `if-none`, `unless-none`); each test by itself (`Passed`: `passed`, and back `passes`); a
--- range that passes is in order and inside the key space (`Sound`: `valid-sound`, `bucket-sound`); the segment is good and fits its widths
--- (`segment-good`, `segment-range`, `segment-buckets`, `segment-fit`).
+-- range that passes is in order and inside the key space (`Sound`: `valid-sound`, `bucket-sound`); the segment is valid and fits its widths
+-- (`segment-valid`, `segment-range`, `segment-buckets`, `segment-fit`).
 -- Assumes nothing.
 use Prim.Native.Nat.{ℕ, suc, _+_, _^_, _≤_, _<_}
 use native.Mathlib.Omega.{arith}
@@ -163,9 +163,9 @@ module _ (parent : List ℕ) (w : WireSegment) (e : segmentFault parent w ≡ no
   range-sound =
       valid-sound (w .hashStart) (w .hashEnd) (fault-valid (wireId w) (newKeyRange (w .hashStart) (w .hashEnd)) (passed parent w e .range))
 
-  pub segment-good : okSegment (assignedSegment w) ≡ true
+  pub segment-valid : okSegment (assignedSegment w) ≡ true
   unfolding okSegment okBuckets assignedSegment
-  segment-good =
+  segment-valid =
       simp (
         le-leb (w .hashStart) (w .hashEnd) (range-sound .order),
         buckets-sound (wireId w) 0 (w .bucketRanges) (passed parent w e .buckets) .1,

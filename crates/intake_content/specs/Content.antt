@@ -61,7 +61,7 @@ unfoldable pub bucketFault : SegmentId → ℕ → List IntRange → Option Refu
 bucketFault id index [] = none
 bucketFault id index (r ∷ rs) = cond (bucketOk r) (bucketFault id (index + 1) rs) (some (InvalidBucketRange id index (r .start) (r .end)))
 
--- the range that a good one is
+-- the range that a valid one is
 abbrev pub magnitude : ℤ → ℕ
 magnitude (pos n) = n
 magnitude (negsuc n) = 0

@@ -1,8 +1,8 @@
 -- Laws of the walk over an assignment in its usual form, from its leaves up.
 --
 -- In order: two numbers as one write (`range-bytes`); a segment's buckets, none and one in
--- front of others (`buckets-end`, `buckets-next`), which are good (`buckets-good`); a segment's head (`head-row`, `head-written`) and the segment (`segment-taken`); an assignment's segments, none and one in front
--- of others (`segments-end`, `segments-next`), how many (`segments-few`), their order (`segments-ready`), and the assignment (`plain-taken`).
+-- front of others (`buckets-end`, `buckets-next`), which are valid (`buckets-valid`); a segment's head (`head-row`, `head-written`) and the segment (`segment-taken`); an assignment's segments, none and one in front
+-- of others (`segments-end`, `segments-next`), how many (`segments-few`), their order (`segments-ready`), and the assignment (`ordered-taken`).
 -- Assumes nothing.
 use Prim.Native.Nat.{ℕ, zero, suc, _+_, _-_, _*_, _/_, _%_, _^_, _≤_, _<_}
 use native.Mathlib.Numerals.{add-one}
@@ -34,7 +34,7 @@ use Rattle.wire_schema.specs.declared.MessageKind.{MessageKind}
 use Rattle.wire_schema.specs.declared.MessageKind.the-variants.{ScalableConsumerAssignment, ScalableAssignedSegment}
 use Rattle.wire_schema.specs.FirstFault.{Sound}
 use Rattle.wire_schema.proofs.SoundLaws.{range-sound}
-use Rattle.wire_ordered.specs.Plain.{NumberIs, PartField}
+use Rattle.wire_ordered.specs.Ordered.{NumberIs, PartField}
 use Rattle.intake_ordered_bucket.specs.Buckets.{BucketAt}
 use Rattle.intake_ordered_bucket.proofs.BucketLaws.{row-end}
 use Rattle.wire_readers.specs.Messages.{WireAssignment, readAssignment}
@@ -53,11 +53,11 @@ use Rattle.intake_content.proofs.OrderLaws.{count-least}
 use Rattle.intake_content.proofs.ContentOrder.{taken-shuffled}
 use Rattle.writer_message.proofs.TextLaws.{topic-utf8}
 use Rattle.writer_message.proofs.RowLaws.{numbered, parted, partRow, segmentRowOf}
-use Rattle.writer_message.proofs.WireLaws.{wireSegment, wireAssignment, range-row-says, segment-row-says, good-passes}
+use Rattle.writer_message.proofs.WireLaws.{wireSegment, wireAssignment, range-row-says, segment-row-says, valid-passes}
 use Rattle.writer_message.proofs.WireLaws.{assignment-row-says, content-says}
 use Rattle.writer_message.proofs.ValidLaws.{segment-row-valid, assignment-row-valid}
-use Rattle.intake_ordered.specs.Walk.{Inside, BucketsFrom, HeadRow, SegmentTaken, Good, SegmentsFrom}
-use Rattle.intake_ordered.specs.Taken.{PlainTaken}
+use Rattle.intake_ordered.specs.Walk.{Inside, BucketsFrom, HeadRow, SegmentTaken, OkSegment, SegmentsFrom}
+use Rattle.intake_ordered.specs.Taken.{OrderedTaken}
 
 -- ---- bytes
 
@@ -167,9 +167,9 @@ module _ {p : List ℕ} {at low high from : ℕ} {before : Bool} {b : List ℕ} 
       ∙ read-ranges (k .ranges) (drop (place + length (encodeRanges (k .ranges))) b) (k .fits)
 
   -- they rise, or the test of what was written says so
-  pub buckets-good : {t : Bool} → t ≡ (after || okBuckets (decodeRanges ((to - place) / 4) (drop place b′))) → t ≡ true
+  pub buckets-valid : {t : Bool} → t ≡ (after || okBuckets (decodeRanges ((to - place) / 4) (drop place b′))) → t ≡ true
       → okBuckets (k .ranges) ≡ true
-  buckets-good {t} e y = go after refl
+  buckets-valid {t} e y = go after refl
     where
       go : (s : Bool) → after ≡ s → okBuckets (k .ranges) ≡ true
       go true f = rising-ok from (k .ranges) (k .rises f .1)
@@ -218,8 +218,8 @@ module _ (parent : List ℕ) (e : isParent parent ≡ true) (u : isUtf8 parent �
       → id < 2 ^ 64 → length b ≡ 2048 → HeadRow p id start end from to
       → t ≡ sameBytes (take (to - from) (drop from p))
       (segmentTopic (take (length parent - 8) (drop 8 parent)) (keyRange start end) (record { 0 = id }))
-      → t ≡ true → {rising good : Bool} (k : BucketsFrom p to start end 0 true b (used + 14) last rising b₁)
-      → good ≡ (rising || okBuckets (decodeRanges ((last - (used + 14)) / 4) (drop (used + 14) b₁))) → good ≡ true
+      → t ≡ true → {rising segment-ok : Bool} (k : BucketsFrom p to start end 0 true b (used + 14) last rising b₁)
+      → segment-ok ≡ (rising || okBuckets (decodeRanges ((last - (used + 14)) / 4) (drop (used + 14) b₁))) → segment-ok ≡ true
       → b₂ ≡ put b₁ used (headBytes id start end ((last - (used + 14)) / 4)) → SegmentTaken parent p b used id last b₂
   unfolding okSegment sizeSegment encodeSegment encodeRange
   segment-taken {p} {id} {start} {end} {from} {to} b b₁ b₂ used {last} wide long h s y k a i w =
@@ -229,7 +229,7 @@ module _ (parent : List ℕ) (e : isParent parent ≡ true) (u : isUtf8 parent �
       let name : text ≡ segmentTopic path (keyRange start end) (record { 0 = id }) = same-eq text _ (rw (rest parent 8) at (sym s ∙ y)) in
       let row : fieldsOf p ≡ segmentRowOf path g (k .parts) = h .row ∙ rw (name, k .row) in
       let fit : FitRange (keyRange start end) = record { start = omega (arith, h .order, h .high); end = omega (arith, h .high) } in
-      let good : okSegment g ≡ true = rw (le-leb start end (h .order)) (buckets-good k a i) in
+      let segment-ok : okSegment g ≡ true = rw (le-leb start end (h .order)) (buckets-valid k a i) in
       let n : (last - (used + 14)) / 4 ≡ length (k .ranges) = omega (arith, k .to-is) in
       let H : List ℕ = headBytes id start end (length (k .ranges)) in
       let R : List ℕ = encodeRanges (k .ranges) in
@@ -239,8 +239,8 @@ module _ (parent : List ℕ) (e : isParent parent ≡ true) (u : isUtf8 parent �
         valid = at-any-depth ScalableAssignedSegment p
             (λ d. segment-row-valid d p path g (k .parts) row (topic-utf8 parent e u (keyRange start end) (record { 0 = id })) (k .valid d));
         says = segment-row-says p path g fit (k .parts) row (k .says);
-        passes = good-passes parent g e good fit (k .fits) (buckets-inside start end 0 (k .ranges) (k .inside));
-        good = good;
+        passes = valid-passes parent g e segment-ok fit (k .fits) (buckets-inside start end 0 (k .ranges) (k .inside));
+        segment-ok = segment-ok;
         fits = record { id = omega (arith, wide); range = fit; count = omega (arith, k .to-is, k .room, long); buckets = k .fits };
         id-is = refl;
         to-is = omega (arith, k .to-is);
@@ -275,7 +275,7 @@ segments-end parent s at low rising b used h r =
       valid = λ d. tt;
       says = refl;
       passes = tt;
-      good = tt;
+      segment-ok = tt;
       fits = tt;
       rises = λ e. (e, refl);
       count-is = refl;
@@ -307,14 +307,14 @@ segments-next {parent} {s} {at} {from} {next} {id} {last} low rising {still} b b
       valid = λ d. (q .valid d, k .valid d);
       says = rw (q .says, k .says);
       passes = (q .passes, k .passes);
-      good = (q .good, k .good);
+      segment-ok = (q .segment-ok, k .segment-ok);
       fits = (q .fits, k .fits);
       rises = λ e.
           let o = k .rises e in
           let r = both-true rising (leb low id) (sym l ∙ o .0) in
           let p : okFrom (suc (g .segmentId)) (k .segments) ≡ true =
           subst (λ (j : ℕ). okFrom j (k .segments) ≡ true) (add-one id ∙ ap suc (q .id-is)) (o .1) in
-          (r .0, simp (q .good, le-leb low (g .segmentId) (omega (arith, leb-true low id (r .1), q .id-is)), p));
+          (r .0, simp (q .segment-ok, le-leb low (g .segmentId) (omega (arith, leb-true low id (r .1), q .id-is)), p));
       count-is = omega (arith, k .count-is);
       to-is = omega (arith, k .to-is, q .to-is);
       room = omega (arith, k .room);
@@ -332,7 +332,7 @@ ok-from-rises : (low : ℕ) (gs : List AssignedSegment) → okFrom low gs ≡ tr
 ok-from-rises low [] e = tt
 ok-from-rises low (g ∷ gs) e = (ok-head low g gs e, ok-from-rises (suc (g .segmentId)) gs (ok-tail low g gs e))
 
-rises-from-ok : (low : ℕ) (gs : List AssignedSegment) → Each Good gs → RisesFrom low gs → okFrom low gs ≡ true
+rises-from-ok : (low : ℕ) (gs : List AssignedSegment) → Each OkSegment gs → RisesFrom low gs → okFrom low gs ≡ true
 unfolding okFrom
 rises-from-ok low [] o r = refl
 rises-from-ok low (g ∷ gs) o r =
@@ -383,10 +383,10 @@ module _ {parent s : List ℕ} {first : ℕ} {b : List ℕ} {count used : ℕ} {
         ∙ put-over b 10 (encodeSegments (k .segments)) (encodeSegments (o .segments)) (omega (arith, x, y, same-size))
         (omega (arith, y, same-size, k .to-is, k .room))
 
-    pub plain-taken : {epoch : ℕ} (b₃ b₄ : List ℕ) → NumberIs 1 s 0 epoch first → b₃ ≡ put b₂ 8 (bytesOf 2 count) → b₄ ≡ put b₃ 0 (bytesOf 8 epoch)
-        → PlainTaken parent s b epoch used b₄
+    pub ordered-taken : {epoch : ℕ} (b₃ b₄ : List ℕ) → NumberIs 1 s 0 epoch first → b₃ ≡ put b₂ 8 (bytesOf 2 count) → b₄ ≡ put b₃ 0 (bytesOf 8 epoch)
+        → OrderedTaken parent s b epoch used b₄
     unfolding okAssignment sizeAssignment encodeAssignment
-    plain-taken {epoch} b₃ b₄ n e₃ e₄ =
+    ordered-taken {epoch} b₃ b₄ n e₃ e₄ =
         let path : List ℕ = pathOf parent in
         let came : ConsumerAssignment = record { layoutEpoch = epoch; segments = k .segments } in
         let a : ConsumerAssignment = record { layoutEpoch = epoch; segments = o .segments } in
@@ -394,7 +394,7 @@ module _ {parent s : List ℕ} {first : ℕ} {b : List ℕ} {count used : ℕ} {
         n .fields ∙ ap (λ (fs : List Field). numbered 1 epoch ∷ fs) (k .row) in
         let says : readAssignment (fieldsOf s) ≡ wireAssignment path came = assignment-row-says path came (k .parts) (fieldsOf s) row (k .says) in
         let fits : sizeAssignment a ≤ slotSize = omega (arith, k .to-is, k .room, same-size) in
-        let rises : okFrom 0 (o .segments) ≡ true = rises-from-ok 0 (o .segments) (each-shuffled Good moved (k .good)) (o .rises) in
+        let rises : okFrom 0 (o .segments) ≡ true = rises-from-ok 0 (o .segments) (each-shuffled OkSegment moved (k .segment-ok)) (o .rises) in
         let ok : okAssignment a ≡ true = simp (le-leb (sizeAssignment a) slotSize fits, rises) in
         let wires : Shuffled (map (wireSegment path) (k .segments)) (map (wireSegment path) (o .segments)) = shuffled-map (wireSegment path) moved in
         let S : List ℕ = encodeSegments (o .segments) in

@@ -2,7 +2,7 @@
 --
 -- What one walk over an assignment in its usual form tells.
 --
--- The answer has one direction: what is told is so, and an assignment of which nothing is told may be good all the same.
+-- The answer has one direction: what is told is so, and an assignment of which nothing is told may be valid all the same.
 -- Assumes nothing.
 use Prim.Native.Nat.{ℕ}
 use mathlib.Core.Path.{_≡_}
@@ -14,11 +14,11 @@ use Rattle.wire_schema.specs.FirstFault.{Sound}
 use Rattle.wire_readers.specs.Messages.{readAssignment}
 use Rattle.packed.specs.Assignment.{ConsumerAssignment, encodeAssignment, sizeAssignment}
 use Rattle.intake_content.specs.Content.{contentOf, taken}
-use Rattle.intake_ordered.specs.declared.PlainIntake.{PlainIntake}
-use Rattle.intake_ordered.specs.declared.PlainIntake.the-variants.{Taken, Other}
+use Rattle.intake_ordered.specs.declared.OrderedIntake.{OrderedIntake}
+use Rattle.intake_ordered.specs.declared.OrderedIntake.the-variants.{Taken, Other}
 
 -- the assignment s has no fault, wherever it is nested; below the parent nothing refuses it; and the buffer holds it packed, in n bytes
-pub record PlainTaken (parent s b : List ℕ) (epoch n : ℕ) (b′ : List ℕ) : Type 0 where
+pub record OrderedTaken (parent s b : List ℕ) (epoch n : ℕ) (b′ : List ℕ) : Type 0 where
   pub valid : (d : ℕ) → Sound d ScalableConsumerAssignment s
   pub epoch-is : epoch ≡ readAssignment (fieldsOf s) .layoutEpoch
   pub assignment : ConsumerAssignment
@@ -26,6 +26,6 @@ pub record PlainTaken (parent s b : List ℕ) (epoch n : ℕ) (b′ : List ℕ) 
   pub size : n ≡ sizeAssignment assignment
   pub packed : b′ ≡ put b 0 (encodeAssignment assignment)
 
-abbrev pub PlainSays : (parent s b : List ℕ) → PlainIntake → (b′ : List ℕ) → Type 0
-PlainSays parent s b (Taken epoch n) b′ = PlainTaken parent s b epoch n b′
-PlainSays parent s b Other b′ = Unit {0}
+abbrev pub OrderedIs : (parent s b : List ℕ) → OrderedIntake → (b′ : List ℕ) → Type 0
+OrderedIs parent s b (Taken epoch n) b′ = OrderedTaken parent s b epoch n b′
+OrderedIs parent s b Other b′ = Unit {0}

@@ -1,6 +1,6 @@
 -- Internal: cited by the contracts of helpers alone; whoever reads the claims may skip it.
 --
--- What the functions below `take_plain` tell of the parts of an assignment in its usual form.
+-- What the functions below `take_ordered` tell of the parts of an assignment in its usual form.
 --
 -- A part is told by its row of fields, and what it holds by the value that stands for it: a range, a segment. What is told of a row that
 -- is walked over is told from a place on, so that a turn of the walk puts one entry in front of those that follow.
@@ -71,9 +71,9 @@ pub record HeadRow (p : List ℕ) (id start end from to : ℕ) : Type 0 where
   pub ordered : from ≤ to
   pub within : to ≤ length p
 
-abbrev pub HeadSays : List ℕ → Head → Type 0
-HeadSays p (head.Found id start end from to) = HeadRow p id start end from to
-HeadSays p head.Absent = Unit {0}
+abbrev pub HeadIs : List ℕ → Head → Type 0
+HeadIs p (head.Found id start end from to) = HeadRow p id start end from to
+HeadIs p head.Absent = Unit {0}
 
 -- the part p says a segment that passes, and its record, written from a place on, ends at the place to
 pub record SegmentTaken (parent p b : List ℕ) (used id to : ℕ) (b′ : List ℕ) : Type 0 where
@@ -81,22 +81,22 @@ pub record SegmentTaken (parent p b : List ℕ) (used id to : ℕ) (b′ : List 
   pub valid : (d : ℕ) → Sound d ScalableAssignedSegment p
   pub says : readSegment p ≡ wireSegment (pathOf parent) segment
   pub passes : Passing parent (wireSegment (pathOf parent) segment)
-  pub good : okSegment segment ≡ true
+  pub segment-ok : okSegment segment ≡ true
   pub fits : FitSegment segment
   pub id-is : id ≡ segment .segmentId
   pub to-is : to ≡ used + sizeSegment segment
   pub room : to ≤ length b
   pub wrote : b′ ≡ put b used (encodeSegment segment)
 
-abbrev pub SegmentSays : (parent p b : List ℕ) (used : ℕ) (b′ : List ℕ) → Segment → Type 0
-SegmentSays parent p b used b′ (segment.Taken id to) = SegmentTaken parent p b used id to b′
-SegmentSays parent p b used b′ segment.Other = Unit {0}
+abbrev pub SegmentIs : (parent p b : List ℕ) (used : ℕ) (b′ : List ℕ) → Segment → Type 0
+SegmentIs parent p b used b′ (segment.Taken id to) = SegmentTaken parent p b used id to b′
+SegmentIs parent p b used b′ segment.Other = Unit {0}
 
 -- ---- an assignment's segments
 
 -- the record of the segment is well formed
-abbrev pub Good : AssignedSegment → Type 0
-Good g = okSegment g ≡ true
+abbrev pub OkSegment : AssignedSegment → Type 0
+OkSegment g = okSegment g ≡ true
 
 -- from the place at on the part s has segments alone, so many, which pass; written from a place on, they end at the place to. Where the flag
 -- `after` holds, `before` held, and their ids rise from low on
@@ -107,7 +107,7 @@ pub record SegmentsFrom (parent s : List ℕ) (at low : ℕ) (before : Bool) (b 
   pub valid : (d : ℕ) → Each (Sound d ScalableAssignedSegment) parts
   pub says : map readSegment parts ≡ map (wireSegment (pathOf parent)) segments
   pub passes : Each (Passing parent) (map (wireSegment (pathOf parent)) segments)
-  pub good : Each Good segments
+  pub segment-ok : Each OkSegment segments
   pub fits : FitSegments segments
   pub rises : after ≡ true → (before ≡ true) × (okFrom low segments ≡ true)
   pub count-is : count ≡ length segments

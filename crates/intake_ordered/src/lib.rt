@@ -12,8 +12,8 @@ ghost use Rattle.slice_int.specs.Put.{put};
 ghost use Rattle.utf8.specs.Table.{isUtf8};
 ghost use Rattle.name_parents.specs.Parents.{isParent};
 ghost use Rattle.packed.specs.Assignment.{decodeRanges, okBuckets};
-ghost use Rattle.intake_ordered.specs.Walk.{BucketsSay, HeadSays, SegmentSays, SegmentsSay};
-ghost use Rattle.intake_ordered.specs.Taken.{PlainSays};
+ghost use Rattle.intake_ordered.specs.Walk.{BucketsSay, HeadIs, SegmentIs, SegmentsSay};
+ghost use Rattle.intake_ordered.specs.Taken.{OrderedIs};
 use intake_ordered_bucket::Bucket;
 use intake_ordered_bucket::MAX_HASH;
 use topic_types::KeyRange;
@@ -53,8 +53,8 @@ enum Segments {
 }
 
 // What is told of an assignment.
-pub enum PlainIntake {
-    // It is good: its epoch, and the packed assignment's size.
+pub enum OrderedIntake {
+    // It is valid: its epoch, and the packed assignment's size.
     Taken(u64, usize),
     // Nothing.
     Other,
@@ -119,7 +119,7 @@ fn buckets_apart(b: &[u8], place: usize, n: usize, rising: bool) -> bool
 
 // Fields 1 to 4 of the segment p.
 fn head_of(p: &[u8]) -> Head
-    ensures { λ r. ⌜ HeadSays (now (p .entry)) r ⌝ }
+    ensures { λ r. ⌜ HeadIs (now (p .entry)) r ⌝ }
 {
     let NumberAt::Found(id, second) = wire_ordered::number_at(1, p, 0) else {
         return Head::Absent;
@@ -157,7 +157,7 @@ fn write_head(b: &mut [u8], at: usize, id: u64, start: u64, end: u64, count: usi
 fn take_segment(p: &[u8], parent: &[u8], b: &mut [u8], used: usize) -> Segment
     requires { ⌜ (isParent (now parent) ≡ true) × (isUtf8 (now parent) ≡ true) ⌝ }
     requires { ⌜ (length (now b) ≡ 2048) × (used ≤ 2048) ⌝ }
-    ensures { λ r. ⌜ SegmentSays (now (parent .entry)) (now (p .entry)) (now (b .entry)) used (now (b .exit)) r ⌝ }
+    ensures { λ r. ⌜ SegmentIs (now (parent .entry)) (now (p .entry)) (now (b .entry)) used (now (b .exit)) r ⌝ }
 {
     let Head::Found(id, start, end, from, to) = head_of(p) else {
         return Segment::Other;
@@ -215,24 +215,24 @@ fn take_segments(s: &[u8], first: usize, parent: &[u8], b: &mut [u8]) -> Segment
 }
 
 // The assignment in the part s below a parent, packed at the front of the buffer. What the buffer holds where nothing is told is free.
-pub fn take_plain(s: &[u8], parent: &[u8], b: &mut [u8]) -> PlainIntake
+pub fn take_ordered(s: &[u8], parent: &[u8], b: &mut [u8]) -> OrderedIntake
     requires { ⌜ length (now b) ≡ 2048 ⌝ }
     requires { ⌜ isUtf8 (now parent) ≡ true ⌝ }
-    ensures { λ r. ⌜ PlainSays (now (parent .entry)) (now (s .entry)) (now (b .entry)) r (now (b .exit)) ⌝ }
+    ensures { λ r. ⌜ OrderedIs (now (parent .entry)) (now (s .entry)) (now (b .entry)) r (now (b .exit)) ⌝ }
 {
     if !name_topic::is_parent(parent) {
-        return PlainIntake::Other;
+        return OrderedIntake::Other;
     }
     let NumberAt::Found(epoch, first) = wire_ordered::number_at(1, s, 0) else {
-        return PlainIntake::Other;
+        return OrderedIntake::Other;
     };
     let Segments::All(count, used, rising) = take_segments(s, first, parent, b) else {
-        return PlainIntake::Other;
+        return OrderedIntake::Other;
     };
     if !packed_sort::order_records(b, count, rising) {
-        return PlainIntake::Other;
+        return OrderedIntake::Other;
     }
     slice_int::write_u16(b, 8, count as u16);
     slice_int::write_u64(b, 0, epoch);
-    PlainIntake::Taken(epoch, used)
+    OrderedIntake::Taken(epoch, used)
 }

@@ -21,8 +21,8 @@ use Rattle.wire.specs.Fields.{number, Field, field, fieldsOf}
 use Rattle.wire.proofs.VarintLaws.{varint-one, varint-behind-two, shifted-ends}
 use Rattle.wire.proofs.FieldLaws.{part-fits}
 use Rattle.wire.proofs.FieldsLaws.{fields-nil}
-use Rattle.wire_ordered.specs.Plain.{NumberIs, PartField}
-use Rattle.wire_ordered.proofs.PlainLaws.{number-field, part-field}
+use Rattle.wire_ordered.specs.Ordered.{NumberIs, PartField}
+use Rattle.wire_ordered.proofs.OrderedLaws.{number-field, part-field}
 use Rattle.intake_ordered_bucket.specs.Buckets.{RangeRow, WordIs, BucketAt}
 
 -- nothing is left of a row

@@ -10,7 +10,7 @@ use Rattle.topic_types.specs.KeyRanges.{maxHash}
 use Rattle.slice_int.specs.Be.{beAt}
 use Rattle.wire.specs.declared.WireType.the-variants as wire
 use Rattle.wire.specs.Fields.{number, field, fieldsOf}
-use Rattle.wire_ordered.specs.Plain.{PartField}
+use Rattle.wire_ordered.specs.Ordered.{PartField}
 use Rattle.intake_ordered_bucket.specs.declared.RangeIn.{RangeIn}
 use Rattle.intake_ordered_bucket.specs.declared.RangeIn.the-variants as range-in
 use Rattle.intake_ordered_bucket.specs.declared.Bucket.{Bucket}
@@ -22,9 +22,9 @@ pub record RangeRow (q : List ℕ) (start end : ℕ) : Type 0 where
   pub order : start ≤ end
   pub high : end ≤ maxHash
 
-abbrev pub RangeSays : List ℕ → RangeIn → Type 0
-RangeSays q (range-in.Found start end) = RangeRow q start end
-RangeSays q range-in.Absent = Unit {0}
+abbrev pub RangeIs : List ℕ → RangeIn → Type 0
+RangeIs q (range-in.Found start end) = RangeRow q start end
+RangeIs q range-in.Absent = Unit {0}
 
 -- the word holds the 8 bytes of the part p from the second behind a place on
 pub record WordIs (p : List ℕ) (at word : ℕ) : Type 0 where
@@ -37,11 +37,11 @@ pub record BucketAt (p : List ℕ) (at start end next : ℕ) : Type 0 where
   pub part : PartField 5 p at from next
   pub range : RangeRow (take (next - from) (drop from p)) start end
 
-abbrev pub BucketSays : List ℕ → ℕ → Bucket → Type 0
-BucketSays p at (bucket.Found start end next) = BucketAt p at start end next
-BucketSays p at bucket.Absent = Unit {0}
+abbrev pub BucketIs : List ℕ → ℕ → Bucket → Type 0
+BucketIs p at (bucket.Found start end next) = BucketAt p at start end next
+BucketIs p at bucket.Absent = Unit {0}
 
 -- the same of a field of 10 bytes
-abbrev pub WideSays : List ℕ → ℕ → RangeIn → Type 0
-WideSays p at (range-in.Found start end) = BucketAt p at start end (at + 10)
-WideSays p at range-in.Absent = Unit {0}
+abbrev pub WideIs : List ℕ → ℕ → RangeIn → Type 0
+WideIs p at (range-in.Found start end) = BucketAt p at start end (at + 10)
+WideIs p at range-in.Absent = Unit {0}

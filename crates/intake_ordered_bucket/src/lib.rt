@@ -3,7 +3,7 @@
 // A bucket whose numbers have three bytes each is told by one word, any other field by field. What is told is so; nothing is told of a bucket in any other
 // form, of one that is reversed, or of one that ends beyond the key space.
 ghost use Prim.Native.Nat.{_<_};
-ghost use Rattle.intake_ordered_bucket.specs.Buckets.{RangeSays, WordIs, WideSays, BucketSays};
+ghost use Rattle.intake_ordered_bucket.specs.Buckets.{RangeIs, WordIs, WideIs, BucketIs};
 use wire_ordered::NumberAt;
 use wire_ordered::Part;
 
@@ -26,7 +26,7 @@ pub enum Bucket {
 
 // The range that the part is: fields 1 and 2, and nothing else.
 fn range_in(q: &[u8]) -> RangeIn
-    ensures { λ r. ⌜ RangeSays (now (q .entry)) r ⌝ }
+    ensures { λ r. ⌜ RangeIs (now (q .entry)) r ⌝ }
 {
     let NumberAt::Found(start, second) = wire_ordered::number_at(1, q, 0) else {
         return RangeIn::Absent;
@@ -61,7 +61,7 @@ fn bucket_word(p: &[u8], at: usize) -> u64
 
 // The bucket at a place, each number of which has three bytes: one word tells it.
 fn wide_bucket(p: &[u8], at: usize) -> RangeIn
-    ensures { λ r. ⌜ WideSays (now (p .entry)) at r ⌝ }
+    ensures { λ r. ⌜ WideIs (now (p .entry)) at r ⌝ }
 {
     let w = bucket_word(p, at);
     if w / 72057594037927936 != 8 {
@@ -109,7 +109,7 @@ fn wide_bucket(p: &[u8], at: usize) -> RangeIn
 
 // The bucket of the segment p at a place.
 pub fn bucket_at(p: &[u8], at: usize) -> Bucket
-    ensures { λ r. ⌜ BucketSays (now (p .entry)) at r ⌝ }
+    ensures { λ r. ⌜ BucketIs (now (p .entry)) at r ⌝ }
 {
     if let RangeIn::Found(start, end) = wide_bucket(p, at) {
         return Bucket::Found(start, end, at + 10);

@@ -1,5 +1,5 @@
 -- Laws of one bucket range: what the tests of `is_bucket` say of it (`negative-fails`, `high-fails`, `order-decides`), the bounds of a
--- good one (`bucket-fits`), and its ends as they are held (`magnitude-negative`, `magnitude-is`, `magnitude-fits`).
+-- valid one (`bucket-fits`), and its ends as they are held (`magnitude-negative`, `magnitude-is`, `magnitude-fits`).
 -- Assumes nothing.
 use Prim.Native.Nat.{ℕ, _≤_, _<_}
 use native.Mathlib.Decide.{decLe}
@@ -54,7 +54,7 @@ order-decides (pos s) (pos e) g h = in-order s e h (decLe s e)
 order-decides (pos s) (negsuc e) g h = refl
 order-decides (negsuc s) e g h = absurd (true≢false g)
 
--- ---- a good bucket
+-- ---- a valid bucket
 
 pub bucket-fits : (a e : ℤ) → isBucket a e ≡ true → (magnitude a ≤ magnitude e) × (magnitude e < 65536)
 bucket-fits (pos s) (pos e) h =

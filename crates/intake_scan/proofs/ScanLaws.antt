@@ -1,7 +1,7 @@
 -- Laws of the walk over a segment: what it has kept of the buckets and written of them.
 --
 -- In order: what is written, of a range (`range-written`) and of a bucket (`written-by`, and from it the length, what is kept, and the
--- bytes of a good one); the ranges from a place on (`rangesFrom`, `ranges-next`); the walk's state (`Scanned`) at the start
+-- bytes of a valid one); the ranges from a place on (`rangesFrom`, `ranges-next`); the walk's state (`Scanned`) at the start
 -- (`scanned-start`), where no bucket stands (`scanned-stays`), at a bucket (`scanned-next`) and at the end (`scanned-done`).
 -- Assumes nothing.
 use Prim.Native.Nat.{ℕ, _+_, _-_, _*_, _/_, _≤_, _<_}
@@ -30,7 +30,7 @@ use Rattle.intake_content.specs.Content.{bucketOk, bucketOf}
 use Rattle.intake_scan.specs.declared.BucketRun.{BucketRun}
 use Rattle.intake_scan.specs.declared.SegmentScan.{SegmentScan}
 use Rattle.intake_scan.specs.Scan.{noBuckets, withBucket, runOf, bucketWritten, ScanIs}
-use Rattle.intake_scan.proofs.RunLaws.{bucket-good, good-next, count-most, run-count}
+use Rattle.intake_scan.proofs.RunLaws.{bucket-valid, valid-next, count-most, run-count}
 
 -- ---- what is written
 
@@ -72,7 +72,7 @@ module _ (o b : List ℕ) (at : ℕ) (h : at ≤ length o) (l : length b ≡ len
   written-by : (P : List ℕ → Type 0) → P b
       → (at + 4 * run .count + 4 ≤ length o → P (put b (at + 4 * run .count) (encodeRange (bucketOf r))))
       → P (bucketWritten run r b at room)
-  written-by P x y = go (run .good && bucketOk r) (ltb (run .count) room) refl
+  written-by P x y = go (run .valid && bucketOk r) (ltb (run .count) room) refl
     where
       go : (s t : Bool) → ltb (run .count) room ≡ t
           → P (cond s (cond t (put b (at + 4 * run .count) (encodeRange (bucketOf r))) b) b)
@@ -90,12 +90,12 @@ module _ (o b : List ℕ) (at : ℕ) (h : at ≤ length o) (l : length b ≡ len
       written-by (λ m. take at m ≡ take at o) e
       (λ g. take-before b at (at + 4 * run .count) (encodeRange (bucketOf r)) (omega arith) (omega arith) ∙ e)
 
-  -- a good bucket, with room for it and for those behind it
-  written-good : (rs : List KeyRange) → run .good ≡ true → bucketOk r ≡ true → at + 4 * (run .count + (1 + length rs)) ≤ length o
+  -- a valid bucket, with room for it and for those behind it
+  written-valid : (rs : List KeyRange) → run .valid ≡ true → bucketOk r ≡ true → at + 4 * (run .count + (1 + length rs)) ≤ length o
       → put b (at + 4 * run .count) (encodeRanges (bucketOf r ∷ rs))
       ≡ put (bucketWritten run r b at room) (at + 4 * (run .count + 1)) (encodeRanges rs)
   unfolding encodeRanges
-  written-good rs g k e =
+  written-valid rs g k e =
       let E : List ℕ = encodeRange (bucketOf r) in
       let z : length E ≡ 4 = length-range (bucketOf r) in
       let n : at + 4 * run .count + length E ≡ at + 4 * (run .count + 1) = omega arith in
@@ -128,7 +128,7 @@ pub record Scanned (all left : List IntRange) (at : ℕ) (o b : List ℕ) (from 
   pub ran : Kept withBucket (runOf all) run left
   pub few : run .count ≤ from
   -- where there is room for all: with those that are left, all are written
-  pub wrote : run .good ≡ true → at + 4 * (run .count + length left) ≤ length o
+  pub wrote : run .valid ≡ true → at + 4 * (run .count + length left) ≤ length o
       → put o at (encodeRanges (map bucketOf all)) ≡ put b (at + 4 * run .count) (encodeRanges (map bucketOf left))
   pub kept : take at b ≡ take at o
   pub long : length b ≡ length o
@@ -156,11 +156,11 @@ module _ {all left : List IntRange} {at : ℕ} {o b : List ℕ} {from : ℕ} {ru
         ran = kept-next refl f (m .ran);
         few = rw f (omega (arith, k .few, count-most run r));
         wrote = λ g j.
-            let s = good-next run r (rw f at g) in
-            let n : run′ .count ≡ run .count + 1 = ap (λ (x : BucketRun). x .count) (f ∙ bucket-good run r (s .0) (s .1)) in
+            let s = valid-next run r (rw f at g) in
+            let n : run′ .count ≡ run .count + 1 = ap (λ (x : BucketRun). x .count) (f ∙ bucket-valid run r (s .0) (s .1)) in
             let l : length (map bucketOf rest) ≡ length rest = length-map rest bucketOf in
             m .wrote (s .0) (omega arith)
-            ∙ written-good o b at i (k .long) run r (map bucketOf rest) (s .0) (s .1) (omega arith)
+            ∙ written-valid o b at i (k .long) run r (map bucketOf rest) (s .0) (s .1) (omega arith)
             ∙ rw (n, w);
         kept = rw w (written-kept o b at i (k .long) run r (k .kept));
         long = rw w (written-long o b at i (k .long) run r);

@@ -21,13 +21,13 @@ use Rattle.intake_scan.specs.declared.SegmentScan.{SegmentScan}
 
 -- before the first bucket
 abbrev pub noBuckets : BucketRun
-noBuckets = record { good = true; count = 0; last = record { start = pos 0; end = pos 0 }; above = 0; rising = true }
+noBuckets = record { valid = true; count = 0; last = record { start = pos 0; end = pos 0 }; above = 0; rising = true }
 
--- a good bucket behind others
+-- a valid bucket behind others
 abbrev pub counted : BucketRun → IntRange → BucketRun
 counted run r =
     record {
-      good = true;
+      valid = true;
       count = run .count + 1;
       last = r;
       above = bucketOf r .end + 1;
@@ -36,11 +36,11 @@ counted run r =
 
 -- a bucket that fails: `count` is its place
 abbrev pub failed : BucketRun → IntRange → BucketRun
-failed run r = record { good = false; count = run .count; last = r; above = run .above; rising = run .rising }
+failed run r = record { valid = false; count = run .count; last = r; above = run .above; rising = run .rising }
 
 -- one more bucket; behind one that failed, nothing is looked at
 unfoldable pub withBucket : BucketRun → IntRange → BucketRun
-withBucket run r = cond (run .good) (cond (bucketOk r) (counted run r) (failed run r)) run
+withBucket run r = cond (run .valid) (cond (bucketOk r) (counted run r) (failed run r)) run
 
 unfoldable pub runOf : List IntRange → BucketRun
 runOf rs = foldl withBucket noBuckets rs
@@ -51,12 +51,12 @@ roomFor b at count room range = cond (ltb count room) (put b (at + 4 * count) (e
 
 -- what `withBucket` writes
 abbrev pub bucketWritten : BucketRun → IntRange → (b : List ℕ) (at room : ℕ) → List ℕ
-bucketWritten run r b at room = cond (run .good && bucketOk r) (roomFor b at (run .count) room (bucketOf r)) b
+bucketWritten run r b at room = cond (run .valid && bucketOk r) (roomFor b at (run .count) room (bucketOf r)) b
 
--- the walk over the segment p, with the buckets written to b from the place at on, where they are good and there is room
+-- the walk over the segment p, with the buckets written to b from the place at on, where they are valid and there is room
 pub record ScanIs (p : List ℕ) (at : ℕ) (b : List ℕ) (r : SegmentScan) (b′ : List ℕ) : Type 0 where
   pub head : SegmentIs p (r .head)
   pub run : r .run ≡ runOf (readSegment p .bucketRanges)
-  pub wrote : r .run .good ≡ true → at + 4 * length (readSegment p .bucketRanges) ≤ length b → b′ ≡ put b at (encodeRanges (bucketsOf (readSegment p)))
+  pub wrote : r .run .valid ≡ true → at + 4 * length (readSegment p .bucketRanges) ≤ length b → b′ ≡ put b at (encodeRanges (bucketsOf (readSegment p)))
   pub kept : take at b′ ≡ take at b
   pub long : length b′ ≡ length b

@@ -20,7 +20,7 @@ use wire_values::Front;
 // What is known of the buckets so far.
 pub struct BucketRun {
     // None has failed.
-    pub good: bool,
+    pub valid: bool,
     // How many there are; where one has failed, its place.
     pub count: usize,
     // The last one; where one has failed, that one.
@@ -124,13 +124,13 @@ fn write_bucket(b: &mut [u8], at: usize, count: usize, room: usize, range: KeyRa
     }
 }
 
-// One more bucket; a good one is written where there is room.
+// One more bucket; a valid one is written where there is room.
 fn next_bucket(run: BucketRun, r: IntRange, b: &mut [u8], at: usize, room: usize) -> BucketRun
     requires { ⌜ at + 4 * room ≤ length (now b) ⌝ }
     requires { ⌜ run .count + 1 < 2 ^ 64 ⌝ }
     ensures { λ x. ⌜ (x ≡ withBucket run r) × (now (b .exit) ≡ bucketWritten run r (now (b .entry)) at room) ⌝ }
 {
-    if !run.good {
+    if !run.valid {
         return run;
     }
     let count = run.count;
@@ -138,7 +138,7 @@ fn next_bucket(run: BucketRun, r: IntRange, b: &mut [u8], at: usize, room: usize
     let rising = run.rising;
     if !is_bucket(r) {
         return BucketRun {
-            good: false,
+            valid: false,
             count,
             last: r,
             above,
@@ -150,7 +150,7 @@ fn next_bucket(run: BucketRun, r: IntRange, b: &mut [u8], at: usize, room: usize
     let still = and(rising, above <= (range.start as u64));
     let next = ranges::above(range);
     BucketRun {
-        good: true,
+        valid: true,
         count: count + 1,
         last: r,
         above: next,
@@ -164,7 +164,7 @@ fn no_buckets() -> BucketRun
 {
     let last = IntRange { start: 0, end: 0 };
     BucketRun {
-        good: true,
+        valid: true,
         count: 0,
         last,
         above: 0,

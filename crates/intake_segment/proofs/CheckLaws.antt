@@ -25,7 +25,7 @@ use Rattle.refusal.specs.declared.Refusal.{Refusal}
 use Rattle.refusal.specs.declared.Refusal.the-variants.{InvalidRange, InvalidBucketRange, OverlappingBucketRanges}
 use Rattle.refusal.specs.declared.Refusal.the-variants.{InvalidParent, AttachmentMismatch, BucketOutsideSegment}
 use Rattle.ranges.specs.Overlap.{anyOverlap}
-use Rattle.ranges_marks.specs.Marks.{AllGood, more}
+use Rattle.ranges_marks.specs.Marks.{AllValid, more}
 use Rattle.packed.specs.Assignment.{inOrder, allInOrder}
 use Rattle.packed.proofs.RoundLaws.{FitRanges}
 use Rattle.name_parents.specs.Parents.{isParent}
@@ -39,10 +39,10 @@ use Rattle.intake_content.specs.declared.Outside.the-variants.{At, Nothing}
 use Rattle.intake_content.specs.Content.{wireId, bucketFault, bucketOf, bucketsOf, overlapFault, firstOutside, outsideOf, outsideFault, nameFault, segmentFault}
 use Rattle.intake_content.proofs.OutsideLaws.{place-found, place-none}
 use Rattle.intake_scan.specs.declared.SegmentScan.{SegmentScan}
-use Rattle.intake_scan.proofs.RunLaws.{run-bad, run-good, run-count, run-ok, run-rising}
+use Rattle.intake_scan.proofs.RunLaws.{run-bad, run-valid, run-count, run-ok, run-rising}
 use Rattle.intake_buckets.specs.Rows.{bucketsFrom}
 use Rattle.intake_segment.specs.declared.Verdict.{Verdict}
-use Rattle.intake_segment.specs.declared.Verdict.the-variants.{Good, Refused}
+use Rattle.intake_segment.specs.declared.Verdict.the-variants.{Accepted, Refused}
 use Rattle.intake_segment.specs.Verdicts.{verdictOf, ScanOf}
 
 abbrev idOf : SegmentHead → SegmentId
@@ -69,8 +69,8 @@ module _ (parent : List ℕ) {p : List ℕ} {head : SegmentHead} (S : SegmentIs 
     opened =
         rw (g, said, add-sub-cancel-left (head .«topic_start») (head .«topic_len»), rest parent 8, S .topic, S .start, S .end, S .id)
 
-    pub name-good : t ≡ true → Good ≡ verdictOf (nameFault parent (readSegment p))
-    name-good y = sym (ap verdictOf opened ∙ rw y)
+    pub name-valid : t ≡ true → Accepted ≡ verdictOf (nameFault parent (readSegment p))
+    name-valid y = sym (ap verdictOf opened ∙ rw y)
 
     pub name-other : t ≡ false → Refused (AttachmentMismatch (idOf head)) ≡ verdictOf (nameFault parent (readSegment p))
     name-other y = sym (ap verdictOf opened ∙ rw y)
@@ -103,13 +103,13 @@ module _ (parent : List ℕ) {p : List ℕ} {head : SegmentHead} (S : SegmentIs 
 -- ---- the buckets, then the others
 
 -- in order, with ends of two bytes: such ranges can be marked
-all-good : (rs : List KeyRange) → allInOrder rs ≡ true → FitRanges rs → AllGood rs
+all-valid : (rs : List KeyRange) → allInOrder rs ≡ true → FitRanges rs → AllValid rs
 unfolding allInOrder
-all-good [] o f = AllGood.none
-all-good (r ∷ rs) o f =
+all-valid [] o f = AllValid.none
+all-valid (r ∷ rs) o f =
     let p = both-true (inOrder r) (allInOrder rs) o in
     let e = f .0 .end in
-    more (record { in-order = leb-true (r .start) (r .end) (p .0); small = omega arith }) (all-good rs (p .1) (f .1))
+    more (record { in-order = leb-true (r .start) (r .end) (p .0); small = omega arith }) (all-valid rs (p .1) (f .1))
 
 none-left : {A : Type 0} (xs : List A) → length xs ≡ 0 → xs ≡ []
 none-left [] e = refl
@@ -122,26 +122,26 @@ bucketsFault parent p =
     orElse (bucketFault (wireId w) 0 (w .bucketRanges)) (orElse (overlapFault w) (insideFault parent p))
 
 module _ (parent : List ℕ) {p : List ℕ} {scan : SegmentScan} (S : ScanOf p scan) where
-  pub bucket-bad : scan .run .good ≡ false
+  pub bucket-bad : scan .run .valid ≡ false
       → Refused (InvalidBucketRange (idOf (scan .head)) (scan .run .count) (scan .run .last .start) (scan .run .last .end))
       ≡ verdictOf (bucketsFault parent p)
   bucket-bad g =
       let b = run-bad (readSegment p .bucketRanges) (wireId (readSegment p)) (rw (S .run) at g) in
       rw (b, S .run, S .head .id)
 
-  module _ (g : scan .run .good ≡ true) where
-    good : (id : SegmentId) → bucketFault id 0 (readSegment p .bucketRanges) ≡ none
-    good = run-good (readSegment p .bucketRanges) (rw (S .run) at g)
+  module _ (g : scan .run .valid ≡ true) where
+    valid : (id : SegmentId) → bucketFault id 0 (readSegment p .bucketRanges) ≡ none
+    valid = run-valid (readSegment p .bucketRanges) (rw (S .run) at g)
 
-    pub buckets-good : AllGood (bucketsFrom p 0)
-    buckets-good =
+    pub buckets-valid : AllValid (bucketsFrom p 0)
+    buckets-valid =
         let o = run-ok (readSegment p .bucketRanges) (rw (S .run) at g) in
-        subst AllGood (buckets-are p) (all-good (bucketsOf (readSegment p)) (o .0) (o .1))
+        subst AllValid (buckets-are p) (all-valid (bucketsOf (readSegment p)) (o .0) (o .1))
 
     -- no two share a value
     apart : anyOverlap (bucketsOf (readSegment p)) ≡ false → {r : Verdict} → r ≡ verdictOf (insideFault parent p)
         → r ≡ verdictOf (bucketsFault parent p)
-    apart a e = rw (good (wireId (readSegment p)), a) e
+    apart a e = rw (valid (wireId (readSegment p)), a) e
 
     -- there are none
     pub buckets-none : scan .run .count ≡ 0 → {r : Verdict} → r ≡ verdictOf (nameFault parent (readSegment p))
@@ -166,7 +166,7 @@ module _ (parent : List ℕ) {p : List ℕ} {scan : SegmentScan} (S : ScanOf p s
       pub buckets-overlap : t ≡ true → Refused (OverlappingBucketRanges (idOf (scan .head))) ≡ verdictOf (bucketsFault parent p)
       buckets-overlap y =
           let a : anyOverlap (bucketsOf (readSegment p)) ≡ true = ap anyOverlap (buckets-are p) ∙ sym said ∙ y in
-          rw (good (wireId (readSegment p)), a, S .head .id)
+          rw (valid (wireId (readSegment p)), a, S .head .id)
 
 -- ---- the range, then the others
 
@@ -181,7 +181,7 @@ module _ (parent : List ℕ) {p : List ℕ} {head : SegmentHead} (S : SegmentIs 
   unfolding segmentFault
   range-bad h = rw (range-is h, S .id)
 
-  pub range-good : {k : KeyRange} {r : Verdict} → newKeyRange (head .«hash_start») (head .«hash_end») ≡ Valid k
+  pub range-valid : {k : KeyRange} {r : Verdict} → newKeyRange (head .«hash_start») (head .«hash_end») ≡ Valid k
       → r ≡ verdictOf (bucketsFault parent p) → r ≡ verdictOf (segmentFault parent (readSegment p))
   unfolding segmentFault
-  range-good h e = rw (range-is h) e
+  range-valid h e = rw (range-is h) e

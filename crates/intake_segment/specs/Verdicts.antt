@@ -12,10 +12,10 @@ use Rattle.wire_readers.specs.Places.{SegmentIs}
 use Rattle.intake_scan.specs.declared.SegmentScan.{SegmentScan}
 use Rattle.intake_scan.specs.Scan.{runOf}
 use Rattle.intake_segment.specs.declared.Verdict.{Verdict}
-use Rattle.intake_segment.specs.declared.Verdict.the-variants.{Good, Refused}
+use Rattle.intake_segment.specs.declared.Verdict.the-variants.{Accepted, Refused}
 
 abbrev pub verdictOf : Option Refusal → Verdict
-verdictOf none = Good
+verdictOf none = Accepted
 verdictOf (some x) = Refused x
 
 -- the scan is the segment p's

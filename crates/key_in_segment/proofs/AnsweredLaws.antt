@@ -1,6 +1,6 @@
 -- Every answer of `keyInSegment` means what 02 says (`answer-is`).
 --
--- In order: the segment that is found is good, and its range lies in the key space (`found-good`, `found-fit`); where
+-- In order: the segment that is found is valid, and its range lies in the key space (`found-valid`, `found-fit`); where
 -- no value is taken no bucket meets the range (`none-meets`); the answer by the least hash (`at-is`), by what is found
 -- (`in-is`), and of a packed assignment.
 -- Assumes nothing.
@@ -23,7 +23,7 @@ use Rattle.ranges_calls.specs.Calls.{holds}
 use Rattle.keyed.specs.Keyed.{find}
 use Rattle.packed.specs.Assignment.{AssignedSegment, idOf, slotSize, decodeAssignment, sizeAssignment, inOrder, allInOrder}
 use Rattle.packed.specs.Assignment.{okBuckets, okSegment, okFrom, okAssignment, startsAssignment, isAssignment}
-use Rattle.packed.proofs.AssignmentLaws.{ok-good, ok-tail}
+use Rattle.packed.proofs.AssignmentLaws.{ok-segment, ok-tail}
 use Rattle.packed.proofs.RoundLaws.{FitSegment, FitSegments, fit-assignment}
 use Rattle.key_murmur3.specs.Murmur3.{murmur3}
 use Rattle.key_lookup.specs.Lookup.{keyHash, anyHolds, takes}
@@ -47,11 +47,11 @@ found-by P id x gs g px rest e = go (eqb id (x .segmentId)) refl
     go true h = subst P (Option·some-injective x g (sym (rw h) ∙ e)) px
     go false h = rest (sym (rw h) ∙ e)
 
-found-good : (id low : ℕ) (gs : List AssignedSegment) (g : AssignedSegment) → okFrom low gs ≡ true → find idOf id gs ≡ some g → okSegment g ≡ true
-found-good id low [] g o e = absurd (Option·none-ne-some g e)
-found-good id low (x ∷ gs) g o e =
-    found-by (λ (y : AssignedSegment). okSegment y ≡ true) id x gs g (ok-good low x gs o)
-    (found-good id (suc (x .segmentId)) gs g (ok-tail low x gs o)) e
+found-valid : (id low : ℕ) (gs : List AssignedSegment) (g : AssignedSegment) → okFrom low gs ≡ true → find idOf id gs ≡ some g → okSegment g ≡ true
+found-valid id low [] g o e = absurd (Option·none-ne-some g e)
+found-valid id low (x ∷ gs) g o e =
+    found-by (λ (y : AssignedSegment). okSegment y ≡ true) id x gs g (ok-segment low x gs o)
+    (found-valid id (suc (x .segmentId)) gs g (ok-tail low x gs o)) e
 
 found-fit : (id : ℕ) (gs : List AssignedSegment) (g : AssignedSegment) → FitSegments gs → find idOf id gs ≡ some g → FitSegment g
 found-fit id [] g f e = absurd (Option·none-ne-some g e)
@@ -111,7 +111,7 @@ module _ (gs : List AssignedSegment) (id : ℕ) (g : AssignedSegment) (e : find 
 in-is : (gs : List AssignedSegment) (id : ℕ) → okFrom 0 gs ≡ true → FitSegments gs → (o : Option AssignedSegment) → find idOf id gs ≡ o
     → Answered gs id (keyIn o)
 unfolding keyIn
-in-is gs id ok fit (some g) e = at-is gs id g e (found-good id 0 gs g ok e) (found-fit id gs g fit e) (leastTaken g) (least-taken g)
+in-is gs id ok fit (some g) e = at-is gs id g e (found-valid id 0 gs g ok e) (found-fit id gs g fit e) (leastTaken g) (least-taken g)
 in-is gs id ok fit none e = λ g f. absurd (Option·none-ne-some g (sym e ∙ f))
 
 pub answer-is : (l : List ℕ) (id : ℕ) → Bytes l → isAssignment l ≡ true → Answered (decodeAssignment l .segments) id (keyInSegment l id)

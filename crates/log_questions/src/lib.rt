@@ -73,7 +73,7 @@ pub fn churn(window: &[u8]) -> bool {
 // Whether a second is open.
 fn is_open(contract: &[u8], second: u64) -> bool {
     match hours::is_open(contract, second) {
-        OpenAnswer::Told(b) => yes(b),
+        OpenAnswer::Answered(b) => yes(b),
         OpenAnswer::Refused(x) => refused(x),
     }
 }
@@ -92,7 +92,7 @@ fn check_log(deltas: &[u8], line: &[u8]) -> bool {
     let mut log = io::large_buffer();
     let n = log_lines::bytes_at(line, 2, &mut log);
     match attach_log::check(deltas, &log[..n]) {
-        LogAnswer::Told(b) => yes(b),
+        LogAnswer::Answered(b) => yes(b),
         LogAnswer::Refused(x) => refused(x),
     }
 }

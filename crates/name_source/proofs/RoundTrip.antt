@@ -114,13 +114,13 @@ starts-append p q = rw take-append-seam (same-refl p)
 pub reads-built : (path : List ℕ) (s e : ℕ) (id : SegmentId) → isPath path ≡ true → s ≤ e → e ≤ maxHash → id .0 < 2 ^ 64
     → parseSegmentTopic (segmentTopic path (keyRange s e) id) ≡ Name (10 + length path) (keyRange s e) id
 unfolding segmentTopic descriptor
-reads-built path s e id good h k b =
+reads-built path s e id valid h k b =
     let d : List ℕ = behindPath s e (id .0) in
     let n : ℕ = length path in
     let t : List ℕ = segmentScheme ++ (path ++ (0x2F ∷ d)) in
     let slash : lastSlash (drop 10 t) ≡ At n =
     last-slash-append path d (behind-no-slash s e (id .0) (omega arith) (omega arith) b) in
-    let whole : isPath (take n (drop 10 t)) ≡ true = rw take-append-seam good in
+    let whole : isPath (take n (drop 10 t)) ≡ true = rw take-append-seam valid in
     let f : 10 + n + 1 ≡ 10 + (n + 1) = omega arith in
     let rest : drop (10 + n + 1) t ≡ d =
     ap (λ (m : ℕ). drop m t) f ∙ sym (drop-drop (n + 1) 10 t) ∙ drop-append-add path (0x2F ∷ d) 1 in

@@ -2,8 +2,8 @@
 --
 -- In order: the range and the ranges at a place (`range-at`, `ranges-at`), the record and the records there (`segment-at`, `segments-at`),
 -- and how many there are; a row by its first range (`overlaps-found` to `ok-pass`), and a row that rises (`rising-ok`); segments by their
--- first (`ok-good`, `ok-head`, `ok-tail`, `ok-weaken`); what `record_at` reads (`Seen`) and answers (`record-short` to `record-good`), and
--- what its answer says (`Got`, `got`); one turn of reading segments (`size-turn`, `cut`, `stale`, `onward`); a walk over a packed
+-- first (`ok-segment`, `ok-head`, `ok-tail`, `ok-weaken`); what `record_at` reads (`Seen`) and answers (`record-short` to `record-valid`), and
+-- what its answer says (`RecordIs`, `record-is`); one turn of reading segments (`size-turn`, `record-malformed`, `id-low`, `id-rises`); a walk over a packed
 -- assignment (specs/Rest): `rest-start`, `rest-head`, `rest-next`.
 --
 -- A caller that walks over a packed assignment needs `segments-at` and `Rest`; the rest serves the readers of src/.
@@ -28,7 +28,7 @@ use Rattle.slice_int.specs.Be.{beAt}
 use Rattle.packed.specs.Assignment.{AssignedSegment, slotSize, num, decodeRange, decodeRanges, decodeSegment, decodeSegments, decodeAssignment}
 use Rattle.packed.specs.Assignment.{sizeSegment, sizeSegments, sizeAssignment, inOrder, allInOrder, okBuckets, okSegment, okFrom}
 use Rattle.packed.specs.Assignment.{okAssignment, startsAssignment}
-use Rattle.packed.specs.Answers.{recordGood, recordRead}
+use Rattle.packed.specs.Answers.{recordValid, recordRead}
 use Rattle.packed.specs.declared.RecordRead.the-variants.{Record, Malformed}
 pub use Rattle.packed.specs.Rest.{Rest}
 
@@ -146,9 +146,9 @@ rising-ok low rs e = simp (rising-in-order low rs e, rising-apart low rs e)
 -- ---- segments
 
 module _ (low : ℕ) (g : AssignedSegment) (gs : List AssignedSegment) (e : okFrom low (g ∷ gs) ≡ true) where
-  pub ok-good : okSegment g ≡ true
+  pub ok-segment : okSegment g ≡ true
   unfolding okFrom
-  ok-good = both-true (okSegment g) _ e .0
+  ok-segment = both-true (okSegment g) _ e .0
 
   pub ok-head : low ≤ g .segmentId
   unfolding okFrom
@@ -161,7 +161,7 @@ module _ (low : ℕ) (g : AssignedSegment) (gs : List AssignedSegment) (e : okFr
 pub ok-weaken : (low : ℕ) (gs : List AssignedSegment) → okFrom low gs ≡ true → okFrom 0 gs ≡ true
 unfolding okFrom
 ok-weaken low [] e = refl
-ok-weaken low (g ∷ gs) e = simp (ok-good low g gs e, le-leb 0 (g .segmentId) (omega arith), ok-tail low g gs e)
+ok-weaken low (g ∷ gs) e = simp (ok-segment low g gs e, le-leb 0 (g .segmentId) (omega arith), ok-tail low g gs e)
 
 -- two upper bounds are one
 leb-min : (a m n : ℕ) (x : Bool) → (leb a m && (leb a n && x)) ≡ (leb a (min m n) && x)
@@ -186,7 +186,7 @@ pub record Seen (s : List ℕ) (at i : ℕ) (r : KeyRange) (n : ℕ) : Type 0 wh
   pub count-is : n ≡ beAt 2 s (at + 12)
 
 pub record-short : (s : List ℕ) (at end : ℕ) → end < at + sizeSegment (decodeSegment (drop at s)) → Malformed ≡ recordRead s at end
-unfolding recordRead recordGood
+unfolding recordRead recordValid
 record-short s at end h = simp (lt-leb _ _ h)
 
 module _ (s : List ℕ) (at i : ℕ) (r : KeyRange) (n : ℕ) (x : Seen s at i r n) where
@@ -206,7 +206,7 @@ module _ (s : List ℕ) (at i : ℕ) (r : KeyRange) (n : ℕ) (x : Seen s at i r
 
   module _ (end : ℕ) where
     record-bad : okSegment (decodeSegment (drop at s)) ≡ false → Malformed ≡ recordRead s at end
-    unfolding recordRead recordGood
+    unfolding recordRead recordValid
     record-bad e = simp (e, and-false)
 
     pub record-reversed : r .end < r .start → Malformed ≡ recordRead s at end
@@ -216,9 +216,9 @@ module _ (s : List ℕ) (at i : ℕ) (r : KeyRange) (n : ℕ) (x : Seen s at i r
       pub record-clash : t ≡ false → Malformed ≡ recordRead s at end
       record-clash f = record-bad (seen-ok ∙ simp (le-leb (r .start) (r .end) h, ← e, f))
 
-      pub record-good : t ≡ true → at + 14 + 4 * n ≤ end → Record i (14 + 4 * n) ≡ recordRead s at end
-      unfolding recordRead recordGood
-      record-good f k =
+      pub record-valid : t ≡ true → at + 14 + 4 * n ≤ end → Record i (14 + 4 * n) ≡ recordRead s at end
+      unfolding recordRead recordValid
+      record-valid f k =
           let o : okSegment (decodeSegment (drop at s)) ≡ true = seen-ok ∙ simp (le-leb (r .start) (r .end) h, ← e, f) in
           let q : leb (at + (14 + 4 * n)) end ≡ true = le-leb (at + (14 + 4 * n)) end (omega arith) in
           let d : decodeSegment (drop at s) .segmentId ≡ i = ap (λ (g : AssignedSegment). g .segmentId) seen-segment in
@@ -226,17 +226,17 @@ module _ (s : List ℕ) (at i : ℕ) (r : KeyRange) (n : ℕ) (x : Seen s at i r
 
 -- ---- what the answer of `record_at` says
 
-pub record Got (s : List ℕ) (p end i z : ℕ) : Type 0 where
+pub record RecordIs (s : List ℕ) (p end i z : ℕ) : Type 0 where
   pub id-is : i ≡ decodeSegment (drop p s) .segmentId
   pub size-is : z ≡ sizeSegment (decodeSegment (drop p s))
   pub fits : p + sizeSegment (decodeSegment (drop p s)) ≤ end
   pub ok : okSegment (decodeSegment (drop p s)) ≡ true
 
-pub got : (s : List ℕ) (p end i z : ℕ) → Record i z ≡ recordRead s p end → Got s p end i z
-unfolding recordRead recordGood
-got s p end i z e = go (recordGood s p end) refl
+pub record-is : (s : List ℕ) (p end i z : ℕ) → Record i z ≡ recordRead s p end → RecordIs s p end i z
+unfolding recordRead recordValid
+record-is s p end i z e = go (recordValid s p end) refl
   where
-    go : (t : Bool) → recordGood s p end ≡ t → Got s p end i z
+    go : (t : Bool) → recordValid s p end ≡ t → RecordIs s p end i z
     go true h =
         let f : Record i z ≡ Record (decodeSegment (drop p s) .segmentId) (sizeSegment (decodeSegment (drop p s))) = e ∙ rw h in
         let b = both-true _ _ h in
@@ -246,11 +246,11 @@ got s p end i z e = go (recordGood s p end) refl
         let z : _≡_ {A = ℕ} 0 1 = cc in
         absurd (omega arith)
 
-not-good : (s : List ℕ) (p end : ℕ) → Malformed ≡ recordRead s p end → recordGood s p end ≡ false
+not-valid : (s : List ℕ) (p end : ℕ) → Malformed ≡ recordRead s p end → recordValid s p end ≡ false
 unfolding recordRead
-not-good s p end e = go (recordGood s p end) refl
+not-valid s p end e = go (recordValid s p end) refl
   where
-    go : (t : Bool) → recordGood s p end ≡ t → recordGood s p end ≡ false
+    go : (t : Bool) → recordValid s p end ≡ t → recordValid s p end ≡ false
     go true h =
         let f : Malformed ≡ Record (decodeSegment (drop p s) .segmentId) (sizeSegment (decodeSegment (drop p s))) = e ∙ rw h in
         let z : _≡_ {A = ℕ} 0 1 = cc in
@@ -259,7 +259,7 @@ not-good s p end e = go (recordGood s p end) refl
 
 -- ---- one turn of reading segments: what is left decides the whole
 
--- n segments from the place p on end by the place end, are good, and their ids rise from low on
+-- n segments from the place p on end by the place end, are valid, and their ids rise from low on
 abbrev pub rest : List ℕ → ℕ → ℕ → ℕ → ℕ → Bool
 rest s end p n low = leb (p + sizeSegments (decodeSegments n (drop p s))) end && okFrom low (decodeSegments n (drop p s))
 
@@ -276,27 +276,27 @@ module _ (s : List ℕ) (p n low end : ℕ) (h : 0 < n) where
   unfolding okFrom
   ok-turn z e = ap (okFrom low) (segments-at s p n z h e)
 
-  -- no good record stands there
-  pub cut : Malformed ≡ recordRead s p end → rest s end p n low ≡ false
-  unfolding recordGood
-  cut e = go (okSegment (decodeSegment (drop p s))) refl
+  -- no valid record stands there
+  pub record-malformed : Malformed ≡ recordRead s p end → rest s end p n low ≡ false
+  unfolding recordValid
+  record-malformed e = go (okSegment (decodeSegment (drop p s))) refl
     where
       go : (t : Bool) → okSegment (decodeSegment (drop p s)) ≡ t → rest s end p n low ≡ false
       go false f = simp (ok-turn (sizeSegment (decodeSegment (drop p s))) refl, f, and-false)
       go true f =
-          let k : (leb (p + sizeSegment (decodeSegment (drop p s))) end && okSegment (decodeSegment (drop p s))) ≡ false = not-good s p end e in
+          let k : (leb (p + sizeSegment (decodeSegment (drop p s))) end && okSegment (decodeSegment (drop p s))) ≡ false = not-valid s p end e in
           let m : leb (p + sizeSegment (decodeSegment (drop p s))) end ≡ false = sym (and-true _) ∙ simp f at k in
           let q : end < p + sizeSegment (decodeSegment (drop p s)) = leb-false (p + sizeSegment (decodeSegment (drop p s))) end m in
           simp (lt-leb (p + sizeSegments (decodeSegments n (drop p s))) end
           (rw (size-turn s p n (sizeSegment (decodeSegment (drop p s))) h refl) (omega arith)))
 
-  module _ (i z : ℕ) (g : Got s p end i z) where
+  module _ (i z : ℕ) (g : RecordIs s p end i z) where
     -- its id does not rise
-    pub stale : i < low → rest s end p n low ≡ false
-    stale k = simp (ok-turn z (g .size-is), g .ok, ← (g .id-is), lt-leb low i k, and-false)
+    pub id-low : i < low → rest s end p n low ≡ false
+    id-low k = simp (ok-turn z (g .size-is), g .ok, ← (g .id-is), lt-leb low i k, and-false)
 
-    pub onward : low ≤ i → rest s end p n low ≡ rest s end (p + z) (n - 1) (suc i)
-    onward k = simp (size-turn s p n z h (g .size-is), ok-turn z (g .size-is), g .ok, ← (g .id-is), le-leb low i k)
+    pub id-rises : low ≤ i → rest s end p n low ≡ rest s end (p + z) (n - 1) (suc i)
+    id-rises k = simp (size-turn s p n z h (g .size-is), ok-turn z (g .size-is), g .ok, ← (g .id-is), le-leb low i k)
 
 -- ---- a walk over a packed assignment
 

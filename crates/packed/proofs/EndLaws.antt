@@ -17,7 +17,7 @@ use Rattle.slice_int.specs.Be.{beAt}
 use Rattle.ranges.specs.Overlap.{anyOverlap}
 use Rattle.packed.specs.Assignment.{num, decodeRanges, decodeSegment, decodeSegments, sizeSegment, sizeSegments, allInOrder, okBuckets, okSegment, okFrom}
 use Rattle.packed.specs.Answers.{recordsEnd}
-use Rattle.packed.proofs.AssignmentLaws.{range-at, segments-at, size-least, Seen, seen-size, seen-id, seen-ok, Got, rest, size-turn, ok-turn, onward}
+use Rattle.packed.proofs.AssignmentLaws.{range-at, segments-at, size-least, Seen, seen-size, seen-id, seen-ok, RecordIs, rest, size-turn, ok-turn, id-rises}
 
 -- ---- records at a place
 
@@ -102,13 +102,13 @@ module _ {s : List ℕ} {at n end p stop id : ℕ} (W : Walk s at n end p stop i
         end-none s at n end (W .decides ∙ rest-bad s end p (W .left) 0 (W .some)
         (seen-ok s p id (keyRange a b) k seen ∙ simp (le-leb a b h, ← e, f)))
 
-    -- a good record with k buckets
+    -- a valid record with k buckets
     past : (p′ stop′ : ℕ) → a ≤ b → okBuckets (decodeRanges k (drop (p + 14) s)) ≡ true → p′ ≡ p + 14 + 4 * k → stop′ ≡ stop + 4 * k → stop′ ≤ end
         → Past s at n end p id p′ stop′
     past p′ stop′ h o ep es r =
         let z = seen-size s p id (keyRange a b) k seen in
         let q : p′ ≡ p + (14 + 4 * k) = omega arith in
-        let g : Got s p end id (14 + 4 * k) = record {
+        let g : RecordIs s p end id (14 + 4 * k) = record {
           id-is = seen-id s p id (keyRange a b) k seen;
           size-is = sym z;
           fits = omega (arith, z, W .stop-is, W .some);
@@ -123,7 +123,7 @@ module _ {s : List ℕ} {at n end p stop id : ℕ} (W : Walk s at n end p stop i
               W .sized ∙ size-turn s p (W .left) (14 + 4 * k) (W .some) (sym z)
               ∙ ap (λ (m : ℕ). m + sizeSegments (decodeSegments (W .left - 1) (drop m s))) (sym q);
           decides =
-              W .decides ∙ onward s p (W .left) 0 end (W .some) id (14 + 4 * k) g (omega arith)
+              W .decides ∙ id-rises s p (W .left) 0 end (W .some) id (14 + 4 * k) g (omega arith)
               ∙ ap (λ (m : ℕ). rest s end m (W .left - 1) (suc id)) (sym q);
         }
 

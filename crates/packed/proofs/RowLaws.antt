@@ -1,4 +1,4 @@
--- One segment with 506 buckets is good: row H, by the law of buckets that rise.
+-- One segment with 506 buckets is valid: row H, by the law of buckets that rise.
 -- Assumes nothing.
 use mathlib.Core.Path.{_≡_, refl, ap, _∙_}
 use mathlib.Core.Bool.{Bool, true, _&&_}

@@ -1,7 +1,7 @@
 -- Laws of two ranges that are read as one word.
 --
 -- In order: the place 24 or 56 of a difference (`low-place`, `high-place`); what `word_rises` tells (`word-rises`); the word at a
--- place (`parted` to `two`), and what it tells of a row (`rising-word`); what the words before a place tell (`Split`, `Told`), from the start
+-- place (`parted` to `two`), and what it tells of a row (`rising-word`); what the words before a place tell (`Split`, `Answered`), from the start
 -- (`told-start`) by turns (`told-words`, `told-next`), and what follows from it (`flags-most` to `split-end`).
 -- Assumes nothing.
 use Prim.Native.Nat.{ℕ, suc, _+_, _-_, _*_, _/_, _%_, _^_, _≤_, _<_}
@@ -167,7 +167,7 @@ split-word s at n kept low p left x r k b h e l w =
     }
 
 -- what is known in each turn: x and y are the words of four ranges that are there
-pub record Told (s : List ℕ) (at n x y low p left : ℕ) : Type 0 where
+pub record Answered (s : List ℕ) (at n x y low p left : ℕ) : Type 0 where
   pub place : p + 4 * left ≡ at + 4 * n
   pub four : 3 < left
   pub first : x ≡ beAt 8 s p
@@ -175,11 +175,11 @@ pub record Told (s : List ℕ) (at n x y low p left : ℕ) : Type 0 where
   pub least : low % 4294967296 ≤ 65536
   pub split : Split s at n 72057594054705152 low p left
 
-pub told-start : (s : List ℕ) (at n x y : ℕ) → 8 ≤ n → x ≡ beAt 8 s at → y ≡ beAt 8 s (at + 8) → Told s at n x y 0 at n
+pub told-start : (s : List ℕ) (at n x y : ℕ) → 8 ≤ n → x ≡ beAt 8 s at → y ≡ beAt 8 s (at + 8) → Answered s at n x y 0 at n
 unfolding bit
 told-start s at n x y h e f = record { place = refl; four = omega arith; first = e; second = f; least = omega arith; split = record { equal = refl } }
 
-module _ {s : List ℕ} {at n x y low p left : ℕ} (T : Told s at n x y low p left) (b : Bytes s) (room : at + 4 * n ≤ length s) where
+module _ {s : List ℕ} {at n x y low p left : ℕ} (T : Answered s at n x y low p left) (b : Bytes s) (room : at + 4 * n ≤ length s) where
   -- the two words tell of four ranges
   pub told-words : (r q top low′ : ℕ) → 7 < left → top ≡ topsOf x → low′ ≡ topsOf y → WordRises x (low % 4294967296) r
       → WordRises y (top % 4294967296) q → Split s at n (bitAnd (bitAnd 72057594054705152 r) q) low′ (p + 16) (left - 4)
@@ -195,7 +195,7 @@ module _ {s : List ℕ} {at n x y low p left : ℕ} (T : Told s at n x y low p l
       (subst (λ (i : ℕ). Split s at n word (topsOf y) (p + 8 + 8) i) g z))
 
   pub told-next : (low′ x′ y′ : ℕ) → 7 < left → low′ ≡ topsOf y → Split s at n 72057594054705152 (topsOf y) (p + 16) (left - 4)
-      → x′ ≡ beAt 8 s (p + 16) → y′ ≡ beAt 8 s (p + 16 + 8) → Told s at n x′ y′ low′ (p + 16) (left - 4)
+      → x′ ≡ beAt 8 s (p + 16) → y′ ≡ beAt 8 s (p + 16 + 8) → Answered s at n x′ y′ low′ (p + 16) (left - 4)
   told-next low′ x′ y′ l u z e f = record {
     place = omega (arith, T .place);
     four = omega arith;

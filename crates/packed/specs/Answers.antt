@@ -14,16 +14,16 @@ use Rattle.packed.specs.declared.Packed.the-variants as packed
 use Rattle.packed.specs.Assignment.{decodeSegment, decodeSegments, sizeSegment, sizeSegments, okSegment, okFrom}
 use Rattle.packed.specs.Assignment.{decodeAssignment, sizeAssignment, startsAssignment, isAssignment}
 
--- a good record stands at the place at and ends by the place end
-unfoldable pub recordGood : List ℕ → ℕ → ℕ → Bool
-recordGood s at end = leb (at + sizeSegment (decodeSegment (drop at s))) end && okSegment (decodeSegment (drop at s))
+-- a valid record stands at the place at and ends by the place end
+unfoldable pub recordValid : List ℕ → ℕ → ℕ → Bool
+recordValid s at end = leb (at + sizeSegment (decodeSegment (drop at s))) end && okSegment (decodeSegment (drop at s))
 
 -- its id and its size
 unfoldable pub recordRead : (s : List ℕ) (at end : ℕ) → RecordRead
 recordRead s at end =
-    cond (recordGood s at end) (read.Record (decodeSegment (drop at s) .segmentId) (sizeSegment (decodeSegment (drop at s)))) read.Malformed
+    cond (recordValid s at end) (read.Record (decodeSegment (drop at s) .segmentId) (sizeSegment (decodeSegment (drop at s)))) read.Malformed
 
--- where n records end that stand from the place at on, 0 where they are not good or do not end by the place end
+-- where n records end that stand from the place at on, 0 where they are not valid or do not end by the place end
 unfoldable pub recordsEnd : (s : List ℕ) (at n end : ℕ) → ℕ
 recordsEnd s at n end =
     cond (leb (at + sizeSegments (decodeSegments n (drop at s))) end && okFrom 0 (decodeSegments n (drop at s))) (at + sizeSegments (decodeSegments n (drop at s))) 0

@@ -117,7 +117,7 @@ okBuckets rs = allInOrder rs && not (anyOverlap rs)
 unfoldable pub okSegment : AssignedSegment → Bool
 okSegment g = inOrder (g .range) && okBuckets (g .buckets)
 
--- the segments are good, and "ids rise strictly", from low on
+-- the segments are valid, and "ids rise strictly", from low on
 unfoldable pub okFrom : ℕ → List AssignedSegment → Bool
 okFrom low [] = true
 okFrom low (g ∷ gs) = okSegment g && (leb low (g .segmentId) && okFrom (suc (g .segmentId)) gs)

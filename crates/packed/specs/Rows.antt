@@ -1,5 +1,5 @@
 -- Public: rows B and H of the worked values: the bytes of a packed assignment, and how many segments and buckets a slot
--- has room for. Each by computation; that 506 buckets are good too is proofs/RowLaws, which does not compare them
+-- has room for. Each by computation; that 506 buckets are valid too is proofs/RowLaws, which does not compare them
 -- pairwise.
 -- Assumes nothing.
 use Prim.Native.Nat.{ℕ, zero, suc}

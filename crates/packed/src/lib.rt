@@ -229,7 +229,7 @@ fn least(a: usize, b: usize) -> usize
     if a < b { a } else { b }
 }
 
-// The place behind the n records from a place on, which have to end by the place end; 0 where they are not good. `stop` is where they end if no further one has
+// The place behind the n records from a place on, which have to end by the place end; 0 where they are not valid. `stop` is where they end if no further one has
 // buckets: one comparison tells both that none is left and that the next one has room.
 fn records_end(s: &[u8], at: usize, n: usize, end: usize) -> usize
     requires { ⌜ (0 < n) × (at + 14 * n ≤ end) × (end ≤ length (now s)) ⌝ }

@@ -2,7 +2,7 @@
 --
 -- In order: the least id that may follow (`lowest`); a turn of reading ids (`Ids`: `ids-start`, `ids-stale`, `ids-next`, `ids-end`) and of
 -- reading records (`Records`: `records-start`, `records-cut`, `records-stale`, `records-next`, `records-end`), and what the place behind
--- them says (`records-to`, `no-records`); the cases of `frontRead` (`front-short` to `front-good`), and from them those of `deltaRead`
+-- them says (`records-to`, `no-records`); the cases of `frontRead` (`front-short` to `front-valid`), and from them those of `deltaRead`
 -- (`delta-none`, `delta-more`, `delta-all`).
 -- Assumes nothing.
 use Prim.Native.Nat.{ℕ, suc, _+_, _-_, _*_, _≤_, _<_}
@@ -19,7 +19,7 @@ use Rattle.slice_int.specs.Be.{beAt}
 use Rattle.packed.specs.Assignment.{sizeSegments, num, decodeSegments, okFrom}
 use Rattle.packed.specs.Answers.{recordRead}
 use Rattle.packed.specs.declared.RecordRead.the-variants as record-read
-use Rattle.packed.proofs.AssignmentLaws.{length-segmentsOf, Got, rest, size-turn, cut, stale, onward, Rest}
+use Rattle.packed.proofs.AssignmentLaws.{length-segmentsOf, RecordIs, rest, size-turn, record-malformed, id-low, id-rises, Rest}
 use Rattle.packed_delta.specs.Delta.{AssignmentDelta, decodeIds, decodeDelta, sizeDelta, idsFrom, okDelta, startsDelta, isDelta}
 use Rattle.packed_delta.specs.Answers.{recordsTo, frontRead, deltaRead}
 use Rattle.packed_delta.specs.declared.RecordsTo.the-variants as to
@@ -92,19 +92,19 @@ module _ {s : List ℕ} {at n p left : ℕ} {first : Bool} {prev : ℕ} (I : Rec
   unfolding recordsTo
   refused e = let f : rest s (length s) at n 0 ≡ false = I .decides ∙ e in simp f
 
-  -- no good record stands there
+  -- no valid record stands there
   pub records-cut : 0 < left → record-read.Malformed ≡ recordRead s p (length s) → to.Malformed ≡ recordsTo s at n
-  records-cut h e = refused (cut s p left (lowest first prev) (length s) h e)
+  records-cut h e = refused (record-malformed s p left (lowest first prev) (length s) h e)
 
-  module _ {i z : ℕ} (h : 0 < left) (g : Got s p (length s) i z) where
+  module _ {i z : ℕ} (h : 0 < left) (g : RecordIs s p (length s) i z) where
     pub records-stale : i < lowest first prev → to.Malformed ≡ recordsTo s at n
-    records-stale k = refused (stale s p left (lowest first prev) (length s) h i z g k)
+    records-stale k = refused (id-low s p left (lowest first prev) (length s) h i z g k)
 
     pub records-next : lowest first prev ≤ i → Records s at n (p + z) (left - 1) false i
     records-next k =
         record {
           bound = omega (arith, g .fits, g .size-is);
-          decides = I .decides ∙ onward s p left (lowest first prev) (length s) h i z g k;
+          decides = I .decides ∙ id-rises s p left (lowest first prev) (length s) h i z g k;
           sums = I .sums ∙ size-turn s p left z h (g .size-is);
         }
 
@@ -175,7 +175,7 @@ module _ {s : List ℕ} {m n : ℕ} (x : Counts s m n) where
   pub front-cut : length s < 12 + 8 * m → front-read.Malformed ≡ frontRead s
   front-cut h = front-longer s (omega (arith, size-is s m n lost-count gained-count))
 
-  -- the records end with the bytes or before, the lost ids pass their test b, and the records are good
+  -- the records end with the bytes or before, the lost ids pass their test b, and the records are valid
   abbrev within : Bool → Bool
   within b =
       leb (12 + 8 * m + sizeSegments (decodeSegments n (drop (12 + 8 * m) s))) (length s) && (b && okFrom 0 (decodeSegments n (drop (12 + 8 * m) s)))
@@ -197,10 +197,10 @@ module _ {s : List ℕ} {m n : ℕ} (x : Counts s m n) where
       go true = no-records s (12 + 8 * m) n e
       go false = and-false (leb (12 + 8 * m + sizeSegments (decodeSegments n (drop (12 + 8 * m) s))) (length s))
 
-  pub front-good : true ≡ idsFrom 0 (decodeIds m (drop 12 s)) → (z : ℕ) → to.End z ≡ recordsTo s (12 + 8 * m) n
+  pub front-valid : true ≡ idsFrom 0 (decodeIds m (drop 12 s)) → (z : ℕ) → to.End z ≡ recordsTo s (12 + 8 * m) n
       → front-read.Delta m n z ≡ frontRead s
   unfolding frontRead
-  front-good e z f =
+  front-valid e z f =
       let g = records-to s (12 + 8 * m) n z f in
       let k : startsDelta s ≡ true =
       starts-is

@@ -1,4 +1,4 @@
--- The delta from one packed assignment to another is good, has at most 145 ids and 145 records, and needs at most 3,210 bytes.
+-- The delta from one packed assignment to another is valid, has at most 145 ids and 145 records, and needs at most 3,210 bytes.
 -- Assumes nothing.
 use Prim.Native.Nat.{ℕ, suc, _*_, _≤_, _<_}
 use native.Mathlib.Omega.{arith}
@@ -10,7 +10,7 @@ use borrow.Author.Tests.{le-leb}
 use Rattle.keyed.specs.Keyed.{filter}
 use Rattle.keyed.proofs.KeyedLaws.{choose}
 use Rattle.packed.specs.Assignment.{AssignedSegment, idOf, ConsumerAssignment, slotSize, sizeSegments, sizeAssignment, okFrom}
-use Rattle.packed.proofs.AssignmentLaws.{size-least, ok-good, ok-head, ok-tail}
+use Rattle.packed.proofs.AssignmentLaws.{size-least, ok-segment, ok-head, ok-tail}
 use Rattle.packed.proofs.RoundLaws.{FitSegments}
 use Rattle.packed_delta.specs.Delta.{sizeDelta, idsFrom, okDelta}
 use Rattle.packed_delta.proofs.RoundLaws.{FitIds}
@@ -37,7 +37,7 @@ module _ (p : AssignedSegment → Bool) where
       let i : from ≤ g .segmentId = ok-head from g gs e in
       let t : okFrom (suc (g .segmentId)) gs ≡ true = ok-tail from g gs e in
       choose (λ l. okFrom low l ≡ true) (p g)
-      (λ b. simp (ok-good from g gs e, le-leb low (g .segmentId) (omega arith))
+      (λ b. simp (ok-segment from g gs e, le-leb low (g .segmentId) (omega arith))
       (ok-filter (suc (g .segmentId)) (suc (g .segmentId)) gs (omega arith) t))
       (λ b. ok-filter low (suc (g .segmentId)) gs (omega arith) t)
 

@@ -16,7 +16,7 @@ use Rattle.packed_delta.specs.declared.DeltaRead.{DeltaRead}
 use Rattle.packed_delta.specs.declared.DeltaRead.the-variants as read
 use Rattle.packed_delta.specs.Delta.{decodeDelta, sizeDelta, startsDelta, isDelta}
 
--- n good records whose ids rise stand from the place at on: the place behind them
+-- n valid records whose ids rise stand from the place at on: the place behind them
 unfoldable pub recordsTo : (s : List ℕ) (at n : ℕ) → RecordsTo
 recordsTo s at n =
     cond (leb (at + sizeSegments (decodeSegments n (drop at s))) (length s) && okFrom 0 (decodeSegments n (drop at s)))

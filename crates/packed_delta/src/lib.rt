@@ -57,7 +57,7 @@ fn ids_rise(s: &[u8], at: usize, n: usize) -> bool
     true
 }
 
-// The place behind the n records from a place on, which are good and whose ids rise.
+// The place behind the n records from a place on, which are valid and whose ids rise.
 fn records_to(s: &[u8], at: usize, n: usize) -> RecordsTo
     requires { ⌜ at ≤ length (now s) ⌝ }
     ensures { λ r. ⌜ r ≡ recordsTo (now (s .entry)) at n ⌝ }

@@ -13,7 +13,7 @@ use lib.Dec.{ltb}
 use borrow.Author.Tests.{lt-ltb, le-ltb, ltb-true, ltb-false, le-leb, ne-eqb}
 use Rattle.packed.specs.Assignment.{AssignedSegment, decodeSegment, decodeSegments, okFrom}
 use Rattle.packed.specs.Equal.{sameSegment}
-use Rattle.packed.proofs.AssignmentLaws.{ok-good, ok-head, ok-tail, segments-at}
+use Rattle.packed.proofs.AssignmentLaws.{ok-segment, ok-head, ok-tail, segments-at}
 use Rattle.packed_delta.specs.Change.{hasSame, without}
 use Rattle.packed_diff.specs.Merge.{mergeStep}
 use Rattle.packed_diff.specs.declared.Step.the-variants.{Keep, Same, Skip}
@@ -65,7 +65,7 @@ without-below low (g ∷ gs) h hs e k =
 ok-from-first : (low : ℕ) (g : AssignedSegment) (gs : List AssignedSegment) → okFrom low (g ∷ gs) ≡ true
     → okFrom (g .segmentId) (g ∷ gs) ≡ true
 unfolding okFrom
-ok-from-first low g gs e = simp (ok-good low g gs e, le-leb (g .segmentId) (g .segmentId) (omega arith), ok-tail low g gs e)
+ok-from-first low g gs e = simp (ok-segment low g gs e, le-leb (g .segmentId) (g .segmentId) (omega arith), ok-tail low g gs e)
 
 -- ---- the three answers
 

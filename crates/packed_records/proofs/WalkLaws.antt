@@ -1,7 +1,7 @@
 -- A walk over records that looks for one: those that are left, from a place on, decide what is asked of all.
 --
 -- In order: what holds at each record (`Turn`), at the first (`turn-start`) and behind the last (`turn-end`); a record where it lies (`turn-head`,
--- `turn-good`, `turn-inside`); one that decides (`turn-found`), and one that does not (`turn-next`).
+-- `turn-valid`, `turn-inside`); one that decides (`turn-found`), and one that does not (`turn-next`).
 -- Assumes nothing.
 use Prim.Native.Nat.{ℕ, _+_, _-_, _≤_, _<_}
 use native.Mathlib.Omega.{arith}
@@ -10,7 +10,7 @@ use mathlib.Core.Bool.{true}
 use mathlib.Core.List.{List, [], _∷_}
 use lib.ListN.{length, drop}
 use Rattle.packed.specs.Assignment.{AssignedSegment, decodeSegment, decodeSegments, sizeSegment, okSegment, okFrom}
-use Rattle.packed.proofs.AssignmentLaws.{size-least, segments-at, ok-good, Rest, rest-head, rest-next}
+use Rattle.packed.proofs.AssignmentLaws.{size-least, segments-at, ok-segment, Rest, rest-head, rest-next}
 
 -- what f says of the m records from the place 10 on, it says of those that are left from the place p on
 pub record Turn {A : Type 0} (f : List AssignedSegment → A) (s : List ℕ) (m p left : ℕ) : Type 0 where
@@ -32,8 +32,8 @@ module _ {A : Type 0} {f : List AssignedSegment → A} {s : List ℕ} {m p left 
     pub turn-head : p + 14 ≤ length s
     turn-head = omega (arith, rest-head s p left _ h refl (v .rest), size-least g)
 
-    pub turn-good : okSegment g ≡ true
-    turn-good = ok-good 0 g _ (subst (λ (l : List AssignedSegment). okFrom 0 l ≡ true) (segments-at s p left _ h refl) (v .rest .ok))
+    pub turn-valid : okSegment g ≡ true
+    turn-valid = ok-segment 0 g _ (subst (λ (l : List AssignedSegment). okFrom 0 l ≡ true) (segments-at s p left _ h refl) (v .rest .ok))
 
     -- what the record decides, whatever stands behind it
     pub turn-found : {a : A} → ((gs : List AssignedSegment) → a ≡ f (g ∷ gs)) → a ≡ f (decodeSegments m (drop 10 s))

@@ -16,10 +16,10 @@ use Rattle.ranges_calls.specs.Calls.{pairBy}
 module _ (f : KeyRange → KeyRange → Bool) where
   abbrev pub testBoth : RangePair → TestAnswer
   testBoth (pair.Invalid e) = test.Refused (InvalidKeyRange e)
-  testBoth (pair.Valid a b) = test.Told (f a b)
+  testBoth (pair.Valid a b) = test.Answered (f a b)
 
   pub by-pair : (x y : RangeResult)
-      → takeRange test.Refused x (λ a. takeRange test.Refused y (λ b. test.Told (f a b))) ≡ testBoth (pairBy x y)
+      → takeRange test.Refused x (λ a. takeRange test.Refused y (λ b. test.Answered (f a b))) ≡ testBoth (pairBy x y)
   unfolding pairBy
   by-pair (Invalid e) y = refl
   by-pair (Valid a) (Invalid e) = refl

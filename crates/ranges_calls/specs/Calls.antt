@@ -44,19 +44,19 @@ lengthOf start end = do
 unfoldable pub containsOf : (start end hash : ℕ) → TestAnswer
 containsOf start end hash = do
   r ← takeRange test.Refused (newKeyRange start end)  -- 9
-  test.Told (holds hash r)
+  test.Answered (holds hash r)
 
 unfoldable pub containsRangeOf : (start end otherStart otherEnd : ℕ) → TestAnswer
 containsRangeOf start end otherStart otherEnd = do
   a ← takeRange test.Refused (newKeyRange start end)  -- 9
   b ← takeRange test.Refused (newKeyRange otherStart otherEnd)  -- 9
-  test.Told (holdsRange a b)
+  test.Answered (holdsRange a b)
 
 unfoldable pub isAdjacentOf : (start end otherStart otherEnd : ℕ) → TestAnswer
 isAdjacentOf start end otherStart otherEnd = do
   a ← takeRange test.Refused (newKeyRange start end)  -- 9
   b ← takeRange test.Refused (newKeyRange otherStart otherEnd)  -- 9
-  test.Told (touches a b)
+  test.Answered (touches a b)
 
 -- ---- Internal: both ranges, or the first error, as a helper answers them
 

@@ -17,7 +17,7 @@ pub enum LengthAnswer {
 
 pub enum TestAnswer {
     // Whether it is so.
-    Told(bool),
+    Answered(bool),
     Refused(Refusal),
 }
 
@@ -54,7 +54,7 @@ pub fn contains(start: u32, end: u32, hash: u32) -> TestAnswer
 {
     match KeyRange::new(start, end) {
         RangeResult::Invalid(source) => TestAnswer::Refused(Refusal::InvalidKeyRange { source }),
-        RangeResult::Valid(range) => TestAnswer::Told(holds_hash(range, hash)),
+        RangeResult::Valid(range) => TestAnswer::Answered(holds_hash(range, hash)),
     }
 }
 
@@ -87,7 +87,7 @@ pub fn contains_range(start: u32, end: u32, other_start: u32, other_end: u32) ->
 {
     match both(start, end, other_start, other_end) {
         RangePair::Invalid(source) => TestAnswer::Refused(Refusal::InvalidKeyRange { source }),
-        RangePair::Valid(a, b) => TestAnswer::Told(holds_range(a, b)),
+        RangePair::Valid(a, b) => TestAnswer::Answered(holds_range(a, b)),
     }
 }
 
@@ -107,6 +107,6 @@ pub fn is_adjacent_to(start: u32, end: u32, other_start: u32, other_end: u32) ->
 {
     match both(start, end, other_start, other_end) {
         RangePair::Invalid(source) => TestAnswer::Refused(Refusal::InvalidKeyRange { source }),
-        RangePair::Valid(a, b) => TestAnswer::Told(touch(a, b)),
+        RangePair::Valid(a, b) => TestAnswer::Answered(touch(a, b)),
     }
 }

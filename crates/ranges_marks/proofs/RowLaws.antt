@@ -1,6 +1,6 @@
 -- Laws of marks that hold the values of ranges.
 --
--- In order: good ranges (`good-left`, `good-right`); words in which nothing is marked (`holds-none`); ranges and their values (`points-apart`,
+-- In order: valid ranges (`valid-left`, `valid-right`); words in which nothing is marked (`holds-none`); ranges and their values (`points-apart`,
 -- `range-apart`); one more range (`told-one`, `holds-one`, `any-one`); ranges marked one by one (`Apart`); a row that is being marked
 -- (`RowTurn`): at its start, where a range is found to share a value (`row-found`), with one more range (`row-next`), at its end (`row-end`).
 -- Assumes nothing.
@@ -19,22 +19,22 @@ use Rattle.topic_types.specs.declared.KeyRange.{KeyRange}
 use Rattle.ranges.specs.Meaning.{Within, common, shared}
 use Rattle.ranges.specs.Overlap.{overlap, overlapsAny, anyOverlap}
 use Rattle.ranges.proofs.OverlapLaws.{crossOverlap, overlaps-any-append, any-append}
-use Rattle.ranges_marks.specs.Marks.{marked, point, Good, AllGood, more, Holds, Marking, RowMarking}
+use Rattle.ranges_marks.specs.Marks.{marked, point, Valid, AllValid, more, Holds, Marking, RowMarking}
 use Rattle.ranges_marks.specs.Bits.{bit}
 use Rattle.ranges_marks.proofs.BitLaws.{bit-zero}
 use Rattle.ranges_marks.proofs.MarkLaws.{below-or}
 
--- ---- good ranges
-pub good-left : (xs ys : List KeyRange) → AllGood (xs ++ ys) → AllGood xs
-good-left [] ys g = AllGood.none
-good-left (x ∷ xs) ys (more h g) = more h (good-left xs ys g)
+-- ---- valid ranges
+pub valid-left : (xs ys : List KeyRange) → AllValid (xs ++ ys) → AllValid xs
+valid-left [] ys g = AllValid.none
+valid-left (x ∷ xs) ys (more h g) = more h (valid-left xs ys g)
 
-pub good-right : (xs ys : List KeyRange) → AllGood (xs ++ ys) → AllGood ys
-good-right [] ys g = g
-good-right (x ∷ xs) ys (more h g) = good-right xs ys g
+pub valid-right : (xs ys : List KeyRange) → AllValid (xs ++ ys) → AllValid ys
+valid-right [] ys g = g
+valid-right (x ∷ xs) ys (more h g) = valid-right xs ys g
 
-good-first : {x : KeyRange} {xs : List KeyRange} → AllGood (x ∷ xs) → Good x
-good-first (more h g) = h
+valid-first : {x : KeyRange} {xs : List KeyRange} → AllValid (x ∷ xs) → Valid x
+valid-first (more h g) = h
 
 -- ---- no marks
 zeros : (n i : ℕ) → _≡_ {A = ℕ} (getD (replicate n 0) i 0) 0
@@ -72,7 +72,7 @@ module _ (r : KeyRange) where
       let f : overlap x (point v) ≡ false = untrue _ (λ y. false≢true (sym (p .0) ∙ shared x r v (value-of x v y) w)) in
       rw f (points-apart xs (p .1) v w)
 
-  range-apart : Good r → (xs : List KeyRange) → AllGood xs → ((v : ℕ) → Within v r → overlapsAny (point v) xs ≡ false)
+  range-apart : Valid r → (xs : List KeyRange) → AllValid xs → ((v : ℕ) → Within v r → overlapsAny (point v) xs ≡ false)
       → overlapsAny r xs ≡ false
   unfolding overlapsAny
   range-apart g [] a f = refl
@@ -109,8 +109,8 @@ overlaps-any-one : (q : KeyRange) (xs : List KeyRange) (r : KeyRange) → overla
 unfolding overlapsAny
 overlaps-any-one q xs r = overlaps-any-append q xs (r ∷ []) ∙ rw (or-none (overlap r q))
 
-module _ {m : List ℕ} {r : KeyRange} {t : Bool} {m′ : List ℕ} (M : Marking m r t m′) (xs : List KeyRange) (H : Holds m xs) (g : Good r)
-    (a : AllGood xs) where
+module _ {m : List ℕ} {r : KeyRange} {t : Bool} {m′ : List ℕ} (M : Marking m r t m′) (xs : List KeyRange) (H : Holds m xs) (g : Valid r)
+    (a : AllValid xs) where
   pub told-one : t ≡ overlapsAny r xs
   told-one = go t (overlapsAny r xs) refl refl
     where
@@ -138,32 +138,32 @@ module _ {m : List ℕ} {r : KeyRange} {t : Bool} {m′ : List ℕ} (M : Marking
           inside v s (record { low = l; high = h })))
 
 -- ---- ranges marked one by one
--- the ranges are good, no two share a value, and just their values are marked
+-- the ranges are valid, no two share a value, and just their values are marked
 pub record Apart (m : List ℕ) (xs : List KeyRange) : Type 0 where
-  pub good : AllGood xs
+  pub valid : AllValid xs
   pub apart : anyOverlap xs ≡ false
   pub holds : Holds m xs
 
-good-both : (xs ys : List KeyRange) → AllGood xs → AllGood ys → AllGood (xs ++ ys)
-good-both [] ys AllGood.none h = h
-good-both (x ∷ xs) ys (more f g) h = more f (good-both xs ys g h)
+valid-both : (xs ys : List KeyRange) → AllValid xs → AllValid ys → AllValid (xs ++ ys)
+valid-both [] ys AllValid.none h = h
+valid-both (x ∷ xs) ys (more f g) h = more f (valid-both xs ys g h)
 
 pub apart-none : Apart (replicate 1024 0) []
 unfolding anyOverlap
-apart-none = record { good = AllGood.none; apart = refl; holds = holds-none }
+apart-none = record { valid = AllValid.none; apart = refl; holds = holds-none }
 
-module _ {m : List ℕ} {xs : List KeyRange} (A : Apart m xs) {r : KeyRange} (g : Good r) {t : Bool} {m′ : List ℕ} (M : Marking m r t m′) where
+module _ {m : List ℕ} {xs : List KeyRange} (A : Apart m xs) {r : KeyRange} (g : Valid r) {t : Bool} {m′ : List ℕ} (M : Marking m r t m′) where
   one-more : anyOverlap (xs ++ (r ∷ [])) ≡ t
-  one-more = any-one xs r ∙ rw (A .apart) (sym (told-one M xs (A .holds) g (A .good)))
+  one-more = any-one xs r ∙ rw (A .apart) (sym (told-one M xs (A .holds) g (A .valid)))
 
   pub apart-found : t ≡ true → (ys : List KeyRange) → anyOverlap (xs ++ (r ∷ ys)) ≡ true
   apart-found y ys = ap anyOverlap (sym (append-assoc xs (r ∷ []) ys)) ∙ any-append (xs ++ (r ∷ [])) ys ∙ rw (one-more, y)
 
   pub apart-next : t ≡ false → Apart m′ (xs ++ (r ∷ []))
   apart-next y = record {
-    good = good-both xs (r ∷ []) (A .good) (more g AllGood.none);
+    valid = valid-both xs (r ∷ []) (A .valid) (more g AllValid.none);
     apart = one-more ∙ y;
-    holds = holds-one M xs (A .holds) g (A .good) y;
+    holds = holds-one M xs (A .holds) g (A .valid) y;
   }
 
 -- ---- a row that is being marked
@@ -174,8 +174,8 @@ none = record { start = 0; end = 0 }
 -- the first i ranges of the row are marked, and no two share a value
 pub record RowTurn (m₀ : List ℕ) (row : List KeyRange) (m : List ℕ) (i : ℕ) : Type 0 where
   pub long : length m ≡ length m₀
-  pub apart : (xs : List KeyRange) → Holds m₀ xs → AllGood (xs ++ row) → anyOverlap xs ≡ false → anyOverlap (xs ++ take i row) ≡ false
-  pub holds : (xs : List KeyRange) → Holds m₀ xs → AllGood (xs ++ row) → anyOverlap xs ≡ false → Holds m (xs ++ take i row)
+  pub apart : (xs : List KeyRange) → Holds m₀ xs → AllValid (xs ++ row) → anyOverlap xs ≡ false → anyOverlap (xs ++ take i row) ≡ false
+  pub holds : (xs : List KeyRange) → Holds m₀ xs → AllValid (xs ++ row) → anyOverlap xs ≡ false → Holds m (xs ++ take i row)
 
 pub row-start : (m : List ℕ) (row : List KeyRange) → RowTurn m row m 0
 row-start m row = record { long = refl; apart = λ xs h g e. rw (append-nil xs) e; holds = λ xs h g e. rw (append-nil xs) h }
@@ -203,14 +203,14 @@ module _ {m₀ : List ℕ} {row : List KeyRange} {m : List ℕ} {i : ℕ} (R : R
     joined : (xs : List KeyRange) → (xs ++ take i row) ++ (r ∷ []) ≡ xs ++ take (suc i) row
     joined xs = append-assoc xs (take i row) (r ∷ []) ∙ ap (λ (l : List KeyRange). xs ++ l) (sym (take-suc row i none h))
 
-    module _ (xs : List KeyRange) (o : Holds m₀ xs) (g : AllGood (xs ++ row)) (a : anyOverlap xs ≡ false) where
-      goods : AllGood ((xs ++ take i row) ++ (r ∷ drop (suc i) row))
-      goods = subst AllGood (split xs) g
+    module _ (xs : List KeyRange) (o : Holds m₀ xs) (g : AllValid (xs ++ row)) (a : anyOverlap xs ≡ false) where
+      valids : AllValid ((xs ++ take i row) ++ (r ∷ drop (suc i) row))
+      valids = subst AllValid (split xs) g
 
       here : t ≡ overlapsAny r (xs ++ take i row)
       here =
-          told-one M (xs ++ take i row) (R .holds xs o g a) (good-first (good-right (xs ++ take i row) _ goods))
-          (good-left (xs ++ take i row) _ goods)
+          told-one M (xs ++ take i row) (R .holds xs o g a) (valid-first (valid-right (xs ++ take i row) _ valids))
+          (valid-left (xs ++ take i row) _ valids)
 
       first : anyOverlap ((xs ++ take i row) ++ (r ∷ [])) ≡ t
       first = any-one (xs ++ take i row) r ∙ rw (R .apart xs o g a) (sym here)
@@ -222,8 +222,8 @@ module _ {m₀ : List ℕ} {row : List KeyRange} {m : List ℕ} {i : ℕ} (R : R
 
       next : t ≡ false → Holds m′ (xs ++ take (suc i) row)
       next y =
-          subst (Holds m′) (joined xs) (holds-one M (xs ++ take i row) (R .holds xs o g a) (good-first (good-right (xs ++ take i row) _ goods))
-          (good-left (xs ++ take i row) _ goods) y)
+          subst (Holds m′) (joined xs) (holds-one M (xs ++ take i row) (R .holds xs o g a) (valid-first (valid-right (xs ++ take i row) _ valids))
+          (valid-left (xs ++ take i row) _ valids) y)
 
     pub row-found : t ≡ true → RowMarking m₀ row t m′
     row-found y = record {

@@ -283,8 +283,8 @@ module _ {M : Type 1} (𝓤 : URA M) (H : Heap 𝓤) (A : Atoms 𝓤) (T : Ended
     Tokens = alive 𝓤 H A (T .signature) (y .0 .0) (y .0 .1)
 
     -- what the contract says of a result, with the parameters' last values
-    abbrev pub Says : Result .Denot → Lasts T (y .0 .0) (y .0 .3) → SProp 𝓤
-    Says r ws = c (y .0 .0) (y .0 .3) .ensures (y .1) r (atExit T (y .0 .0) (y .0 .3) ws)
+    abbrev pub Ensures : Result .Denot → Lasts T (y .0 .0) (y .0 .3) → SProp 𝓤
+    Ensures r ws = c (y .0 .0) (y .0 .3) .ensures (y .1) r (atExit T (y .0 .0) (y .0 .3) ws)
 
 module _ {M : Type 1} {𝓤 : URA M} {H : Heap 𝓤} {A : Atoms 𝓤} {K : Type 0} {W : Given 𝓤 H A} {Γ : List (Item 𝓤)} where
   -- what a plain type owns is had for nothing
@@ -297,15 +297,15 @@ module _ {M : Type 1} {𝓤 : URA M} {H : Heap 𝓤} {A : Atoms 𝓤} {K : Type 
     pub asks : K → FmC 𝓤 H (W .laws) C → Triple 𝓤 (C f) (Meant 𝓤 H A T c) → (F : Flat (Result 𝓤 H A T c y))
         → Opds K W (raw (Meant 𝓤 H A T c .pre y) ∷ Γ) E xs (Meant 𝓤 H A T c .args y)
         → ((r : Result 𝓤 H A T c y .Denot) (ws : Lasts T (y .0 .0) (y .0 .3)) → IsLow F r
-        → Seq K W (raw (Tokens 𝓤 H A T c y) ∷ ‵ (lasts T (y .0 .0) (y .0 .3) ws) ∷ raw (Says 𝓤 H A T c y r ws) ∷ Γ)
+        → Seq K W (raw (Tokens 𝓤 H A T c y) ∷ ‵ (lasts T (y .0 .0) (y .0 .3) ws) ∷ raw (Ensures 𝓤 H A T c y r ws) ∷ Γ)
         (lands C Λ E d (low F r) rest q))
         → Seq K W (raw (Meant 𝓤 H A T c .pre y) ∷ Γ) (runs C Λ E (seq (call f xs d) rest) q)
     asks t fm met F os k = calls-at t fm (Meant 𝓤 H A T c) met y os (λ v.
         use1 W (later (some (λ (r : R .Denot). (raw (Tokens 𝓤 H A T c y) ⊛ ‵ (R .own r (v ∷ []))) ⊛ raw (End r)))) (id⊢ 𝓤 _) $
         await t tt $ pick t (λ r. split t $ move t (1 ∷ []) $
-        use1 W (some (λ (ws : Lasts T (y .0 .0) (y .0 .3)). ‵ (lasts T (y .0 .0) (y .0 .3) ws) ⊛ raw (Says 𝓤 H A T c y r ws))) (id⊢ 𝓤 _) $
+        use1 W (some (λ (ws : Lasts T (y .0 .0) (y .0 .3)). ‵ (lasts T (y .0 .0) (y .0 .3) ws) ⊛ raw (Ensures 𝓤 H A T c y r ws))) (id⊢ 𝓤 _) $
         pick t (λ ws. split t $ move t (2 ∷ []) $ split t $ move t (1 ∷ []) $ facts t R (Is R) (shows 𝓤 H A R) r (v ∷ []) (λ is.
-        subst (λ (w : Val). Seq K W (raw (Tokens 𝓤 H A T c y) ∷ ‵ (lasts T (y .0 .0) (y .0 .3) ws) ∷ raw (Says 𝓤 H A T c y r ws) ∷ Γ)
+        subst (λ (w : Val). Seq K W (raw (Tokens 𝓤 H A T c y) ∷ ‵ (lasts T (y .0 .0) (y .0 .3) ws) ∷ raw (Ensures 𝓤 H A T c y r ws) ∷ Γ)
         (lands C Λ E d w rest q)) (sym (ap only (F .lowers .val-is r _ is))) (k r ws (is-low F r _ is))))))
       where
         R : RattleType
@@ -355,11 +355,11 @@ module _ {M : Type 1} (𝓤 : URA M) (H : Heap 𝓤) (A : Atoms 𝓤) (W : Given
 
     -- it does with the tokens, at a result r of which the contract holds
     pub leaves : {P : SProp 𝓤} (F : Flat (Result 𝓤 H A T c y)) (r : Result 𝓤 H A T c y .Denot) (ws : Lasts T (y .0 .0) (y .0 .3)) → IsLow F r
-        → ent 𝓤 (emp 𝓤) (Says 𝓤 H A T c y r ws) → ent 𝓤 P (Tokens 𝓤 H A T c y) → ent 𝓤 P (Ends (low F r))
+        → ent 𝓤 (emp 𝓤) (Ensures 𝓤 H A T c y r ws) → ent 𝓤 P (Tokens 𝓤 H A T c y) → ent 𝓤 P (Ends (low F r))
     leaves {P} F r ws is say toks =
         qed W (raw P ∷ []) ∵ suffices ! _ (ends-at 𝓤 H A T Stayed c W y (low F r) r ws
         (drop-fits (y .0 .0) (T .signature .params) (T .kept) (y .0 .3) ws)) $
-        use0 W (raw (Says 𝓤 H A T c y r ws)) say $ has ! F r is $
+        use0 W (raw (Ensures 𝓤 H A T c y r ws)) say $ has ! F r is $
         use0 W (‵ (hasOf (y .0 .0) (T .signature .params) (T .kept) Stayed (y .0 .3) ws (y .0 .4)))
         (drop-has (y .0 .0) 𝓤 H A W (T .signature .params) (T .kept) (y .0 .3) ws (y .0 .4)) $ join ! $ move ! (2 ∷ []) $
         use1 W (raw (Tokens 𝓤 H A T c y)) toks $ join ! $ done !

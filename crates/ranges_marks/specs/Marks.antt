@@ -28,13 +28,13 @@ abbrev pub point : ℕ → KeyRange
 point v = record { start = v; end = v }
 
 -- the range lies in the key space and is not reversed
-pub record Good (r : KeyRange) : Type 0 where
+pub record Valid (r : KeyRange) : Type 0 where
   pub in-order : r .start ≤ r .end
   pub small : r .end < 65536
 
-pub data AllGood : List KeyRange → Type 0 where
-  none : AllGood []
-  more : {r : KeyRange} {rs : List KeyRange} → Good r → AllGood rs → AllGood (r ∷ rs)
+pub data AllValid : List KeyRange → Type 0 where
+  none : AllValid []
+  more : {r : KeyRange} {rs : List KeyRange} → Valid r → AllValid rs → AllValid (r ∷ rs)
 
 -- just the values of the ranges xs are marked
 pub record Holds (m : List ℕ) (xs : List KeyRange) : Type 0 where
@@ -44,14 +44,14 @@ pub record Holds (m : List ℕ) (xs : List KeyRange) : Type 0 where
 -- the range r marked in m: whether a value of it was marked before, and the marks then
 pub record Marking (m : List ℕ) (r : KeyRange) (t : Bool) (m′ : List ℕ) : Type 0 where
   pub long : length m′ ≡ length m
-  pub found : Good r → t ≡ true → ((v : ℕ) → Within v r → marked m v ≡ false) → ⊥
-  pub free : Good r → t ≡ false → (v : ℕ) → Within v r → marked m v ≡ false
-  pub wrote : Good r → t ≡ false → (v : ℕ) → Within v r → marked m′ v ≡ true
-  pub below : Good r → t ≡ false → (v : ℕ) → v < r .start → marked m′ v ≡ marked m v
-  pub above : Good r → t ≡ false → (v : ℕ) → r .end < v → marked m′ v ≡ marked m v
+  pub found : Valid r → t ≡ true → ((v : ℕ) → Within v r → marked m v ≡ false) → ⊥
+  pub free : Valid r → t ≡ false → (v : ℕ) → Within v r → marked m v ≡ false
+  pub wrote : Valid r → t ≡ false → (v : ℕ) → Within v r → marked m′ v ≡ true
+  pub below : Valid r → t ≡ false → (v : ℕ) → v < r .start → marked m′ v ≡ marked m v
+  pub above : Valid r → t ≡ false → (v : ℕ) → r .end < v → marked m′ v ≡ marked m v
 
 -- the row marked in m, where xs without overlap were marked: whether two of xs and the row share a value
 pub record RowMarking (m : List ℕ) (row : List KeyRange) (t : Bool) (m′ : List ℕ) : Type 0 where
   pub long : length m′ ≡ length m
-  pub told : (xs : List KeyRange) → Holds m xs → AllGood (xs ++ row) → anyOverlap xs ≡ false → t ≡ anyOverlap (xs ++ row)
-  pub holds : (xs : List KeyRange) → Holds m xs → AllGood (xs ++ row) → anyOverlap xs ≡ false → t ≡ false → Holds m′ (xs ++ row)
+  pub told : (xs : List KeyRange) → Holds m xs → AllValid (xs ++ row) → anyOverlap xs ≡ false → t ≡ anyOverlap (xs ++ row)
+  pub holds : (xs : List KeyRange) → Holds m xs → AllValid (xs ++ row) → anyOverlap xs ≡ false → t ≡ false → Holds m′ (xs ++ row)

@@ -33,13 +33,13 @@ use Rattle.rust_export.proofs.StepLaws.{trace-is, endOf, ends-are, floo
 use Rattle.rust_export.proofs.TellLaws.{all-seen, Fed, fed-seen}
 
 -- an open that answers `accepted` is accepted
-told-accepted : (a : Answer) → answerReply a .answer ≡ accepted → a ≡ answer.Accepted
+answered-accepted : (a : Answer) → answerReply a .answer ≡ accepted → a ≡ answer.Accepted
 unfolding answerReply refusedReply replyWith
-told-accepted (answer.Refused x) e = absurd (omega (arith, e))
-told-accepted answer.Accepted e = refl
-told-accepted answer.Unchanged e = absurd (omega (arith, e))
-told-accepted (answer.Delta n) e = absurd (omega (arith, e))
-told-accepted (answer.Replay place n) e = absurd (omega (arith, e))
+answered-accepted (answer.Refused x) e = absurd (omega (arith, e))
+answered-accepted answer.Accepted e = refl
+answered-accepted answer.Unchanged e = absurd (omega (arith, e))
+answered-accepted (answer.Delta n) e = absurd (omega (arith, e))
+answered-accepted (answer.Replay place n) e = absurd (omega (arith, e))
 
 abbrev identity : (topic subscription consumerName : List ℕ) → (kind : ℤ) → Identity
 identity topic subscription consumerName kind =
@@ -62,7 +62,7 @@ demand-three-exported consumer incarnation topic subscription consumerName kind 
     (subst (λ (x : End). Claim (held x) (x .state .«epoch_floor») (watch reader unseen events)) (sym same-end)
     (subst (λ (es : List Event). Claim (held (final (o .next) (o .store) cs)) (final (o .next) (o .store) cs .state .«epoch_floor»)
     (watch reader unseen es)) (sym same-events)
-    (demand-three-from-open consumer (link incarnation) i st (told-accepted (o .answer) e) reader low cs bytes
+    (demand-three-from-open consumer (link incarnation) i st (answered-accepted (o .answer) e) reader low cs bytes
     (subst (λ (es : List Event). allDrained reader es ≡ true) same-events drained))))
   where
     i : Identity
@@ -102,7 +102,7 @@ demand-two-fed-exported consumer incarnation topic subscription consumerName kin
     Fed reader (fed (exportRun (exportRecord (o .next)) (o .store) calls)) (fedCalls n (o .store) cs) (fedShown reader n (o .store) cs))
     (record-returns (o .next)) (fed-seen reader calls (exportRecord (o .next)) (o .store)) in
     subst (AllSeen reader (fed (exportRun (exportRecord (o .next)) (o .store) calls)))
-    (demand-two-fed-from-open consumer (link incarnation) i st (told-accepted (o .answer) e) unmarked cs bytes reader one
+    (demand-two-fed-from-open consumer (link incarnation) i st (answered-accepted (o .answer) e) unmarked cs bytes reader one
     ∙ ap (λ (c : Caller). rustRun c (fedCalls (o .next) (o .store) cs)) (new-is consumer incarnation topic subscription consumerName kind)
     ∙ ap (rustRun (rustNew consumer incarnation topic subscription consumerName kind)) (sym (f .same)))
     (f .seen)
@@ -112,7 +112,7 @@ demand-two-exported consumer incarnation topic subscription consumerName kind st
     let i = identity topic subscription consumerName kind in
     let o : OpenOutcome = openOutcome consumer (link incarnation) i st in
     let cs : List Call = callsOf calls in
-    let d = demand-two-of-inputs-from-open consumer (link incarnation) i st (told-accepted (o .answer) e) unmarked room most big cs bytes reader one
+    let d = demand-two-of-inputs-from-open consumer (link incarnation) i st (answered-accepted (o .answer) e) unmarked room most big cs bytes reader one
     roomy in
     subst (AllSeen reader (exportRun (exportRecord (o .next)) (o .store) calls))
     (ap (λ (n : SessionRecord). portRun reader n (o .store) cs) (record-returns (o .next)) ∙ d .1

@@ -90,37 +90,37 @@ module _ (r : Record) (st : List ℕ) where
 
 -- ---- its event
 
-accepted-told : (a : Answer) → not (eqb (answerReply a .answer) refused) ≡ isAccepted a
+accepted-answered : (a : Answer) → not (eqb (answerReply a .answer) refused) ≡ isAccepted a
 unfolding answerReply refusedReply replyWith
-accepted-told (answer.Refused x) = refl
-accepted-told answer.Accepted = refl
-accepted-told answer.Unchanged = refl
-accepted-told (answer.Delta n) = refl
-accepted-told (answer.Replay place n) = refl
+accepted-answered (answer.Refused x) = refl
+accepted-answered answer.Accepted = refl
+accepted-answered answer.Unchanged = refl
+accepted-answered (answer.Delta n) = refl
+accepted-answered (answer.Replay place n) = refl
 
-none-told : (a : Answer) → eqb (answerReply a .answer) unchanged ≡ isNone a
+none-answered : (a : Answer) → eqb (answerReply a .answer) unchanged ≡ isNone a
 unfolding answerReply refusedReply replyWith
-none-told (answer.Refused x) = refl
-none-told answer.Accepted = refl
-none-told answer.Unchanged = refl
-none-told (answer.Delta n) = refl
-none-told (answer.Replay place n) = refl
+none-answered (answer.Refused x) = refl
+none-answered answer.Accepted = refl
+none-answered answer.Unchanged = refl
+none-answered (answer.Delta n) = refl
+none-answered (answer.Replay place n) = refl
 
-delta-told : (a : Answer) (out : List ℕ) → deltaIn (answerReply a) out ≡ handedOut a out
+delta-answered : (a : Answer) (out : List ℕ) → deltaIn (answerReply a) out ≡ handedOut a out
 unfolding answerReply refusedReply replyWith wordAt wordOf
-delta-told (answer.Refused x) out = refl
-delta-told answer.Accepted out = refl
-delta-told answer.Unchanged out = refl
-delta-told (answer.Delta n) out = refl
-delta-told (answer.Replay place n) out = refl
+delta-answered (answer.Refused x) out = refl
+delta-answered answer.Accepted out = refl
+delta-answered answer.Unchanged out = refl
+delta-answered (answer.Delta n) out = refl
+delta-answered (answer.Replay place n) out = refl
 
-event-told : (c : ExportCall) (r : Record) (o : CallOutcome) → exportEvent (record { call = c; left = lentOf r o }) ≡ traceEvent (callOf c) o
-event-told c r o = λ i.
+event-answered : (c : ExportCall) (r : Record) (o : CallOutcome) → exportEvent (record { call = c; left = lentOf r o }) ≡ traceEvent (callOf c) o
+event-answered c r o = λ i.
     record {
       call = callOf c;
-      accepted = accepted-told (o .answer) i;
-      none = none-told (o .answer) i;
-      delta = delta-told (o .answer) (o .out) i;
+      accepted = accepted-answered (o .answer) i;
+      none = none-answered (o .answer) i;
+      delta = delta-answered (o .answer) (o .out) i;
       baseline = traceEvent (callOf c) o .baseline;
     }
 
@@ -129,7 +129,7 @@ event-told c r o = λ i.
 pub trace-is : (calls : List ExportCall) (r : Record) (st : List ℕ) → exportTrace r st calls ≡ trace.trace (recordOf r) st (callsOf calls)
 trace-is [] r st = refl
 trace-is (c ∷ cs) r st =
-    ap₂ _∷_ (ap (λ (l : Lent). exportEvent (record { call = c; left = l })) (lent-is r st c) ∙ event-told c r (stepped r st c))
+    ap₂ _∷_ (ap (λ (l : Lent). exportEvent (record { call = c; left = l })) (lent-is r st c) ∙ event-answered c r (stepped r st c))
     (trace-is cs (lentStep r st c .state) (lentStep r st c .store)
     ∙ ap₂ (λ a s. trace.trace a s (callsOf cs)) (next-is r st c) (store-is r st c))
 

@@ -23,7 +23,7 @@ use Rattle.export_record.specs.declared.Record.{Record}
 use Rattle.export_record.specs.Replies.{recordOf, answerReply, leftRecord, Lent, lentOf}
 use Rattle.rust_session.specs.Values.{asAssignment, asFloor, replays}
 use Rattle.rust_session.specs.Demand as rust
-use Rattle.rust_session.specs.Demand.{Shown, topicIn, toldBy, portShown, portRun, oursByNumber, noRoom, fedCalls, fedShown}
+use Rattle.rust_session.specs.Demand.{Shown, topicIn, answeredBy, portShown, portRun, oursByNumber, noRoom, fedCalls, fedShown}
 use Rattle.rust_export.specs.Calls.{ExportCall, update, response, drain, begin, invalidate, callOf, lentStep, Step, exportRun}
 use Rattle.rust_export.specs.Calls.{callsOf}
 use Rattle.rust_export.specs.DemandTwo.{Tells, Sees, AllSeen, isOurs, fed}
@@ -32,7 +32,7 @@ use Rattle.rust_export.proofs.StepLaws.{stepped, lent-is, left-as, next
 -- ---- what is told
 
 tells : (c : ExportCall) (a : Answer) (state : Record) (st out : List ℕ)
-    → Tells c (record { reply = answerReply a; state = state; store = st; out = out }) (toldBy (callOf c) a st out)
+    → Tells c (record { reply = answerReply a; state = state; store = st; out = out }) (answeredBy (callOf c) a st out)
 unfolding answerReply refusedReply replyWith wordAt wordOf
 tells (update message incarnation out′) (answer.Refused x) state st out = (refl, refl)
 tells (response message incarnation) (answer.Refused x) state st out = (refl, refl)
@@ -59,7 +59,7 @@ module _ (reader : ℕ) (c : ExportCall) (r : Record) (o : CallOutcome) (e : rec
   sees =
       let parent = topicIn (o .store) in
       record {
-        told = tells c (o .answer) state (o .store) (o .out);
+        answered = tells c (o .answer) state (o .store) (o .out);
         assignment = ap (λ (n : SessionRecord). Option·map (asAssignment parent) (held (record { state = n; store = o .store }))) e;
         epoch-floor = ap asFloor (floor-is state ∙ ap (λ (n : SessionRecord). n .«epoch_floor») e);
         incarnation = ap (λ (n : SessionRecord). n .incarnation) e;
@@ -90,59 +90,59 @@ all-seen reader (c ∷ cs) r st = (
 -- ---- what one of ours refused
 
 -- 28 by its max, which is no integer below 0
-room-told : (x : Refusal) → (eqb (numberOf x) 28 && not (eqb (wordAt 0 (valuesOf x)) maxQueue)) ≡ noRoom x
+room-answered : (x : Refusal) → (eqb (numberOf x) 28 && not (eqb (wordAt 0 (valuesOf x)) maxQueue)) ≡ noRoom x
 unfolding wordAt wordOf
-room-told refusal.StoreTooShort = refl
-room-told refusal.OutputTooShort = refl
-room-told refusal.InvalidWireFormat = refl
-room-told refusal.WrongWireType = refl
-room-told refusal.MissingField = refl
-room-told refusal.InvalidUtf8 = refl
-room-told refusal.IdentityTooLong = refl
-room-told (refusal.InvalidRange id source) = refl
-room-told (refusal.InvalidKeyRange source) = refl
-room-told (refusal.InvalidBucketRange id index start end) = refl
-room-told (refusal.OverlappingBucketRanges id) = refl
-room-told refusal.InvalidParent = refl
-room-told (refusal.AttachmentMismatch id) = refl
-room-told (refusal.DuplicateSegment id) = refl
-room-told refusal.AssignmentTooLong = refl
-room-told (refusal.Broker code) = refl
-room-told (refusal.Empty request) = refl
-room-told (refusal.EmptyUpdate watch) = refl
-room-told refusal.InvalidSegment = refl
-room-told (refusal.SegmentIdMismatch id topic) = refl
-room-told refusal.MalformedInput = refl
-room-told refusal.ResultTooLong = refl
-room-told refusal.MalformedStore = refl
-room-told (refusal.IncarnationMismatch got expected) = refl
-room-told (refusal.ConsumerMismatch got expected) = refl
-room-told (refusal.NonAdvancingIncarnation got prev) = refl
-room-told (refusal.CrossIncarnationEpochRegression got floor) = refl
-room-told (refusal.StaleEpoch got prev) = refl
-room-told (refusal.PreBaselineBufferFull max) = refl
-room-told (refusal.WatchMismatch got expected) = refl
-room-told refusal.MalformedSet = refl
-room-told refusal.SetTooLong = refl
-room-told refusal.KeyTooLong = refl
-room-told refusal.UnknownReader = refl
-room-told (refusal.BucketOutsideSegment id index) = refl
-room-told refusal.InvalidContract = refl
-room-told refusal.ChargeTooLarge = refl
-room-told refusal.InvalidLog = refl
-room-told refusal.InvalidWindow = refl
-room-told refusal.MalformedSave = refl
+room-answered refusal.StoreTooShort = refl
+room-answered refusal.OutputTooShort = refl
+room-answered refusal.InvalidWireFormat = refl
+room-answered refusal.WrongWireType = refl
+room-answered refusal.MissingField = refl
+room-answered refusal.InvalidUtf8 = refl
+room-answered refusal.IdentityTooLong = refl
+room-answered (refusal.InvalidRange id source) = refl
+room-answered (refusal.InvalidKeyRange source) = refl
+room-answered (refusal.InvalidBucketRange id index start end) = refl
+room-answered (refusal.OverlappingBucketRanges id) = refl
+room-answered refusal.InvalidParent = refl
+room-answered (refusal.AttachmentMismatch id) = refl
+room-answered (refusal.DuplicateSegment id) = refl
+room-answered refusal.AssignmentTooLong = refl
+room-answered (refusal.Broker code) = refl
+room-answered (refusal.Empty request) = refl
+room-answered (refusal.EmptyUpdate watch) = refl
+room-answered refusal.InvalidSegment = refl
+room-answered (refusal.SegmentIdMismatch id topic) = refl
+room-answered refusal.MalformedInput = refl
+room-answered refusal.ResultTooLong = refl
+room-answered refusal.MalformedStore = refl
+room-answered (refusal.IncarnationMismatch got expected) = refl
+room-answered (refusal.ConsumerMismatch got expected) = refl
+room-answered (refusal.NonAdvancingIncarnation got prev) = refl
+room-answered (refusal.CrossIncarnationEpochRegression got floor) = refl
+room-answered (refusal.StaleEpoch got prev) = refl
+room-answered (refusal.PreBaselineBufferFull max) = refl
+room-answered (refusal.WatchMismatch got expected) = refl
+room-answered refusal.MalformedSet = refl
+room-answered refusal.SetTooLong = refl
+room-answered refusal.KeyTooLong = refl
+room-answered refusal.UnknownReader = refl
+room-answered (refusal.BucketOutsideSegment id index) = refl
+room-answered refusal.InvalidContract = refl
+room-answered refusal.ChargeTooLarge = refl
+room-answered refusal.InvalidLog = refl
+room-answered refusal.InvalidWindow = refl
+room-answered refusal.MalformedSave = refl
 
-ours-told : (a : Answer) → isOurs (answerReply a) ≡ rust.isOurs a
+ours-answered : (a : Answer) → isOurs (answerReply a) ≡ rust.isOurs a
 unfolding answerReply refusedReply replyWith
-ours-told (answer.Refused x) = ap (oursByNumber (numberOf x) ||_) (room-told x)
-ours-told answer.Accepted = refl
-ours-told answer.Unchanged = refl
-ours-told (answer.Delta n) = refl
-ours-told (answer.Replay place n) = refl
+ours-answered (answer.Refused x) = ap (oursByNumber (numberOf x) ||_) (room-answered x)
+ours-answered answer.Accepted = refl
+ours-answered answer.Unchanged = refl
+ours-answered (answer.Delta n) = refl
+ours-answered (answer.Replay place n) = refl
 
 ours-step : (r : Record) (st : List ℕ) (c : ExportCall) → isOurs (lentStep r st c .reply) ≡ rust.isOurs (stepped r st c .answer)
-ours-step r st c = ap (λ (l : Lent). isOurs (l .reply)) (lent-is r st c) ∙ ours-told (stepped r st c .answer)
+ours-step r st c = ap (λ (l : Lent). isOurs (l .reply)) (lent-is r st c) ∙ ours-answered (stepped r st c .answer)
 
 -- ---- the calls that none of ours refused
 

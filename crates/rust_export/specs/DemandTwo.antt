@@ -24,7 +24,7 @@ use Rattle.rust_magnetar.specs.Session.{new}
 use Rattle.rust_names.specs.Agree.{isMarked}
 use Rattle.rust_session.specs.Values.{asAssignment, asDelta, asReplay, asFloor, replays}
 use Rattle.rust_session.specs.Demand as rust
-use Rattle.rust_session.specs.Demand.{Told, Shown, topicIn, sheetAt, Caller, rustRun, oursByNumber, oneReader, allRoomy, storeFor}
+use Rattle.rust_session.specs.Demand.{Answered, Shown, topicIn, sheetAt, Caller, rustRun, oursByNumber, oneReader, allRoomy, storeFor}
 use Rattle.export_reply.specs.declared.Reply.{Reply}
 use Rattle.export_reply.specs.Replies.{refused, accepted, unchanged, delta, replay, refusedReply}
 use Rattle.export_record.specs.Replies.{isSet, Lent}
@@ -43,7 +43,7 @@ textBeside (begin incarnation) x = []
 textBeside invalidate x = []
 
 -- a reply, with the lists and the delta that it refers to, tells what the Rust tells; of a refusal the number and all attached values
-abbrev pub Tells : ExportCall → Lent → Told → Type 0
+abbrev pub Tells : ExportCall → Lent → Answered → Type 0
 Tells c l (rust.refuses x text) = (l .reply ≡ refusedReply x) × (textBeside c (l .reply) ≡ text)
 Tells c l (rust.baseline b) = (l .reply .answer ≡ accepted) × (asAssignment (topicIn (l .store)) (listIn (l .store) baselineSlot) ≡ b)
 Tells c l rust.done = l .reply .answer ≡ accepted
@@ -55,7 +55,7 @@ Tells c l (rust.replay x) =
 
 -- so do the record's fields and the store, with what is left for that reader to drain
 pub record Sees (reader : ℕ) (c : ExportCall) (l : Lent) (x : Shown) : Type 0 where
-  pub told : Tells c l (x .told)
+  pub answered : Tells c l (x .answered)
   pub assignment : Option·map (asAssignment (topicIn (l .store))) (exportHeld (l .state) (l .store)) ≡ x .assignment
   pub epoch-floor : asFloor (exportFloor (l .state)) ≡ x .epoch-floor
   pub incarnation : link (l .state .incarnation) ≡ x .incarnation

@@ -25,7 +25,7 @@ use Rattle.name_source.proofs.RoundTrip.{reads-built}
 use Rattle.packed.specs.Assignment as port
 use Rattle.packed.specs.Assignment.{inOrder, okBuckets, okSegment, sizeAssignment, slotSize, okFrom, okAssignment, decodeAssignment, startsAssignment}
 use Rattle.packed.specs.Assignment.{isAssignment}
-use Rattle.packed.proofs.AssignmentLaws.{ok-good, ok-tail}
+use Rattle.packed.proofs.AssignmentLaws.{ok-segment, ok-tail}
 use Rattle.packed.proofs.RoundLaws.{FitSegment, FitSegments, fit-assignment}
 use Rattle.keyed.proofs.EachLaws.{Each}
 use Rattle.writer_message.proofs.TextLaws.{topic-utf8}
@@ -55,7 +55,7 @@ sound g f o =
 each-sound : (low : ℕ) (gs : List port.AssignedSegment) → FitSegments gs → okFrom low gs ≡ true → Each Sound gs
 each-sound low [] f o = tt
 each-sound low (g ∷ gs) f o =
-    (sound g (f .0) (ok-good low g gs o), each-sound (suc (g .segmentId)) gs (f .1) (ok-tail low g gs o))
+    (sound g (f .0) (ok-segment low g gs o), each-sound (suc (g .segmentId)) gs (f .1) (ok-tail low g gs o))
 
 all-sound : (s : List ℕ) → Bytes s → isAssignment s ≡ true → Each Sound (decodeAssignment s .segments)
 unfolding isAssignment startsAssignment okAssignment
@@ -68,16 +68,16 @@ all-sound s b e =
 -- ---- one segment
 
 module _ (parent : List ℕ) (p : isParent parent ≡ true) (u : isUtf8 parent ≡ true) where
-  path-good : isPath (pathOf parent) ≡ true
+  path-valid : isPath (pathOf parent) ≡ true
   unfolding isParent
-  path-good = both-true (startsWith topicScheme parent) (isPath (pathOf parent)) p .1
+  path-valid = both-true (startsWith topicScheme parent) (isPath (pathOf parent)) p .1
 
   source-is : (g : port.AssignedSegment) → Sound g → sourceBy parent g ≡ Ok (source (asSegment parent g))
   unfolding segmentSource parseText sourceStage
   source-is g S =
       let t : Text = asSegment parent g .segment-topic in
       let text : isUtf8 t ≡ true = topic-utf8 parent p u (g .range) (asId (g .segmentId)) in
-      let read = reads-built (pathOf parent) (g .range .start) (g .range .end) (asId (g .segmentId)) path-good (S .order) (S .bound) (S .id) in
+      let read = reads-built (pathOf parent) (g .range .start) (g .range .end) (asId (g .segmentId)) path-valid (S .order) (S .bound) (S .id) in
       rw (text, read, eq-eqb (g .segmentId) (g .segmentId) refl)
 
   topic-is : (out : List ℕ) (g : port.AssignedSegment) → Sound g

@@ -29,7 +29,7 @@ use Rattle.ranges_calls.specs.declared.TestAnswer.the-variants as test
 use Rattle.ranges_calls.specs.Calls.{valuesIn, holdsRange, touches, lengthOf, containsOf, containsRangeOf, isAdjacentOf}
 use Rattle.rust_magnetar.specs.Result.{Result, Ok, Err, _>>=_, map-err}
 use Rattle.rust_magnetar.specs.Ranges.{MAX-HASH, KeyRange-new, KeyRange-len, KeyRange-contains, KeyRange-contains-range, KeyRange-is-adjacent-to}
-use Rattle.rust_names.specs.Agree.{both, rangeOf, lengthTold, testTold, NewAgrees, LengthAgrees, ContainsAgrees, ContainsRangeAgrees}
+use Rattle.rust_names.specs.Agree.{both, rangeOf, lengthResult, testResult, NewAgrees, LengthAgrees, ContainsAgrees, ContainsRangeAgrees}
 use Rattle.rust_names.specs.Agree.{AdjacentAgrees, ToWireAgrees, FromWireAgrees}
 
 pub new-agrees : NewAgrees
@@ -66,7 +66,7 @@ length-agrees s e =
     ap (λ (r : Result KeyRange KeyRangeError). map-err InvalidKeyRange (r >>= (λ range. Ok (KeyRange-len range)))) (new-agrees s e)
     ∙ go (newKeyRange s e)
   where
-    go : (x : RangeResult) → map-err InvalidKeyRange (rangeOf x >>= (λ range. Ok (KeyRange-len range))) ≡ lengthTold (takeRange length.Refused x (λ r. length.Length (valuesIn r)))
+    go : (x : RangeResult) → map-err InvalidKeyRange (rangeOf x >>= (λ range. Ok (KeyRange-len range))) ≡ lengthResult (takeRange length.Refused x (λ r. length.Length (valuesIn r)))
     go (Valid range) = refl
     go (Invalid error) = refl
 
@@ -79,7 +79,7 @@ contains-agrees s e hash =
     told range = Ok (KeyRange-contains range hash)
 
     go : (x : RangeResult) → map-err InvalidKeyRange (rangeOf x >>= told)
-        ≡ testTold (takeRange test.Refused x (λ range. test.Told (KeyRange-contains range hash)))
+        ≡ testResult (takeRange test.Refused x (λ range. test.Answered (KeyRange-contains range hash)))
     go (Valid range) = refl
     go (Invalid error) = refl
 
@@ -87,21 +87,21 @@ contains-agrees s e hash =
 
 module _ (s e os oe : ℕ) (f g : KeyRange → KeyRange → Bool) where
   abbrev answer : (x y : RangeResult) → TestAnswer
-  answer x y = takeRange test.Refused x (λ a. takeRange test.Refused y (λ b. test.Told (g a b)))
+  answer x y = takeRange test.Refused x (λ a. takeRange test.Refused y (λ b. test.Answered (g a b)))
 
   second : Result KeyRange KeyRangeError → KeyRange → Result Bool KeyRangeError
   second y a = y >>= (λ b. Ok (f a b))
 
   -- two tests that agree on the ranges that the ends make
   both-agree : ((a b : KeyRange) → newKeyRange s e ≡ Valid a → newKeyRange os oe ≡ Valid b → f a b ≡ g a b)
-      → map-err InvalidKeyRange (both f s e os oe) ≡ testTold (answer (newKeyRange s e) (newKeyRange os oe))
+      → map-err InvalidKeyRange (both f s e os oe) ≡ testResult (answer (newKeyRange s e) (newKeyRange os oe))
   unfolding second
   both-agree h =
       ap₂ (λ (x y : Result KeyRange KeyRangeError). map-err InvalidKeyRange (x >>= second y)) (new-agrees s e) (new-agrees os oe)
       ∙ go (newKeyRange s e) (newKeyRange os oe) h
     where
       go : (x y : RangeResult) → ((a b : KeyRange) → x ≡ Valid a → y ≡ Valid b → f a b ≡ g a b)
-          → map-err InvalidKeyRange (rangeOf x >>= second (rangeOf y)) ≡ testTold (answer x y)
+          → map-err InvalidKeyRange (rangeOf x >>= second (rangeOf y)) ≡ testResult (answer x y)
       go (Invalid error) y k = refl
       go (Valid a) (Invalid error) k = refl
       go (Valid a) (Valid b) k = ap (λ (t : Bool). Ok t) (k a b refl refl)

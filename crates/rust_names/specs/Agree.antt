@@ -2,7 +2,7 @@
 -- crate magnetar transcribes. Each statement is one equation over every input; proofs/ has their proofs.
 --
 -- Where the two sides have different types, a table takes one to the other: `paper` takes the Rust's errors to this port's refusals,
--- `readOf`, `sourceOf`, `rangeOf`, `lengthTold` and `testTold` an answer of this port to the Rust's `Result`. The only conditions are on the
+-- `readOf`, `sourceOf`, `rangeOf`, `lengthResult` and `testResult` an answer of this port to the Rust's `Result`. The only conditions are on the
 -- inputs: a text is UTF-8, as a `str` is; what the Rust gives for them fits the output; and the parent is none that the Rust takes and 02 h
 -- forbids (`isMarked`, `isMarkedName`).
 -- Assumes nothing.
@@ -149,13 +149,13 @@ abbrev pub rangeOf : RangeResult → Result KeyRange KeyRangeError
 rangeOf (Valid range) = Ok range
 rangeOf (Invalid error) = Err error
 
-abbrev pub lengthTold : LengthAnswer → Result ℕ Refusal
-lengthTold (lengths.Length n) = Ok n
-lengthTold (lengths.Refused x) = Err x
+abbrev pub lengthResult : LengthAnswer → Result ℕ Refusal
+lengthResult (lengths.Length n) = Ok n
+lengthResult (lengths.Refused x) = Err x
 
-abbrev pub testTold : TestAnswer → Result Bool Refusal
-testTold (tests.Told b) = Ok b
-testTold (tests.Refused x) = Err x
+abbrev pub testResult : TestAnswer → Result Bool Refusal
+testResult (tests.Answered b) = Ok b
+testResult (tests.Refused x) = Err x
 
 -- `KeyRange::new`
 abbrev pub NewAgrees : Type 0
@@ -168,7 +168,7 @@ len start end = do
   Ok (KeyRange-len range)
 
 abbrev pub LengthAgrees : Type 0
-LengthAgrees = (start end : ℕ) → map-err refusal.InvalidKeyRange (len start end) ≡ lengthTold (lengthOf start end)
+LengthAgrees = (start end : ℕ) → map-err refusal.InvalidKeyRange (len start end) ≡ lengthResult (lengthOf start end)
 
 -- `contains`
 abbrev pub contains : ℕ → ℕ → ℕ → Result Bool KeyRangeError
@@ -177,7 +177,7 @@ contains start end hash = do
   Ok (KeyRange-contains range hash)
 
 abbrev pub ContainsAgrees : Type 0
-ContainsAgrees = (start end hash : ℕ) → map-err refusal.InvalidKeyRange (contains start end hash) ≡ testTold (containsOf start end hash)
+ContainsAgrees = (start end hash : ℕ) → map-err refusal.InvalidKeyRange (contains start end hash) ≡ testResult (containsOf start end hash)
 
 -- a test of two ranges: `contains_range`, `is_adjacent_to`
 abbrev pub both : (KeyRange → KeyRange → Bool) → ℕ → ℕ → ℕ → ℕ → Result Bool KeyRangeError
@@ -190,13 +190,13 @@ abbrev pub ContainsRangeAgrees : Type 0
 ContainsRangeAgrees =
     (start end other-start other-end : ℕ)
     → map-err refusal.InvalidKeyRange (both KeyRange-contains-range start end other-start other-end)
-    ≡ testTold (containsRangeOf start end other-start other-end)
+    ≡ testResult (containsRangeOf start end other-start other-end)
 
 abbrev pub AdjacentAgrees : Type 0
 AdjacentAgrees =
     (start end other-start other-end : ℕ)
     → map-err refusal.InvalidKeyRange (both KeyRange-is-adjacent-to start end other-start other-end)
-    ≡ testTold (isAdjacentOf start end other-start other-end)
+    ≡ testResult (isAdjacentOf start end other-start other-end)
 
 -- ---- the kind of a consumer on the wire
 

@@ -17,7 +17,7 @@ use Rattle.session.specs.Trace.{Call}
 use Rattle.rust_magnetar.specs.Text.{Text}
 use Rattle.rust_magnetar.specs.Assignment.{AssignedSegment, ConsumerAssignment}
 use Rattle.rust_magnetar.specs.Session.{AssignmentDelta, AssignmentReplay, new}
-use Rattle.rust_session.specs.Demand.{Told, refuses, baseline, done, no-change, delta, replay, Shown, Caller, rustRun}
+use Rattle.rust_session.specs.Demand.{Answered, refuses, baseline, done, no-change, delta, replay, Shown, Caller, rustRun}
 
 -- a list, its names left out
 abbrev pub messageSegment : AssignedSegment → port.AssignedSegment
@@ -35,7 +35,7 @@ pub data Line : Type 0 where
 abbrev pub changeOf : AssignmentDelta → Line
 changeOf d = changed (d .layout-epoch) (map (λ (id : SegmentId). id .0) (d .lost)) (map messageSegment (d .gained))
 
-abbrev pub lineOf : Told → Line
+abbrev pub lineOf : Answered → Line
 lineOf (refuses x text) = refused (numberOf x) (valuesOf x) text
 lineOf (baseline a) = accepted
 lineOf done = accepted
@@ -54,7 +54,7 @@ pub record Seen : Type 0 where
 abbrev pub seenOf : Shown → Seen
 seenOf x =
     record {
-      line = lineOf (x .told);
+      line = lineOf (x .answered);
       held = Option·map listOf (x .assignment);
       floor = x .epoch-floor;
       link = x .incarnation .0;

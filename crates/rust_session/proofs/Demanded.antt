@@ -20,7 +20,7 @@ use Rattle.packed_queue.specs.Entries.{decodeEntries}
 use Rattle.session.specs.Store.{identitySlot, slot, queueIn, writeAll}
 use Rattle.session.specs.Identity.{identityTopic, subscriptionOf, consumerNameOf, identityKind}
 use Rattle.session.specs.Session as session
-use Rattle.session.specs.Session.{Session, Reply, view}
+use Rattle.session.specs.Session.{Session, CallAnswer, view}
 use Rattle.session.specs.Drain.{Found, end, entry, drained, nextFor}
 use Rattle.session.specs.Calls.{CallOutcome, answerOf, effectOf}
 use Rattle.session.specs.Trace.{Call, update, response, drain, begin, invalidate, stepOf}
@@ -34,15 +34,15 @@ use Rattle.rust_session.specs.Values.{asAssignment, asFloor, asType}
 use Rattle.rust_session.specs.Demand.{topicIn, portShown, portRun, Caller, rustStep, rustRun, opened, isOurs, noneOurs, fedCalls}
 use Rattle.rust_session.specs.Demand.{fedShown, drainsBy, oneReader, DemandTwoFed, DemandTwo}
 use Rattle.rust_session.proofs.ReplayAgrees.{Registration, sess}
-use Rattle.rust_session.proofs.Mirror.{oursIn, Mirror, Good}
+use Rattle.rust_session.proofs.Mirror.{oursIn, Mirror, Agrees}
 use Rattle.rust_session.proofs.ShownAgrees.{fair-call, shown-agrees, view-counted, bytes-show}
 
 -- ---- what one of ours refuses
 
-pub ours-is : (x : Reply) → isOurs (answerOf x) ≡ oursIn x
+pub ours-is : (x : CallAnswer) → isOurs (answerOf x) ≡ oursIn x
 ours-is (session.refused x) = refl
 ours-is session.accepted = refl
-ours-is session.nothing = refl
+ours-is session.unchanged = refl
 ours-is (session.changed d) = refl
 ours-is (session.replayed index place d) = refl
 
@@ -103,8 +103,8 @@ module _ (n : Registration) where
       f : Follows r st (resultOf (view r st) w)
       f = follow-call r st k w (b .0)
 
-      good : isOurs (answerOf (x .reply)) ≡ false → Good n w (view r st) (resultOf (view r st) w) (rustStep c w)
-      good t = fair-call n w (view r st) c (own .0) m (sym (ours-is (x .reply)) ∙ t)
+      agrees : isOurs (answerOf (x .reply)) ≡ false → Agrees n w (view r st) (resultOf (view r st) w) (rustStep c w)
+      agrees t = fair-call n w (view r st) c (own .0) m (sym (ours-is (x .reply)) ∙ t)
 
       go : (t : Bool) → isOurs (answerOf (x .reply)) ≡ t
           → cond t (fedShown (n .reader) (x .next) behind ws) (portShown (n .reader) w (effectOf x st (outOf w)) ∷ fedShown (n .reader) (x .next) behind ws)
@@ -115,9 +115,9 @@ module _ (n : Registration) where
           let q : behind ≡ st = ap (λ l. writeAll l st) (e .1) in
           ap₂ (λ a s. fedShown (n .reader) a s ws) p q ∙ rest r st c k m (b .1) (own .1) ∙ ap₂ (λ a s. rustRun c (fedCalls a s ws)) (sym p) (sym q)
       go false t =
-          ap₂ _∷_ (bytes-show (n .reader) r st w f ∙ shown-agrees n w (view r st) x (rustStep c w) (good t))
+          ap₂ _∷_ (bytes-show (n .reader) r st w f ∙ shown-agrees n w (view r st) x (rustStep c w) (agrees t))
           (rest (x .next) behind (rustStep c w .next) (f .kept)
-          (subst (λ s. Mirror n s (rustStep c w .next)) (sym (f .session)) (good t .mirror)) (b .1) (own .1))
+          (subst (λ s. Mirror n s (rustStep c w .next)) (sym (f .session)) (agrees t .mirror)) (b .1) (own .1))
 
   fed-run : (calls : List Call) → Feeds calls
   fed-run [] r st c k m b o = refl

@@ -25,7 +25,7 @@ use Rattle.rust_names.specs.Agree.{isMarked}
 use Rattle.rust_session.specs.Values.{asReplay, replays}
 use Rattle.rust_session.specs.Demand.{replay, Caller, handOn, rustStep}
 use Rattle.rust_session.proofs.ReplayAgrees.{Registration, replays-end, replays-none, Next, replays-entry}
-use Rattle.rust_session.proofs.Mirror.{rust, caller, holding, Idle, Live, Mirror, Good, Fair, mirror-still, good-same}
+use Rattle.rust_session.proofs.Mirror.{rust, caller, holding, Idle, Live, Mirror, Agrees, Fair, mirror-still, agrees-same}
 
 module _ (n : Registration) (out : List ℕ) (s : Session) where
   abbrev call : Call
@@ -52,10 +52,10 @@ module _ (n : Registration) (out : List ℕ) (s : Session) where
     still-eight k = length-set (s .state .«drain_positions») (n .reader) k ∙ eight
 
     -- with nothing left
-    drained-end : Good n call s (drained s (n .reader) end) (handOn (rust n s (holding s) [] []) [])
+    drained-end : Agrees n call s (drained s (n .reader) end) (handOn (rust n s (holding s) [] []) [])
     unfolding drained
     drained-end =
-        good-same n call s (drained s (n .reader) end) _ counted refl
+        agrees-same n call s (drained s (n .reader) end) _ counted refl
         (record {
           unmarked = unmarked;
           counted = counted;
@@ -71,13 +71,13 @@ module _ (n : Registration) (out : List ℕ) (s : Session) where
 
     -- the first of those that are left
     drained-entry : (i : ℕ) (d : port-delta.AssignmentDelta) (l : List AssignmentReplay) → l ≡ left (suc i)
-        → Good n call s (drained s (n .reader) (entry i d)) (record {
-          told = replay (asReplay (s .topic) (getD (s .queue) i (s .baseline)) d);
+        → Agrees n call s (drained s (n .reader) (entry i d)) (record {
+          answered = replay (asReplay (s .topic) (getD (s .queue) i (s .baseline)) d);
           next = record { session = rust n s (holding s) [] []; taken = l };
         })
     unfolding drained
     drained-entry i d l e =
-        good-same n call s (drained s (n .reader) (entry i d)) _ counted refl
+        agrees-same n call s (drained s (n .reader) (entry i d)) _ counted refl
         (record {
           unmarked = unmarked;
           counted = counted;
@@ -86,19 +86,19 @@ module _ (n : Registration) (out : List ℕ) (s : Session) where
         })
 
     live-drain : (l : List AssignmentReplay) → l ≡ left at → (f : Found) → found ≡ f
-        → Good n call s (drained s (n .reader) f) (handOn (rust n s (holding s) [] []) l)
+        → Agrees n call s (drained s (n .reader) f) (handOn (rust n s (holding s) [] []) l)
     live-drain l e end g =
-        subst (λ x. Good n call s (drained s (n .reader) end) (handOn (rust n s (holding s) [] []) x))
+        subst (λ x. Agrees n call s (drained s (n .reader) end) (handOn (rust n s (holding s) [] []) x))
         (sym (e ∙ replays-none (s .topic) 0 (s .baseline) (s .queue) at g)) drained-end
     live-drain l e (entry j d) g =
         let h : Next (s .topic) (s .baseline) 0 (s .baseline) (s .queue) at j d =
         replays-entry (s .topic) (s .baseline) 0 (s .baseline) (s .queue) at j d g in
         let p : h .place ≡ j = omega (arith, h .at) in
-        subst (λ x. Good n call s (drained s (n .reader) (entry j d)) (handOn (rust n s (holding s) [] []) x))
+        subst (λ x. Agrees n call s (drained s (n .reader) (entry j d)) (handOn (rust n s (holding s) [] []) x))
         (sym (e ∙ h .first))
         (subst
-        (λ k. Good n call s (drained s (n .reader) (entry j d)) (record {
-          told = replay (asReplay (s .topic) (getD (s .queue) k (s .baseline)) d);
+        (λ k. Agrees n call s (drained s (n .reader) (entry j d)) (record {
+          answered = replay (asReplay (s .topic) (getD (s .queue) k (s .baseline)) d);
           next = record { session = rust n s (holding s) [] []; taken = left (suc k) };
         }))
         (sym p) (drained-entry j d (left (suc j)) refl))
@@ -107,17 +107,17 @@ module _ (n : Registration) (out : List ℕ) (s : Session) where
     drained-fair : n .reader < 8 → Idle n s c ⊎ Live n s c → s .state .registered ≡ true → Fair n call s (drained s (n .reader) found) (rustStep c call)
     drained-fair low (inl d) u = absurd (false≢true (sym (d .registered) ∙ u))
     drained-fair low (inr d) u = λ f.
-        subst (λ x. Good n call s (drained s (n .reader) found) (rustStep x call)) (sym (d .is))
+        subst (λ x. Agrees n call s (drained s (n .reader) found) (rustStep x call)) (sym (d .is))
         (live-drain (h .unmarked) (h .counted) (h .eight) low (d .registered) (d .proper) (c .taken ++ c .session .replayed-updates) (d .left) found refl)
 
     idle-fair : Idle n s c ⊎ Live n s c → s .state .registered ≡ false
-        → Fair n call s (record { reply = session.nothing; next = s .state; writes = [] }) (rustStep c call)
+        → Fair n call s (record { reply = session.unchanged; next = s .state; writes = [] }) (rustStep c call)
     idle-fair (inr d) u = absurd (false≢true (sym u ∙ d .registered))
     idle-fair (inl d) u = λ f.
-        subst (λ x. Good n call s (record { reply = session.nothing; next = s .state; writes = [] }) (rustStep x call)) (sym (d .is))
+        subst (λ x. Agrees n call s (record { reply = session.unchanged; next = s .state; writes = [] }) (rustStep x call)) (sym (d .is))
         (record {
-          told = refl;
-          mirror = mirror-still n s session.nothing (caller n s none (s .queue) [] []) (subst (Mirror n s) (d .is) h);
+          answered = refl;
+          mirror = mirror-still n s session.unchanged (caller n s none (s .queue) [] []) (subst (Mirror n s) (d .is) h);
         })
 
     pub fair-drain : Fair n call s (drainCall s (n .reader) (length out)) (rustStep c call)

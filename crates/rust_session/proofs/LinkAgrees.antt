@@ -23,7 +23,7 @@ use Rattle.rust_magnetar.specs.Session.{AssignmentReplay, Did, Run, fail, with-
 use Rattle.rust_session.specs.Values.{asFloor}
 use Rattle.rust_session.specs.Demand.{done, Caller, afterLink, rustStep}
 use Rattle.rust_session.proofs.ReplayAgrees.{Registration, sess}
-use Rattle.rust_session.proofs.Mirror.{rust, caller, holding, Idle, Live, Mirror, Good, Fair, refuse-fair, both}
+use Rattle.rust_session.proofs.Mirror.{rust, caller, holding, Idle, Live, Mirror, Agrees, Fair, refuse-fair, both}
 
 -- the registration ends
 abbrev leaving : Session → ControllerIncarnation → Bool → session.Result
@@ -72,7 +72,7 @@ module _ (n : Registration) (link : ControllerIncarnation) (s : Session) where
       ∙ swapped (ltb (own .0) (link .0)) (fail (NonAdvancingIncarnation link own)) (beginning link)))
       (both (Begins t) (ltb (own .0) (link .0)) (ltb (own .0) (link .0)) refl
       (beginning link) (fail (NonAdvancingIncarnation link own)) (rust n s o q r)
-      (λ u f. record { told = refl; mirror = leave-mirror n s (caller n s o q r t) link false h })
+      (λ u f. record { answered = refl; mirror = leave-mirror n s (caller n s o q r t) link false h })
       (λ u. refuse-fair n (begin link) s (refusal.NonAdvancingIncarnation link own) (NonAdvancingIncarnation link own)
       (caller n s o q r t) refl refl h))
 
@@ -93,8 +93,8 @@ pub fair-invalidate : (n : Registration) (s : Session) (c : Caller) → Mirror n
     → Fair n invalidate s (invalidateCall s) (rustStep c invalidate)
 fair-invalidate n s c h = go (h .state)
   where
-    ended : Good n invalidate s (invalidateCall s) (record { told = done; next = left n s (s .state .incarnation) true })
-    ended = record { told = refl; mirror = leave-mirror n s c (s .state .incarnation) true h }
+    ended : Agrees n invalidate s (invalidateCall s) (record { answered = done; next = left n s (s .state .incarnation) true })
+    ended = record { answered = refl; mirror = leave-mirror n s c (s .state .incarnation) true h }
 
     go : Idle n s c ⊎ Live n s c → Fair n invalidate s (invalidateCall s) (rustStep c invalidate)
     go (inl d) = subst (λ x. Fair n invalidate s (invalidateCall s) (rustStep x invalidate)) (sym (d .is)) (λ f. ended)

@@ -1,7 +1,7 @@
 -- What this port's session and the Rust's have in common between calls, and the same test on both sides of a call.
 --
 -- The session here is the one in values (crate session, proofs/Model). In order: what it shows (`shownIn`); the relation (`Mirror`); what
--- is to be shown of a call's result (`Good`, and `Fair` where ours do not refuse); refusals (`refuse-fair`, `plain-fair`); tests that both
+-- is to be shown of a call's result (`Agrees`, and `Fair` where ours do not refuse); refusals (`refuse-fair`, `plain-fair`); tests that both
 -- sides make (`both`, `through`, `floors`, `contents`).
 -- Assumes nothing.
 use Prim.Native.Nat.{ℕ}
@@ -26,7 +26,7 @@ use Rattle.keyed.proofs.EachLaws.{Each}
 use Rattle.session.specs.declared.Floor.{Floor}
 use Rattle.session.specs.declared.Floor.the-variants.{Unset, At}
 use Rattle.session.specs.Session as session
-use Rattle.session.specs.Session.{Session, Reply, positionOf, refuse, unless, floorFault}
+use Rattle.session.specs.Session.{Session, CallAnswer, positionOf, refuse, unless, floorFault}
 use Rattle.session.specs.Trace.{Call, update, response, drain, begin, invalidate}
 use Rattle.session.specs.Observers.{isResponse}
 use Rattle.session.proofs.Model.{pushes, after, heldIn}
@@ -40,7 +40,7 @@ use Rattle.rust_magnetar.specs.Session.{AssignmentReplay, ScalableConsumerSessi
 use Rattle.rust_names.specs.Agree.{isMarked}
 use Rattle.rust_session.specs.Paper.{paper, textOf}
 use Rattle.rust_session.specs.Values.{asAssignment, asDelta, asReplay, asFloor, replays}
-use Rattle.rust_session.specs.Demand.{Told, refuses, baseline, done, no-change, delta, replay, Shown, textBeside, Caller}
+use Rattle.rust_session.specs.Demand.{Answered, refuses, baseline, done, no-change, delta, replay, Shown, textBeside, Caller}
 use Rattle.rust_session.specs.Demand.{Turn, refusing, ours}
 use Rattle.rust_session.proofs.Verdicts.{verdict, ok-err, Agreed}
 use Rattle.rust_session.proofs.ReplayAgrees.{Registration, sess, Plain}
@@ -48,17 +48,17 @@ use Rattle.rust_session.proofs.OursLaws.{Ours, Theirs, OursOrTheirs}
 
 -- ---- what a session in values shows, behind a call with that reply
 
-abbrev pub toldIn : Call → Reply → Session → Told
-toldIn c (session.refused x) s = refuses x (textBeside c x)
-toldIn c session.accepted s = cond (isResponse c) (baseline (asAssignment (s .topic) (s .baseline))) done
-toldIn c session.nothing s = no-change
-toldIn c (session.changed d) s = delta (asDelta (s .topic) d)
-toldIn c (session.replayed index place d) s = replay (asReplay (s .topic) (getD (s .queue) index (s .baseline)) d)
+abbrev pub answeredIn : Call → CallAnswer → Session → Answered
+answeredIn c (session.refused x) s = refuses x (textBeside c x)
+answeredIn c session.accepted s = cond (isResponse c) (baseline (asAssignment (s .topic) (s .baseline))) done
+answeredIn c session.unchanged s = no-change
+answeredIn c (session.changed d) s = delta (asDelta (s .topic) d)
+answeredIn c (session.replayed index place d) s = replay (asReplay (s .topic) (getD (s .queue) index (s .baseline)) d)
 
-abbrev pub shownIn : (reader : ℕ) → Call → Reply → Session → Shown
+abbrev pub shownIn : (reader : ℕ) → Call → CallAnswer → Session → Shown
 shownIn reader c reply s =
     record {
-      told = toldIn c reply s;
+      answered = answeredIn c reply s;
       assignment = Option·map (asAssignment (s .topic)) (heldIn s);
       epoch-floor = asFloor (s .state .«epoch_floor»);
       incarnation = s .state .incarnation;
@@ -68,10 +68,10 @@ shownIn reader c reply s =
       undrained = cond (s .state .registered) (replays (s .topic) (s .baseline) (s .queue) (positionOf (s .state) reader)) [];
     }
 
-abbrev pub oursIn : Reply → Bool
+abbrev pub oursIn : CallAnswer → Bool
 oursIn (session.refused x) = ours x
 oursIn session.accepted = false
-oursIn session.nothing = false
+oursIn session.unchanged = false
 oursIn (session.changed d) = false
 oursIn (session.replayed index place d) = false
 
@@ -113,15 +113,15 @@ pub record Mirror (n : Registration) (s : Session) (c : Caller) : Type 0 where
 
 -- ---- of a call's result
 
-pub record Good (n : Registration) (c : Call) (s : Session) (x : session.Result) (y : Turn) : Type 0 where
-  pub told : toldIn c (x .reply) (after s x) ≡ y .told
+pub record Agrees (n : Registration) (c : Call) (s : Session) (x : session.Result) (y : Turn) : Type 0 where
+  pub answered : answeredIn c (x .reply) (after s x) ≡ y .answered
   pub mirror : Mirror n (after s x) (y .next)
 
 abbrev pub Fair : Registration → Call → Session → session.Result → Turn → Type 0
-Fair n c s x y = oursIn (x .reply) ≡ false → Good n c s x y
+Fair n c s x y = oursIn (x .reply) ≡ false → Agrees n c s x y
 
 -- a result that writes no slot and keeps the record leaves the session as it is
-still : (s : Session) (reply : Reply) → length (s .queue) ≡ s .state .«queue_count»
+still : (s : Session) (reply : CallAnswer) → length (s .queue) ≡ s .state .«queue_count»
     → after s (record { reply = reply; next = s .state; writes = [] }) ≡ s
 still s reply e = λ i.
     record {
@@ -134,7 +134,7 @@ still s reply e = λ i.
       queue = take-at (s .queue) [] (s .state .«queue_count») e i;
     }
 
-pub mirror-still : (n : Registration) (s : Session) (reply : Reply) (c : Caller) → Mirror n s c
+pub mirror-still : (n : Registration) (s : Session) (reply : CallAnswer) (c : Caller) → Mirror n s c
     → Mirror n (after s (record { reply = reply; next = s .state; writes = [] })) c
 mirror-still n s reply c m = subst (λ z. Mirror n z c) (sym (still s reply (m .counted))) m
 
@@ -157,11 +157,11 @@ pub mirror-same : (n : Registration) (s : Session) (x : session.Result) (c : Cal
 mirror-same n s x c e m =
     subst (λ q. Mirror n (withQueue s x q) c) (sym (take-at (s .queue) (pushes (x .writes)) (x .next .«queue_count») e)) m
 
-pub good-same : (n : Registration) (c : Call) (s : Session) (x : session.Result) (y : Turn) → length (s .queue) ≡ x .next .«queue_count»
-    → toldIn c (x .reply) (withQueue s x (s .queue)) ≡ y .told → Mirror n (withQueue s x (s .queue)) (y .next) → Good n c s x y
-good-same n c s x y e t m =
+pub agrees-same : (n : Registration) (c : Call) (s : Session) (x : session.Result) (y : Turn) → length (s .queue) ≡ x .next .«queue_count»
+    → answeredIn c (x .reply) (withQueue s x (s .queue)) ≡ y .answered → Mirror n (withQueue s x (s .queue)) (y .next) → Agrees n c s x y
+agrees-same n c s x y e t m =
     record {
-      told = ap (λ q. toldIn c (x .reply) (withQueue s x q)) (take-at (s .queue) (pushes (x .writes)) (x .next .«queue_count») e) ∙ t;
+      answered = ap (λ q. answeredIn c (x .reply) (withQueue s x q)) (take-at (s .queue) (pushes (x .writes)) (x .next .«queue_count») e) ∙ t;
       mirror = mirror-same n s x (y .next) e m;
     }
 
@@ -170,7 +170,7 @@ good-same n c s x y e t m =
 pub refuse-fair : (n : Registration) (c : Call) (s : Session) (x : Refusal) (e : AssignmentError) (q : Caller)
     → paper e ≡ x → textOf e ≡ textBeside c x → Mirror n s q → Fair n c s (refuse x s) (refusing e (q .session) (q .taken))
 refuse-fair n c s x e q p t m = λ o.
-    record { told = ap₂ refuses (sym p) (sym t); mirror = mirror-still n s (session.refused x) q m }
+    record { answered = ap₂ refuses (sym p) (sym t); mirror = mirror-still n s (session.refused x) q m }
 
 no-text : (c : Call) (x : Refusal) → eqb (numberOf x) 16 ≡ false → textBeside c x ≡ []
 no-text (update message incarnation out) x h = refl
@@ -243,7 +243,7 @@ module _ {B : Type 0} (P : session.Result → Did B → Type 0) (t : Text) (answ
     (S : ScalableConsumerSession) (k : ConsumerAssignment → Run B) (a : port.ConsumerAssignment)
     (bad : (x : Refusal) (y : AssignmentError) → Plain y x → P (answer (content.refused x)) (record { after = S; result = Err y }))
     (own : (x : Refusal) → Ours x → (d : Did B) → P (answer (content.refused x)) d)
-    (good : P (answer (content.taken a)) (k (asAssignment t a) S)) where
+    (agrees : P (answer (content.taken a)) (k (asAssignment t a) S)) where
   refused-same : (r : Refusal) (x : AssignmentError) → paper x ≡ r → OursOrTheirs (some r)
       → P (answer (content.refused r)) (record { after = S; result = Err x })
   refused-same r x p (inl o) = own r o (record { after = S; result = Err x })
@@ -254,7 +254,7 @@ module _ {B : Type 0} (P : session.Result → Did B → Type 0) (t : Text) (answ
   contents-same (Ok x) none e u =
       let p : x ≡ asAssignment t a = cc in
       choose (λ c. P (answer c) (k x S)) (leb (sizeAssignment a) slotSize)
-      (λ u. subst (λ y. P (answer (content.taken a)) (k y S)) (sym p) good) (λ u. own refusal.AssignmentTooLong refl (k x S))
+      (λ u. subst (λ y. P (answer (content.taken a)) (k y S)) (sym p) agrees) (λ u. own refusal.AssignmentTooLong refl (k x S))
   contents-same (Ok x) (some r) e u = ok-err e
   contents-same (Err x) none e u = ok-err (sym e)
   contents-same (Err x) (some r) e u = let p : paper x ≡ r = cc in refused-same r x p u

@@ -232,12 +232,12 @@ none-from room most (w ∷ ws) r st h b e =
 well-fresh : (room : ℕ) (r : SessionRecord) (st : List ℕ) → Fresh r → storeFor room ≤ length st → isIdentity (slot st identitySlot) ≡ true
     → Well room r st
 unfolding view queueIn decodeEntries
-well-fresh room r st f big good =
+well-fresh room r st f big agrees =
     let k : Kept r st = kept-fresh r st f in
     record {
       kept = k;
       big = big;
-      sound = sound-is r st k ∙ good;
+      sound = sound-is r st k ∙ agrees;
       small = subst (λ (n : ℕ). Each (Short room) (queueIn st n)) (sym (f .no-queue)) tt;
     }
 
@@ -245,11 +245,11 @@ pub none-due : (r : SessionRecord) → Fresh r → (st : List ℕ) → isIdentit
     → (room : ℕ) → room ≤ slotSize → storeFor room ≤ length st
     → (calls : List Call) → AllOfBytes calls → allRoomy room (topicIn st) calls ≡ true → noneOurs r st calls ≡ true
 unfolding view
-none-due r f st good room most big calls bytes e = none-from room most calls r st (well-fresh room r st f big good) bytes e
+none-due r f st agrees room most big calls bytes e = none-from room most calls r st (well-fresh room r st f big agrees) bytes e
 
 pub demand-two-of-inputs : DemandTwoOfInputs
-demand-two-of-inputs r f st unmarked good room most big calls bytes reader o e =
-    let n : noneOurs r st calls ≡ true = none-due r f st good room most big calls bytes e in
+demand-two-of-inputs r f st unmarked agrees room most big calls bytes reader o e =
+    let n : noneOurs r st calls ≡ true = none-due r f st agrees room most big calls bytes e in
     (n, demand-two r f st unmarked calls bytes reader o n)
 
 pub rooms : Rooms

@@ -158,7 +158,7 @@ module _ (n : Registration) (message : List ℕ) (link : ControllerIncarnation) 
           subst (λ x. Responds t (register s b last) (commitWith from (theirs b) (x .result) (x .after))) (sym p)
           (λ f.
           record {
-            told = refl;
+            answered = refl;
             mirror =
                 subst (λ l. Mirror n (withQueue s (register s b last) l) (record { session = finished; taken = [] })) (sym stays)
                 (accepted e);

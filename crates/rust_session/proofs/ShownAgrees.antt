@@ -17,20 +17,20 @@ use Rattle.session.specs.declared.SessionRecord.{SessionRecord}
 use Rattle.packed_queue.proofs.EntryLaws.{length-entriesOf}
 use Rattle.session.specs.Store.{listIn, queueIn, writeAll}
 use Rattle.session.specs.Session as session
-use Rattle.session.specs.Session.{Session, Reply, positionOf, view}
+use Rattle.session.specs.Session.{Session, CallAnswer, positionOf, view}
 use Rattle.session.specs.Drain.{Found, end, entry, entryPlace, drained, nextFor}
 use Rattle.session.specs.Calls.{answerOf, outputOf, effectOf}
 use Rattle.session.specs.Trace.{Call, update, response, drain, begin, invalidate}
 use Rattle.session.proofs.Model.{resultOf, after}
 use Rattle.session.proofs.CallLaws.{update-cases, response-cases, drain-cases}
 use Rattle.session.proofs.SlotLaws.{queued-sheet}
-use Rattle.session.proofs.ViewLaws.{Kept, FitReply, Follows}
+use Rattle.session.proofs.ViewLaws.{Kept, FitAnswer, Follows}
 use Rattle.session.proofs.TraceLaws.{delta-back, outOf}
 use Rattle.keyed.proofs.KeyedLaws.{choose}
 use Rattle.rust_session.specs.Values.{asAssignment, asDelta, asReplay, asFloor, replays}
-use Rattle.rust_session.specs.Demand.{Told, delta, replay, Shown, topicIn, sheetAt, toldBy, portShown, drainsBy, Caller, Turn, rustStep, rustShown}
+use Rattle.rust_session.specs.Demand.{Answered, delta, replay, Shown, topicIn, sheetAt, answeredBy, portShown, drainsBy, Caller, Turn, rustStep, rustShown}
 use Rattle.rust_session.proofs.ReplayAgrees.{Registration, Next, replays-entry}
-use Rattle.rust_session.proofs.Mirror.{toldIn, shownIn, Idle, Live, Mirror, Good, Fair}
+use Rattle.rust_session.proofs.Mirror.{answeredIn, shownIn, Idle, Live, Mirror, Agrees, Fair}
 use Rattle.rust_session.proofs.UpdateAgrees.{fair-update}
 use Rattle.rust_session.proofs.ResponseAgrees.{fair-response}
 use Rattle.rust_session.proofs.DrainAgrees.{fair-drain}
@@ -48,7 +48,7 @@ fair-call n invalidate s c o h = fair-invalidate n s c h
 
 -- ---- what is shown
 
-pub shown-agrees : (n : Registration) (w : Call) (s : Session) (x : session.Result) (y : Turn) → Good n w s x y
+pub shown-agrees : (n : Registration) (w : Call) (s : Session) (x : session.Result) (y : Turn) → Agrees n w s x y
     → shownIn (n .reader) w (x .reply) (after s x) ≡ rustShown y
 shown-agrees n w s x y g = go (g .mirror .state)
   where
@@ -56,10 +56,10 @@ shown-agrees n w s x y g = go (g .mirror .state)
     z = after s x
 
     -- what the port shows, by what it told and whether it is registered
-    shown : Told → Bool → Shown
+    shown : Answered → Bool → Shown
     shown t b =
         record {
-          told = t;
+          answered = t;
           assignment = Option·map (asAssignment (z .topic)) (cond b (some (z .list)) none);
           epoch-floor = asFloor (z .state .«epoch_floor»);
           incarnation = z .state .incarnation;
@@ -71,13 +71,13 @@ shown-agrees n w s x y g = go (g .mirror .state)
 
     go : Idle n (after s x) (y .next) ⊎ Live n (after s x) (y .next) → shownIn (n .reader) w (x .reply) (after s x) ≡ rustShown y
     go (inl d) =
-        (λ i. shown (g .told i) (d .registered i))
-        ∙ ap (λ c. rustShown (record { told = y .told; next = c })) (sym (d .is))
+        (λ i. shown (g .answered i) (d .registered i))
+        ∙ ap (λ c. rustShown (record { answered = y .answered; next = c })) (sym (d .is))
     go (inr d) =
-        (λ i. shown (g .told i) (d .registered i))
+        (λ i. shown (g .answered i) (d .registered i))
         ∙ ap (λ l.
         record {
-          told = y .told;
+          answered = y .answered;
           assignment = some (asAssignment (z .topic) (z .list));
           epoch-floor = asFloor (z .state .«epoch_floor»);
           incarnation = z .state .incarnation;
@@ -86,15 +86,15 @@ shown-agrees n w s x y g = go (g .mirror .state)
           waiting = [];
           undrained = l;
         }) (sym (d .left))
-        ∙ ap (λ c. rustShown (record { told = y .told; next = c })) (sym (d .is))
+        ∙ ap (λ c. rustShown (record { answered = y .answered; next = c })) (sym (d .is))
 
 -- ---- on bytes
 
 -- a replay's place is that of an entry of the queue
-abbrev Placed : List port.ConsumerAssignment → Reply → Type 0
+abbrev Placed : List port.ConsumerAssignment → CallAnswer → Type 0
 Placed queue (session.refused x) = Unit {0}
 Placed queue session.accepted = Unit {0}
-Placed queue session.nothing = Unit {0}
+Placed queue session.unchanged = Unit {0}
 Placed queue (session.changed d) = Unit {0}
 Placed queue (session.replayed index place d) = (place ≡ entryPlace queue index) × (index < length queue)
 
@@ -130,24 +130,24 @@ module _ (r : SessionRecord) (st : List ℕ) (k : Kept r st) (w : Call) (out : L
   sheet-entry i h = queued-sheet st (r .«queue_count») (k .queue) i (listIn st 1) h
 
   -- an answer and an output tell what the reply tells
-  told-is : (x : Reply) → FitReply x → Placed (view r st .queue) x → toldBy w (answerOf x) st (outputOf x out) ≡ toldIn w x (view r st)
+  answered-is : (x : CallAnswer) → FitAnswer x → Placed (view r st .queue) x → answeredBy w (answerOf x) st (outputOf x out) ≡ answeredIn w x (view r st)
   unfolding view
-  told-is (session.refused x) f p = refl
-  told-is session.accepted f p = refl
-  told-is session.nothing f p = refl
-  told-is (session.changed d) f p = ap (λ x. delta (asDelta (topicIn st) x)) (delta-back d out f)
-  told-is (session.replayed index place d) f p =
+  answered-is (session.refused x) f p = refl
+  answered-is session.accepted f p = refl
+  answered-is session.unchanged f p = refl
+  answered-is (session.changed d) f p = ap (λ x. delta (asDelta (topicIn st) x)) (delta-back d out f)
+  answered-is (session.replayed index place d) f p =
       ap₂ (λ a x. replay (asReplay (topicIn st) a x)) (ap (sheetAt st) (p .0) ∙ sheet-entry index (p .1)) (delta-back d out f)
 
 -- a result as bytes shows what the record and the store show when they are read
-result-shows : (reader : ℕ) (st : List ℕ) (w : Call) (out : List ℕ) (x : session.Result) → Kept (x .next) (writeAll (x .writes) st) → FitReply (x .reply)
+result-shows : (reader : ℕ) (st : List ℕ) (w : Call) (out : List ℕ) (x : session.Result) → Kept (x .next) (writeAll (x .writes) st) → FitAnswer (x .reply)
     → Placed (view (x .next) (writeAll (x .writes) st) .queue) (x .reply)
     → portShown reader w (effectOf x st out) ≡ shownIn reader w (x .reply) (view (x .next) (writeAll (x .writes) st))
 unfolding view
 result-shows reader st w out x k f p = λ i.
     let s = view (x .next) (writeAll (x .writes) st) in
     record {
-      told = told-is (x .next) (writeAll (x .writes) st) k w out (x .reply) f p i;
+      answered = answered-is (x .next) (writeAll (x .writes) st) k w out (x .reply) f p i;
       assignment = shownIn reader w (x .reply) s .assignment;
       epoch-floor = shownIn reader w (x .reply) s .epoch-floor;
       incarnation = shownIn reader w (x .reply) s .incarnation;

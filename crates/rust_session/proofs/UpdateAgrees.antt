@@ -138,7 +138,7 @@ module _ (n : Registration) (message : List ℕ) (link : ControllerIncarnation) 
     enqueue-fair : Updates [] (enqueue s a) (pushing before (theirs a) before)
     enqueue-fair f =
         record {
-          told = refl;
+          answered = refl;
           mirror =
               subst (λ l. Mirror n (after s (enqueue s a)) (waiting l)) (sym (map-snoc theirs (s .queue) a))
               (subst (λ q. Mirror n (behind q) (waiting (map theirs longer))) (sym (joined a (h .counted))) queued);
@@ -177,10 +177,10 @@ module _ (n : Registration) (message : List ℕ) (link : ControllerIncarnation) 
         le-ltb (a .layoutEpoch) (s .list .layoutEpoch) (omega arith)
 
     same-fair : sameAssignment (s .list) a ≡ true
-        → Updates t (record { reply = session.nothing; next = s .state; writes = [] }) (apply-incoming (theirs a) held)
+        → Updates t (record { reply = session.unchanged; next = s .state; writes = [] }) (apply-incoming (theirs a) held)
     same-fair v =
         subst (Updates t _) (sym (apply-same n id (s .topic) incarnation floor [] r (s .state .invalidated) (s .list) a (level v) v))
-        (λ f. record { told = refl; mirror = mirror-still n s session.nothing (caller n s (holding s) [] r t) h })
+        (λ f. record { answered = refl; mirror = mirror-still n s session.unchanged (caller n s (holding s) [] r t) h })
 
     stale-fair : stale ≡ true
         → Updates t (session.refuse (refusal.StaleEpoch (a .layoutEpoch) (s .list .layoutEpoch)) s) (apply-incoming (theirs a) held)
@@ -194,7 +194,7 @@ module _ (n : Registration) (message : List ℕ) (link : ControllerIncarnation) 
         subst (Updates t _) (sym (apply-new n id (s .topic) incarnation floor [] r (s .state .invalidated) (s .list) a w v pl pa))
         (λ f.
         record {
-          told = refl;
+          answered = refl;
           mirror =
               mirror-same n s (hold s a) _ (h .counted)
               (record {
@@ -217,7 +217,7 @@ module _ (n : Registration) (message : List ℕ) (link : ControllerIncarnation) 
 
   module _ (o : Option ConsumerAssignment) (q : List port.ConsumerAssignment) (r t : List AssignmentReplay)
       (h : Mirror n s (caller n s o q r t))
-      (good : (a : port.ConsumerAssignment) → Proper a
+      (agrees : (a : port.ConsumerAssignment) → Proper a
       → Updates t (updateContent s (content.taken a)) (incomingRest (rust n s o q r) (theirs a) (rust n s o q r))) where
     abbrev pushed : WireUpdate
     pushed = updateOf message
@@ -240,7 +240,7 @@ module _ (n : Registration) (message : List ℕ) (link : ControllerIncarnation) 
         contents (Updates t) (s .topic) (updateContent s) from (incomingRest from) (consumerAssignment (pushed .assignment))
         (λ x y p. plain-fair n call s x y (caller n s o q r t) p h)
         (λ x p d f. absurd (true≢false (sym p ∙ f)))
-        (good (consumerAssignment (pushed .assignment)) (read-proper (pushed .assignment)))
+        (agrees (consumerAssignment (pushed .assignment)) (read-proper (pushed .assignment)))
         (ConsumerAssignment-try-from-pb (pushed .assignment) (s .topic)) (firstRefusal (s .topic) [] (pushed .assignment .segments))
         (content-agrees (s .topic) (pushed .assignment) (h .unmarked)) (either-content (s .topic) [] (pushed .assignment .segments))))
 

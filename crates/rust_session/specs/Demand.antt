@@ -53,20 +53,20 @@ use Rattle.rust_session.specs.Values.{asAssignment, asDelta, asReplay, a
 
 -- ---- what is seen after a call
 
-pub data Told : Type 0 where
+pub data Answered : Type 0 where
   -- with the text beside it
-  refuses : Refusal → Text → Told
+  refuses : Refusal → Text → Answered
   -- a response
-  baseline : ConsumerAssignment → Told
+  baseline : ConsumerAssignment → Answered
   -- begin or invalidate
-  done : Told
+  done : Answered
   -- update or drain
-  no-change : Told
-  delta : AssignmentDelta → Told
-  replay : AssignmentReplay → Told
+  no-change : Answered
+  delta : AssignmentDelta → Answered
+  replay : AssignmentReplay → Answered
 
 pub record Shown : Type 0 where
-  pub told : Told
+  pub answered : Answered
   pub assignment : Option ConsumerAssignment
   pub epoch-floor : Option ℕ
   pub incarnation : ControllerIncarnation
@@ -95,18 +95,18 @@ abbrev pub sheetAt : List ℕ → ℕ → port.ConsumerAssignment
 sheetAt store place = decodeAssignment (take slotSize (drop place store))
 
 -- an answer, with the lists and the delta that it refers to; "The baseline is read from its slot"
-abbrev pub toldBy : Call → Answer → List ℕ → List ℕ → Told
-toldBy c (Refused x) store out = refuses x (textBeside c x)
-toldBy c Accepted store out = cond (isResponse c) (baseline (asAssignment (topicIn store) (listIn store baselineSlot))) done
-toldBy c Unchanged store out = no-change
-toldBy c (Delta n) store out = delta (asDelta (topicIn store) (decodeDelta (take n out)))
-toldBy c (Replay place n) store out = replay (asReplay (topicIn store) (sheetAt store place) (decodeDelta (take n out)))
+abbrev pub answeredBy : Call → Answer → List ℕ → List ℕ → Answered
+answeredBy c (Refused x) store out = refuses x (textBeside c x)
+answeredBy c Accepted store out = cond (isResponse c) (baseline (asAssignment (topicIn store) (listIn store baselineSlot))) done
+answeredBy c Unchanged store out = no-change
+answeredBy c (Delta n) store out = delta (asDelta (topicIn store) (decodeDelta (take n out)))
+answeredBy c (Replay place n) store out = replay (asReplay (topicIn store) (sheetAt store place) (decodeDelta (take n out)))
 
 -- with what is left for that reader to drain
 abbrev pub portShown : (reader : ℕ) → Call → CallOutcome → Shown
 portShown reader c x =
     record {
-      told = toldBy c (x .answer) (x .store) (x .out);
+      answered = answeredBy c (x .answer) (x .store) (x .out);
       assignment = Option·map (asAssignment (topicIn (x .store))) (held (record { state = x .next; store = x .store }));
       epoch-floor = asFloor (x .next .«epoch_floor»);
       incarnation = x .next .incarnation;
@@ -132,11 +132,11 @@ pub record Caller : Type 0 where
   pub taken : List AssignmentReplay
 
 pub record Turn : Type 0 where
-  pub told : Told
+  pub answered : Answered
   pub next : Caller
 
-abbrev pub turn : Told → ScalableConsumerSession → List AssignmentReplay → Turn
-turn told session taken = record { told = told; next = record { session = session; taken = taken } }
+abbrev pub turn : Answered → ScalableConsumerSession → List AssignmentReplay → Turn
+turn answered session taken = record { answered = answered; next = record { session = session; taken = taken } }
 
 abbrev pub refusing : AssignmentError → ScalableConsumerSession → List AssignmentReplay → Turn
 refusing e session taken = turn (refuses (paper e) (textOf e)) session taken
@@ -184,7 +184,7 @@ rustStep c invalidate = let d = invalidate-authority (c .session) in afterLink (
 abbrev pub rustShown : Turn → Shown
 rustShown x =
     record {
-      told = x .told;
+      answered = x .answered;
       assignment = x .next .session .assignment;
       epoch-floor = x .next .session .epoch-floor;
       incarnation = x .next .session .incarnation;

@@ -18,7 +18,7 @@ use Rattle.watch.specs.Watch.{WatchOutcome}
 use Rattle.rust_magnetar.specs.Watch.{ScalableTopicsWatch, handle-update}
 use Rattle.rust_watch.specs.Demand.{Update, Held, setIn, watchStep, heldAfter, portShown, rustRun, isOurs}
 use Rattle.rust_watch.specs.Demand.{fedUpdates, fedShown, opened, DemandTwoWatch}
-use Rattle.rust_watch.proofs.StepAgrees.{Good, Step, step-agrees}
+use Rattle.rust_watch.proofs.StepAgrees.{Agrees, Step, step-agrees}
 
 module _ (id : ℕ) where
   -- from every set of short topics
@@ -41,7 +41,7 @@ module _ (id : ℕ) where
           let q : heldAfter h x ≡ h = p .still e in
           ap (λ (k : Held). fedShown id k us) q ∙ rest h s ∙ ap (λ (k : Held). rustRun (opened id h) (fedUpdates id k us)) (sym q)
       go false e =
-          let g : Good id h u x (handle-update (watchUpdateOf (u .message)) (opened id h)) = p .good e in
+          let g : Agrees id h u x (handle-update (watchUpdateOf (u .message)) (opened id h)) = p .agrees e in
           ap₂ _∷_ (g .shown)
           (rest (heldAfter h x) (g .short) ∙ ap (λ (w : ScalableTopicsWatch). rustRun w (fedUpdates id (heldAfter h x) us)) (g .next))
 

@@ -207,7 +207,7 @@ module _ (id : ℕ) (h : Held) (u : Update) (more : ℕ) (f : Formed (namedSize 
 
   next-formed : Formed more (heldAfter h x)
   next-formed =
-      let g = step-agrees id h u (f .short) .good clean in
+      let g = step-agrees id h u (f .short) .agrees clean in
       let z : sizeTopics (setIn (heldAfter h x)) ≡ sizeTopics (handle-update w (opened id h) .after .topics) =
       ap (λ (v : ScalableTopicsWatch). sizeTopics (v .topics)) (g .next) in
       record {

@@ -106,19 +106,19 @@ module _ (id : ℕ) (h : Held) (u : Update) where
 
   -- ---- what is asked of an outcome and of what the Rust did
 
-  pub record Good (x : WatchOutcome) (d : WatchDid) : Type 0 where
+  pub record Agrees (x : WatchOutcome) (d : WatchDid) : Type 0 where
     pub shown : portShown h u x ≡ rustShown d
     pub next : opened id (heldAfter h x) ≡ d .after
     pub short : allShort (setIn (heldAfter h x)) ≡ true
 
   pub record Step (x : WatchOutcome) (d : WatchDid) : Type 0 where
     pub still : isOurs (x .answer) ≡ true → heldAfter h x ≡ h
-    pub good : isOurs (x .answer) ≡ false → Good x d
+    pub agrees : isOurs (x .answer) ≡ false → Agrees x d
 
   -- ---- refusals
 
   ours-step : (y : Refusal) → ours (numberOf y) ≡ true → (d : WatchDid) → Step (refuse buffer out y) d
-  ours-step y o d = record { still = λ e. refl; good = λ e. absurd (true≢false (sym o ∙ e)) }
+  ours-step y o d = record { still = λ e. refl; agrees = λ e. absurd (true≢false (sym o ∙ e)) }
 
   module _ (s : allShort old ≡ true) where
     theirs-step : (y : Refusal) (e : TopicsWatchError)
@@ -127,7 +127,7 @@ module _ (id : ℕ) (h : Held) (u : Update) where
     theirs-step y e t =
         record {
           still = λ o. refl;
-          good = λ o. record { shown = λ i. record { told = t i; topics = old }; next = refl; short = s };
+          agrees = λ o. record { shown = λ i. record { answered = t i; topics = old }; next = refl; short = s };
         }
 
     -- ---- a change
@@ -136,25 +136,25 @@ module _ (id : ℕ) (h : Held) (u : Update) where
         → (allShort (c .named) ≡ true → ltb (c .added) (2 ^ 32) ≡ true → changeOf (c .output) ≡ change)
         → Step (settle buffer out c) (did id (c .topics) change)
     unfolding settle
-    settled c change short told =
+    settled c change short answered =
         choose (λ x. Step x (did id (c .topics) change)) (allShort (c .named) && leb (sizeTopics (c .topics)) (length buffer))
         (λ e. choose (λ x. Step x (did id (c .topics) change)) (ltb (c .added) (2 ^ 32) && leb (length (c .output)) (length out))
         (λ f. record {
           still = λ o. absurd (false≢true o);
-          good = λ o.
+          agrees = λ o.
               fits (both-true (allShort (c .named)) (leb (sizeTopics (c .topics)) (length buffer)) e .0)
               (both-true (ltb (c .added) (2 ^ 32)) (leb (length (c .output)) (length out)) f .0);
         })
         (λ f. ours-step refusal.ResultTooLong refl _))
         (λ e. ours-step refusal.SetTooLong refl _)
       where
-        fits : allShort (c .named) ≡ true → ltb (c .added) (2 ^ 32) ≡ true → Good (done buffer out c) (did id (c .topics) change)
+        fits : allShort (c .named) ≡ true → ltb (c .added) (2 ^ 32) ≡ true → Agrees (done buffer out c) (did id (c .topics) change)
         fits e f =
             let t = front-back buffer (c .topics) (short e) in
             record {
               shown = λ i.
                   record {
-                    told = changes ((ap changeOf (take-put out 0 (c .output) (omega arith)) ∙ told e f) i);
+                    answered = changes ((ap changeOf (take-put out 0 (c .output) (omega arith)) ∙ answered e f) i);
                     topics = t i;
                   };
               next = λ i. record { watch-id = id; topics = t i };

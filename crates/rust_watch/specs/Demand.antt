@@ -44,13 +44,13 @@ textOf (Empty watch-id) = []
 
 -- ---- what is seen after an update
 
-pub data Told : Type 0 where
+pub data Answered : Type 0 where
   -- with the text beside it
-  refuses : Refusal → Text → Told
-  changes : TopicsChange → Told
+  refuses : Refusal → Text → Answered
+  changes : TopicsChange → Answered
 
 pub record Shown : Type 0 where
-  pub told : Told
+  pub answered : Answered
   pub topics : List Text
 
 -- ---- the port's run
@@ -86,21 +86,21 @@ changeOf (kind ∷ l) =
     cond (eqb kind 0) (Snapshot (decodeTopics l))
     (Diff (decodeTopics (take (be (take 4 l)) (drop 4 l))) (decodeTopics (drop (be (take 4 l)) (drop 4 l))))
 
-abbrev pub toldBy : Update → WatchAnswer → List ℕ → Told
-toldBy u (Refused x) out = refuses x (cond (eqb (numberOf x) 16) (watchUpdateOf (u .message) .message) [])
-toldBy u (Changed set n) out = changes (changeOf (take n out))
+abbrev pub answeredBy : Update → WatchAnswer → List ℕ → Answered
+answeredBy u (Refused x) out = refuses x (cond (eqb (numberOf x) 16) (watchUpdateOf (u .message) .message) [])
+answeredBy u (Changed set n) out = changes (changeOf (take n out))
 
 abbrev pub portShown : Held → Update → WatchOutcome → Shown
-portShown h u x = record { told = toldBy u (x .answer) (x .out); topics = setIn (heldAfter h x) }
+portShown h u x = record { answered = answeredBy u (x .answer) (x .out); topics = setIn (heldAfter h x) }
 
 -- ---- the Rust's run, fed what the reader makes of a message
 
-abbrev pub toldOf : Result TopicsChange TopicsWatchError → Told
-toldOf (Ok c) = changes c
-toldOf (Err e) = refuses (paper e) (textOf e)
+abbrev pub answeredOf : Result TopicsChange TopicsWatchError → Answered
+answeredOf (Ok c) = changes c
+answeredOf (Err e) = refuses (paper e) (textOf e)
 
 abbrev pub rustShown : WatchDid → Shown
-rustShown d = record { told = toldOf (d .result); topics = d .after .topics }
+rustShown d = record { answered = answeredOf (d .result); topics = d .after .topics }
 
 abbrev pub rustRun : ScalableTopicsWatch → List Update → List Shown
 rustRun w [] = []

@@ -14,16 +14,16 @@ use Rattle.packed.specs.Assignment.{ConsumerAssignment}
 use Rattle.packed_delta.specs.Delta.{AssignmentDelta}
 use Rattle.packed_delta.specs.Change.{deltaBetween}
 use Rattle.packed_delta.specs.Join.{Proper, apply}
-use Rattle.session.specs.Session.{Session, Reply, nothing, replayed, Result, positionOf, raise}
+use Rattle.session.specs.Session.{Session, CallAnswer, unchanged, replayed, Result, positionOf, raise}
 use Rattle.session.specs.Drain.{Found, end, entry, nextChange, withPosition, entryPlace, drained, nextFor, drainCall}
 use Rattle.session.specs.Trace.{drain}
 use Rattle.session.specs.Observers.{Seen}
-use Rattle.session.proofs.Model.{after, isNothing}
+use Rattle.session.proofs.Model.{after, isUnchanged}
 use Rattle.session.proofs.PositionLaws.{moved-own, moved-other}
 use Rattle.session.proofs.QueueLaws.{before, before-proper, change-none, change-end, Change, change-entry}
 use Rattle.session.proofs.CallLaws.{drain-cases}
-use Rattle.session.proofs.HoldLaws.{Uploaded, HeldIn, UploadedIn, Owing, Good, eventWith, Kept, seeIf, Drained, withQueue}
-use Rattle.session.proofs.HoldLaws.{good-same, good-counted, good-still, uploaded-delta}
+use Rattle.session.proofs.HoldLaws.{Uploaded, HeldIn, UploadedIn, Owing, Invariant, eventWith, Kept, seeIf, Drained, withQueue}
+use Rattle.session.proofs.HoldLaws.{invariant-same, invariant-counted, invariant-still, uploaded-delta}
 
 -- ---- a drain of another reader moves no position of this one
 
@@ -31,10 +31,10 @@ module _ (reader by : ℕ) (apart : by ≢ reader) (s : Session) (o : Seen) wher
   still-at : (v : ℕ) → positionOf (withPosition (s .state) by v) reader ≡ positionOf (s .state) reader
   still-at v = moved-other (s .state .«drain_positions») by reader v apart
 
-  abbrev moved : Reply → ℕ → Result
+  abbrev moved : CallAnswer → ℕ → Result
   moved reply v = record { reply = reply; next = withPosition (s .state) by v; writes = [] }
 
-  other-moved : (w : Bool) (reply : Reply) (v : ℕ) → Good reader w s o → Good reader w (withQueue s (moved reply v) (s .queue)) o
+  other-moved : (w : Bool) (reply : CallAnswer) (v : ℕ) → Invariant reader w s o → Invariant reader w (withQueue s (moved reply v) (s .queue)) o
   other-moved false reply v (inl h) =
       inl (record {
         registered = h .registered;
@@ -64,22 +64,22 @@ module _ (reader by : ℕ) (apart : by ≢ reader) (s : Session) (o : Seen) wher
         counted = h .counted;
       }
 
-  other-found : (w : Bool) (f : Found) → Good reader w s o → Good reader w (after s (drained s by f)) o
+  other-found : (w : Bool) (f : Found) → Invariant reader w s o → Invariant reader w (after s (drained s by f)) o
   unfolding drained
   other-found w end g =
-      good-same reader w s (drained s by end) o (good-counted reader w s o g) (other-moved w nothing (s .state .«queue_count») g)
+      invariant-same reader w s (drained s by end) o (invariant-counted reader w s o g) (other-moved w unchanged (s .state .«queue_count») g)
   other-found w (entry j d) g =
-      good-same reader w s (drained s by (entry j d)) o (good-counted reader w s o g) (other-moved w (replayed j (entryPlace (s .queue) j) d) (suc j) g)
+      invariant-same reader w s (drained s by (entry j d)) o (invariant-counted reader w s o g) (other-moved w (replayed j (entryPlace (s .queue) j) d) (suc j) g)
 
   -- whatever it answers
-  other-drain : (w : Bool) (out : List ℕ) → Good reader w s o
-      → Good reader w (after s (drainCall s by (length out))) (seeIf false (eventWith s (drain by out) (drainCall s by (length out))) o)
+  other-drain : (w : Bool) (out : List ℕ) → Invariant reader w s o
+      → Invariant reader w (after s (drainCall s by (length out))) (seeIf false (eventWith s (drain by out) (drainCall s by (length out))) o)
   unfolding drained
   other-drain w out g =
-      drain-cases s (λ x. Good reader w (after s x) (seeIf false (eventWith s (drain by out) x) o)) (λ x. good-still reader w s o g) by (length out)
-      (λ t. go (nextFor s by)) (λ t. good-still reader w s o g)
+      drain-cases s (λ x. Invariant reader w (after s x) (seeIf false (eventWith s (drain by out) x) o)) (λ x. invariant-still reader w s o g) by (length out)
+      (λ t. go (nextFor s by)) (λ t. invariant-still reader w s o g)
     where
-      go : (f : Found) → Good reader w (after s (drained s by f)) (seeIf false (eventWith s (drain by out) (drained s by f)) o)
+      go : (f : Found) → Invariant reader w (after s (drained s by f)) (seeIf false (eventWith s (drain by out) (drained s by f)) o)
       go end = other-found w end g
       go (entry j d) = other-found w (entry j d) g
 
@@ -101,10 +101,10 @@ module _ (reader : ℕ) (low : reader < 8) (out : List ℕ) (s : Session) (o : S
 
   -- a drain that finds nothing settles the session
   drained-end : HeldIn s o → UploadedIn s o (s .list) → length (s .state .«drain_positions») ≡ 8 → length (s .queue) ≡ s .state .«queue_count»
-      → Good reader false (after s (drained s reader end)) o
+      → Invariant reader false (after s (drained s reader end)) o
   unfolding drained
   drained-end h u e c =
-      good-same reader false s (drained s reader end) o c
+      invariant-same reader false s (drained s reader end) o c
       (inr (record {
         held = h;
         uploaded = u;
@@ -114,14 +114,14 @@ module _ (reader : ℕ) (low : reader < 8) (out : List ℕ) (s : Session) (o : S
       }))
 
   abbrev KeptOwn : Result → Type 0
-  KeptOwn x = Good reader false (after s x) (seeIf true (eventWith s (drain reader out) x) o)
+  KeptOwn x = Invariant reader false (after s x) (seeIf true (eventWith s (drain reader out) x) o)
 
-  own-drain : Good reader false s o → KeptOwn (drainCall s reader (length out))
+  own-drain : Invariant reader false s o → KeptOwn (drainCall s reader (length out))
   unfolding drained
   own-drain g =
-      drain-cases s KeptOwn (λ x. good-still reader false s o g) reader (length out) (λ t. go g t) (λ t. good-still reader false s o g)
+      drain-cases s KeptOwn (λ x. invariant-still reader false s o g) reader (length out) (λ t. go g t) (λ t. invariant-still reader false s o g)
     where
-      go : Good reader false s o → s .state .registered ≡ true → KeptOwn (drained s reader found)
+      go : Invariant reader false s o → s .state .registered ≡ true → KeptOwn (drained s reader found)
       go (inl h) t = absurd (false≢true (sym (h .registered) ∙ t))
       go (inr h) t =
           subst (λ f. KeptOwn (drained s reader f))
@@ -129,13 +129,13 @@ module _ (reader : ℕ) (low : reader < 8) (out : List ℕ) (s : Session) (o : S
           (drained-end (h .held) (h .uploaded) (h .eight) (h .counted))
 
   abbrev DrainedOwn : Result → Type 0
-  DrainedOwn x = Good reader (not (isNothing (x .reply))) (after s x) (seeIf true (eventWith s (drain reader out) x) o)
+  DrainedOwn x = Invariant reader (not (isUnchanged (x .reply))) (after s x) (seeIf true (eventWith s (drain reader out) x) o)
 
   owed-entry : Owing reader s o → (j : ℕ) (d : AssignmentDelta) → found ≡ entry j d → DrainedOwn (drained s reader (entry j d))
   unfolding drained
   owed-entry h j d e =
       subst (λ x. DrainedOwn (drained s reader (entry j x))) (sym delta)
-      (good-same reader true s (drained s reader (entry j (deltaBetween reached v))) _ (h .counted)
+      (invariant-same reader true s (drained s reader (entry j (deltaBetween reached v))) _ (h .counted)
       (record {
         held = h .held;
         uploaded =
@@ -171,7 +171,7 @@ module _ (reader : ℕ) (low : reader < 8) (out : List ℕ) (s : Session) (o : S
   own-owed : Owing reader s o → DrainedOwn (drainCall s reader (length out))
   unfolding drained
   own-owed h =
-      drain-cases s DrainedOwn (λ x. good-still reader true s o h) reader (length out) (λ t. go found refl)
+      drain-cases s DrainedOwn (λ x. invariant-still reader true s o h) reader (length out) (λ t. go found refl)
       (λ t. absurd (false≢true (sym t ∙ h .held .live)))
     where
       go : (f : Found) → found ≡ f → DrainedOwn (drained s reader f)
@@ -183,13 +183,13 @@ module _ (reader : ℕ) (low : reader < 8) (out : List ℕ) (s : Session) (o : S
 -- ---- any reader's
 
 module _ (reader : ℕ) (low : reader < 8) (by : ℕ) (out : List ℕ) (s : Session) (o : Seen) where
-  pub keep-drain : Good reader false s o → Kept reader s (drain by out) o (drainCall s by (length out))
+  pub keep-drain : Invariant reader false s o → Kept reader s (drain by out) o (drainCall s by (length out))
   keep-drain g = go (eqb by reader) refl
     where
       go : (b : Bool) → eqb by reader ≡ b
-          → Good reader false (after s (drainCall s by (length out))) (seeIf b (eventWith s (drain by out) (drainCall s by (length out))) o)
+          → Invariant reader false (after s (drainCall s by (length out))) (seeIf b (eventWith s (drain by out) (drainCall s by (length out))) o)
       go true t =
-          subst (λ j. Good reader false (after s (drainCall s j (length out))) (seeIf true (eventWith s (drain j out) (drainCall s j (length out))) o))
+          subst (λ j. Invariant reader false (after s (drainCall s j (length out))) (seeIf true (eventWith s (drain j out) (drainCall s j (length out))) o))
           (sym (eqb-true by reader t)) (own-drain reader low out s o g)
       go false t = other-drain reader by (eqb-false by reader t) s o false out g
 
@@ -197,12 +197,12 @@ module _ (reader : ℕ) (low : reader < 8) (by : ℕ) (out : List ℕ) (s : Sess
   owed-drain h = go (eqb by reader) refl
     where
       go : (b : Bool) → eqb by reader ≡ b
-          → Good reader (not (b && isNothing (drainCall s by (length out) .reply))) (after s (drainCall s by (length out)))
+          → Invariant reader (not (b && isUnchanged (drainCall s by (length out) .reply))) (after s (drainCall s by (length out)))
           (seeIf b (eventWith s (drain by out) (drainCall s by (length out))) o)
       go true t =
           subst
           (λ j.
-          Good reader (not (isNothing (drainCall s j (length out) .reply))) (after s (drainCall s j (length out)))
+          Invariant reader (not (isUnchanged (drainCall s j (length out) .reply))) (after s (drainCall s j (length out)))
           (seeIf true (eventWith s (drain j out) (drainCall s j (length out))) o))
           (sym (eqb-true by reader t)) (own-owed reader low out s o h)
       go false t = other-drain reader by (eqb-false by reader t) s o true out h

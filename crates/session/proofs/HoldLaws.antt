@@ -26,9 +26,9 @@ use Rattle.session.specs.Session.{Session, accepted, Result, positionOf,
 use Rattle.session.specs.Response.{staleFault, lastList}
 use Rattle.session.specs.Trace.{Call, drain, Event}
 use Rattle.session.specs.Observers.{Sender, senderStep, onDelta, Seen, see, isResponse}
-use Rattle.session.proofs.Model.{after, accepts, isNothing, handed, pushes}
+use Rattle.session.proofs.Model.{after, accepts, isUnchanged, handed, pushes}
 use Rattle.session.proofs.QueueLaws.{raise-next, lastIn, before}
-use Rattle.session.proofs.CallLaws.{unchanged}
+use Rattle.session.proofs.CallLaws.{unchangedResult}
 
 -- ---- what holds
 
@@ -85,9 +85,9 @@ pub record Owing (reader : ℕ) (s : Session) (o : Seen) : Type 0 where
   pub counted : length (s .queue) ≡ s .state .«queue_count»
 
 -- by whether a drain is owed
-abbrev pub Good : (reader : ℕ) → Bool → Session → Seen → Type 0
-Good reader true s o = Owing reader s o
-Good reader false s o = Idle s o ⊎ Settled reader s o
+abbrev pub Invariant : (reader : ℕ) → Bool → Session → Seen → Type 0
+Invariant reader true s o = Owing reader s o
+Invariant reader false s o = Idle s o ⊎ Settled reader s o
 
 -- ---- what is to be shown of a result
 
@@ -96,14 +96,14 @@ eventWith s c x =
     record {
       call = c;
       accepted = accepts (x .reply);
-      none = isNothing (x .reply);
+      none = isUnchanged (x .reply);
       delta = handed (x .reply);
       baseline = after s x .baseline;
     }
 
 -- of a call that is made with no drain owed
 abbrev pub Kept : (reader : ℕ) → Session → Call → Seen → Result → Type 0
-Kept reader s c o x = Good reader (isResponse c && accepts (x .reply)) (after s x) (see reader (eventWith s c x) o)
+Kept reader s c o x = Invariant reader (isResponse c && accepts (x .reply)) (after s x) (see reader (eventWith s c x) o)
 
 -- a drain, seen by its own reader or by another
 abbrev pub seeIf : Bool → Event → Seen → Seen
@@ -119,7 +119,7 @@ seeIf own e o =
 
 -- of a drain that is made with one owed
 abbrev pub Drained : (reader : ℕ) → Session → ℕ → List ℕ → Seen → Result → Type 0
-Drained reader s by out o x = Good reader (not (eqb by reader && isNothing (x .reply))) (after s x) (see reader (eventWith s (drain by out) x) o)
+Drained reader s by out o x = Invariant reader (not (eqb by reader && isUnchanged (x .reply))) (after s x) (see reader (eventWith s (drain by out) x) o)
 
 -- ---- calls that leave the queue as it is
 
@@ -136,19 +136,19 @@ withQueue s x queue =
       queue = queue;
     }
 
-pub good-same : (reader : ℕ) (w : Bool) (s : Session) (x : Result) (o : Seen) → length (s .queue) ≡ x .next .«queue_count»
-    → Good reader w (withQueue s x (s .queue)) o → Good reader w (after s x) o
-good-same reader w s x o e g =
-    subst (λ q. Good reader w (withQueue s x q) o) (sym (take-at (s .queue) (pushes (x .writes)) (x .next .«queue_count») e)) g
+pub invariant-same : (reader : ℕ) (w : Bool) (s : Session) (x : Result) (o : Seen) → length (s .queue) ≡ x .next .«queue_count»
+    → Invariant reader w (withQueue s x (s .queue)) o → Invariant reader w (after s x) o
+invariant-same reader w s x o e g =
+    subst (λ q. Invariant reader w (withQueue s x q) o) (sym (take-at (s .queue) (pushes (x .writes)) (x .next .«queue_count») e)) g
 
-pub good-counted : (reader : ℕ) (w : Bool) (s : Session) (o : Seen) → Good reader w s o → length (s .queue) ≡ s .state .«queue_count»
-good-counted reader false s o (inl h) = h .counted
-good-counted reader false s o (inr h) = h .counted
-good-counted reader true s o h = h .counted
+pub invariant-counted : (reader : ℕ) (w : Bool) (s : Session) (o : Seen) → Invariant reader w s o → length (s .queue) ≡ s .state .«queue_count»
+invariant-counted reader false s o (inl h) = h .counted
+invariant-counted reader false s o (inr h) = h .counted
+invariant-counted reader true s o h = h .counted
 
 -- nothing changes
-pub good-still : (reader : ℕ) (w : Bool) (s : Session) (o : Seen) → Good reader w s o → Good reader w (after s (unchanged s)) o
-good-still reader w s o g = good-same reader w s (unchanged s) o (good-counted reader w s o g) g
+pub invariant-still : (reader : ℕ) (w : Bool) (s : Session) (o : Seen) → Invariant reader w s o → Invariant reader w (after s (unchangedResult s)) o
+invariant-still reader w s o g = invariant-same reader w s (unchangedResult s) o (invariant-counted reader w s o g) g
 
 -- ---- what the uploader has after a delta from u to v
 

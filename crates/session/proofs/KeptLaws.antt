@@ -32,9 +32,9 @@ use Rattle.session.proofs.Model.{beginCall, resultOf, after}
 use Rattle.session.proofs.PositionLaws.{start-zero}
 use Rattle.session.proofs.QueueLaws.{raise-over, raise-next, lastIn, lastIn-append, lastIn-or, last-proper, stale-last}
 use Rattle.session.proofs.QueueLaws.{before}
-use Rattle.session.proofs.CallLaws.{read-proper, unchanged, update-cases, response-cases}
-use Rattle.session.proofs.HoldLaws.{Idle, Held, Uploaded, Settled, Good, Kept}
-use Rattle.session.proofs.HoldLaws.{good-same, good-still, uploaded-delta}
+use Rattle.session.proofs.CallLaws.{read-proper, unchangedResult, update-cases, response-cases}
+use Rattle.session.proofs.HoldLaws.{Idle, Held, Uploaded, Settled, Invariant, Kept}
+use Rattle.session.proofs.HoldLaws.{invariant-same, invariant-still, uploaded-delta}
 use Rattle.session.proofs.DrainLaws.{keep-drain}
 
 -- ---- update
@@ -89,10 +89,10 @@ module _ (reader : ℕ) (message : List ℕ) (incarnation : ControllerIncarnatio
           proper = proper-pushed;
         }
 
-    keep-same : sameAssignment (s .list) pushed ≡ true → KeptUpdate (unchanged s)
+    keep-same : sameAssignment (s .list) pushed ≡ true → KeptUpdate (unchangedResult s)
     keep-same t =
         let e : pushed ≡ s .list = sym (assignment-eq (s .list) pushed t) in
-        good-same reader false s (unchanged s) _ (h .counted)
+        invariant-same reader false s (unchangedResult s) _ (h .counted)
         (inr (record {
           held =
               subst (λ l. Held (s .state .registered) (s .state .«epoch_floor») l (sendUpdate pushed (o .sender))) e
@@ -106,7 +106,7 @@ module _ (reader : ℕ) (message : List ℕ) (incarnation : ControllerIncarnatio
     keep-hold : ltb (pushed .layoutEpoch) (s .list .layoutEpoch) ≡ false → KeptUpdate (hold s pushed)
     keep-hold t =
         let rises = ltb-false (pushed .layoutEpoch) (s .list .layoutEpoch) t in
-        good-same reader false s (hold s pushed) _ (h .counted)
+        invariant-same reader false s (hold s pushed) _ (h .counted)
         (inr (record {
           held =
               held-pushed
@@ -117,12 +117,12 @@ module _ (reader : ℕ) (message : List ℕ) (incarnation : ControllerIncarnatio
           counted = h .counted;
         }))
 
-  keep-update : Good reader false s o → KeptUpdate (resultOf s (update message incarnation out))
+  keep-update : Invariant reader false s o → KeptUpdate (resultOf s (update message incarnation out))
   keep-update (inl h) =
-      update-cases s KeptUpdate (λ x. good-still reader false s o (inl h)) message incarnation (length out)
+      update-cases s KeptUpdate (λ x. invariant-still reader false s o (inl h)) message incarnation (length out)
       (λ t u. absurd (false≢true (sym (h .registered) ∙ t))) (λ t u. absurd (false≢true (sym (h .registered) ∙ t))) (λ t. keep-enqueue h)
   keep-update (inr h) =
-      update-cases s KeptUpdate (λ x. good-still reader false s o (inr h)) message incarnation (length out)
+      update-cases s KeptUpdate (λ x. invariant-still reader false s o (inr h)) message incarnation (length out)
       (λ t u. keep-same h u) (λ t u. keep-hold h u) (λ t. absurd (false≢true (sym t ∙ h .held .live)))
 
 -- ---- response
@@ -135,7 +135,7 @@ record Ready (s : Session) (o : Seen) : Type 0 where
   counted : length (replayable s) ≡ cond (s .state .registered) 0 (s .state .«queue_count»)
   left : take (cond (s .state .registered) 0 (s .state .«queue_count»)) (s .queue ++ []) ≡ replayable s
 
-ready : (reader : ℕ) (s : Session) (o : Seen) → Good reader false s o → Ready s o
+ready : (reader : ℕ) (s : Session) (o : Seen) → Invariant reader false s o → Ready s o
 ready reader s o (inl h) =
     let e = h .registered in
     record {
@@ -162,7 +162,7 @@ module _ (reader : ℕ) (message : List ℕ) (incarnation : ControllerIncarnatio
   abbrev KeptResponse : Result → Type 0
   KeptResponse = Kept reader s (response message incarnation) o
 
-  keep-register : Good reader false s o → floorFault (own .layoutEpoch) (s .state .«epoch_floor») ≡ none → staleFault own (replayable s) ≡ none
+  keep-register : Invariant reader false s o → floorFault (own .layoutEpoch) (s .state .«epoch_floor») ≡ none → staleFault own (replayable s) ≡ none
       → KeptResponse (register s own (lastList own (replayable s)))
   keep-register g t u =
       let r = ready reader s o g in
@@ -200,8 +200,8 @@ module _ (reader : ℕ) (message : List ℕ) (incarnation : ControllerIncarnatio
         counted = ap length (r .left) ∙ r .counted;
       }
 
-  keep-response : Good reader false s o → KeptResponse (resultOf s (response message incarnation))
-  keep-response g = response-cases s KeptResponse (λ x. good-still reader false s o g) message incarnation (λ t u. keep-register g t u)
+  keep-response : Invariant reader false s o → KeptResponse (resultOf s (response message incarnation))
+  keep-response g = response-cases s KeptResponse (λ x. invariant-still reader false s o g) message incarnation (λ t u. keep-register g t u)
 
 -- ---- begin, invalidate
 
@@ -209,7 +209,7 @@ module _ (reader : ℕ) (message : List ℕ) (incarnation : ControllerIncarnatio
 abbrev leaving : Session → ControllerIncarnation → Bool → Result
 leaving s incarnation invalidated = record { reply = accepted; next = unregistered (s .state) incarnation invalidated; writes = [] }
 
-keep-leaving : (reader : ℕ) (incarnation : ControllerIncarnation) (invalidated : Bool) (s : Session) (o : Seen) → Good reader false s o
+keep-leaving : (reader : ℕ) (incarnation : ControllerIncarnation) (invalidated : Bool) (s : Session) (o : Seen) → Invariant reader false s o
     → Kept reader s invalidate o (leaving s incarnation invalidated)
 keep-leaving reader incarnation invalidated s o g =
     inl (record {
@@ -222,13 +222,13 @@ keep-leaving reader incarnation invalidated s o g =
       counted = refl;
     })
 
-keep-begin : (reader : ℕ) (incarnation : ControllerIncarnation) (s : Session) (o : Seen) → Good reader false s o
+keep-begin : (reader : ℕ) (incarnation : ControllerIncarnation) (s : Session) (o : Seen) → Invariant reader false s o
     → Kept reader s (begin incarnation) o (beginCall s incarnation)
 keep-begin reader incarnation s o g =
     choose (Kept reader s (begin incarnation) o) (ltb (s .state .incarnation .0) (incarnation .0))
-    (λ t. keep-leaving reader incarnation false s o g) (λ t. good-still reader false s o g)
+    (λ t. keep-leaving reader incarnation false s o g) (λ t. invariant-still reader false s o g)
 
-pub keep-call : (reader : ℕ) → reader < 8 → (c : Call) (s : Session) (o : Seen) → Good reader false s o → Kept reader s c o (resultOf s c)
+pub keep-call : (reader : ℕ) → reader < 8 → (c : Call) (s : Session) (o : Seen) → Invariant reader false s o → Kept reader s c o (resultOf s c)
 keep-call reader low (update message incarnation out) s o g = keep-update reader message incarnation out s o g
 keep-call reader low (response message incarnation) s o g = keep-response reader message incarnation s o g
 keep-call reader low (drain by out) s o g = keep-drain reader low by out s o g

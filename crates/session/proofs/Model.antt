@@ -11,7 +11,7 @@ use Rattle.refusal.specs.declared.Refusal.the-variants.{NonAdvancingIncarnation
 use Rattle.packed.specs.Assignment.{ConsumerAssignment}
 use Rattle.packed_delta.specs.Delta.{AssignmentDelta}
 use Rattle.session.specs.Store.{baselineSlot, listSlot, Write, toSlot, push}
-use Rattle.session.specs.Session.{Session, Reply, refused, accepted, nothing, changed, replayed, Result, refuse}
+use Rattle.session.specs.Session.{Session, CallAnswer, refused, accepted, unchanged, changed, replayed, Result, refuse}
 use Rattle.session.specs.Update.{updateCall}
 use Rattle.session.specs.Response.{responseCall}
 use Rattle.session.specs.Drain.{drainCall}
@@ -64,24 +64,24 @@ after s x =
 
 -- ---- seen from outside
 
-abbrev pub accepts : Reply → Bool
+abbrev pub accepts : CallAnswer → Bool
 accepts (refused x) = false
 accepts accepted = true
-accepts nothing = true
+accepts unchanged = true
 accepts (changed d) = true
 accepts (replayed index place d) = true
 
-abbrev pub isNothing : Reply → Bool
-isNothing (refused x) = false
-isNothing accepted = false
-isNothing nothing = true
-isNothing (changed d) = false
-isNothing (replayed index place d) = false
+abbrev pub isUnchanged : CallAnswer → Bool
+isUnchanged (refused x) = false
+isUnchanged accepted = false
+isUnchanged unchanged = true
+isUnchanged (changed d) = false
+isUnchanged (replayed index place d) = false
 
-abbrev pub handed : Reply → Option AssignmentDelta
+abbrev pub handed : CallAnswer → Option AssignmentDelta
 handed (refused x) = none
 handed accepted = none
-handed nothing = none
+handed unchanged = none
 handed (changed d) = some d
 handed (replayed index place d) = some d
 
@@ -90,7 +90,7 @@ valueEvent s c =
     record {
       call = c;
       accepted = accepts (resultOf s c .reply);
-      none = isNothing (resultOf s c .reply);
+      none = isUnchanged (resultOf s c .reply);
       delta = handed (resultOf s c .reply);
       baseline = after s (resultOf s c) .baseline;
     }

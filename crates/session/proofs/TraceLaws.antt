@@ -41,7 +41,7 @@ use Rattle.intake_content.proofs.ContentLaws.{content-fits}
 use Rattle.session.specs.declared.SessionRecord.{SessionRecord}
 use Rattle.session.specs.Store.{maxQueue, listIn, queueIn, queueEnd, writeAll}
 use Rattle.session.specs.Session.{Session, readers, positionOf, view, damaged, Result, refuse, unless, floorFault}
-use Rattle.session.specs.Session.{Reply, refused, accepted, nothing, changed, replayed}
+use Rattle.session.specs.Session.{CallAnswer, refused, accepted, unchanged, changed, replayed}
 use Rattle.session.specs.Update.{updateUnregistered, updateRegistered, updateCall}
 use Rattle.session.specs.Tails.{updateContent, updateValid, updateChecked, responseAssignment, responseContent, responseValid, responseChecked}
 use Rattle.session.specs.Response.{staleFault, lastList, replayable, responseCall}
@@ -51,10 +51,10 @@ use Rattle.session.specs.Calls.{CallOutcome, answerOf, outputOf, effectO
 use Rattle.session.specs.Trace.{Call, update, response, drain, begin, invalidate, stepOf}
 use Rattle.session.specs.Trace.{isAccepted, isNone, handedOut, traceEvent, trace, final}
 use Rattle.session.specs.DemandThree.{OfBytes, AllOfBytes}
-use Rattle.session.proofs.Model.{beginCall, resultOf, accepts, isNothing, handed, valueEvent, valueTrace, valueFinal}
+use Rattle.session.proofs.Model.{beginCall, resultOf, accepts, isUnchanged, handed, valueEvent, valueTrace, valueFinal}
 use Rattle.session.proofs.PositionLaws.{within-start, within-moved}
 use Rattle.session.proofs.SlotLaws.{queued-lists, queued-packable}
-use Rattle.session.proofs.ViewLaws.{delta-fits, last-packable, stands-packable, Kept, FitReply, Follows}
+use Rattle.session.proofs.ViewLaws.{delta-fits, last-packable, stands-packable, Kept, FitAnswer, Follows}
 use Rattle.session.proofs.ViewLaws.{follow-still, follow-hold, follow-enqueue, follow-register}
 
 -- ---- what a drain finds: its delta can be packed, and its place is before that limit
@@ -85,9 +85,9 @@ module _ (r : SessionRecord) (st : List ℕ) (k : Kept r st) where
   unfolding view
   follow-refuse x = follow-still r st k (refused x) r tt (λ t. t) (omega arith) (k .positions)
 
-  follow-none : Follows r st (record { reply = nothing; next = now .state; writes = [] })
+  follow-none : Follows r st (record { reply = unchanged; next = now .state; writes = [] })
   unfolding view
-  follow-none = follow-still r st k nothing r tt (λ t. t) (omega arith) (k .positions)
+  follow-none = follow-still r st k unchanged r tt (λ t. t) (omega arith) (k .positions)
 
   follow-unless : (o : Option Refusal) (x : Result) → Follows r st x → Follows r st (unless o now x)
   follow-unless none x h = h
@@ -175,7 +175,7 @@ module _ (r : SessionRecord) (st : List ℕ) (k : Kept r st) where
   follow-found : (reader : ℕ) (f : Found) → FoundBefore (r .«queue_count») f → Follows r st (drained now reader f)
   unfolding drained view
   follow-found reader end p =
-      follow-still r st k nothing _ tt (λ t. t) (omega arith)
+      follow-still r st k unchanged _ tt (λ t. t) (omega arith)
       (within-moved (r .«queue_count») (r .«queue_count») (r .«drain_positions») reader (omega arith) (k .positions))
   follow-found reader (entry i d) p =
       follow-still r st k (replayed _ _ d) _ (p .0) (λ t. t) (omega arith)
@@ -211,17 +211,17 @@ module _ (r : SessionRecord) (st : List ℕ) (k : Kept r st) where
 
 -- ---- answer and output say what the reply says
 
-pub accepted-is : (x : Reply) → isAccepted (answerOf x) ≡ accepts x
+pub accepted-is : (x : CallAnswer) → isAccepted (answerOf x) ≡ accepts x
 accepted-is (refused x) = refl
 accepted-is accepted = refl
-accepted-is nothing = refl
+accepted-is unchanged = refl
 accepted-is (changed d) = refl
 accepted-is (replayed index place d) = refl
 
-pub none-is : (x : Reply) → isNone (answerOf x) ≡ isNothing x
+pub none-is : (x : CallAnswer) → isNone (answerOf x) ≡ isUnchanged x
 none-is (refused x) = refl
 none-is accepted = refl
-none-is nothing = refl
+none-is unchanged = refl
 none-is (changed d) = refl
 none-is (replayed index place d) = refl
 
@@ -231,10 +231,10 @@ unfolding put
 delta-back d out f =
     ap decodeDelta (take-at (encodeDelta d) _ (sizeDelta d) (length-encodeDelta d) ∙ sym (append-nil (encodeDelta d))) ∙ read-delta d [] f
 
-pub handed-is : (x : Reply) (out : List ℕ) → FitReply x → handedOut (answerOf x) (outputOf x out) ≡ handed x
+pub handed-is : (x : CallAnswer) (out : List ℕ) → FitAnswer x → handedOut (answerOf x) (outputOf x out) ≡ handed x
 handed-is (refused x) out f = refl
 handed-is accepted out f = refl
-handed-is nothing out f = refl
+handed-is unchanged out f = refl
 handed-is (changed d) out f = ap some (delta-back d out f)
 handed-is (replayed index place d) out f = ap some (delta-back d out f)
 

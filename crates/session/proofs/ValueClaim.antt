@@ -22,7 +22,7 @@ use Rattle.session.specs.DemandThree.{Fresh, Claim}
 use Rattle.session.proofs.Model.{resultOf, after, accepts, valueEvent, valueTrace, valueFinal, heldIn}
 use Rattle.session.proofs.QueueLaws.{lastIn}
 use Rattle.session.proofs.CallLaws.{response-cases}
-use Rattle.session.proofs.HoldLaws.{Uploaded, Good}
+use Rattle.session.proofs.HoldLaws.{Uploaded, Invariant}
 use Rattle.session.proofs.DrainLaws.{owed-drain}
 use Rattle.session.proofs.KeptLaws.{keep-call}
 
@@ -85,7 +85,7 @@ held-live s e = rw e
 held-idle : (s : Session) → s .state .registered ≡ false → heldIn s ≡ none
 held-idle s e = rw e
 
-settled : (reader : ℕ) (s : Session) (o : Seen) → Good reader false s o → OwnIn o → Claim (heldIn s) (s .state .«epoch_floor») o
+settled : (reader : ℕ) (s : Session) (o : Seen) → Invariant reader false s o → OwnIn o → Claim (heldIn s) (s .state .«epoch_floor») o
 settled reader s o (inl h) own =
     record {
       sent = held-idle s (h .registered) ∙ sym (h .list);
@@ -134,7 +134,7 @@ still-owes : (a b : Bool) → (a || b) ≡ true → not a ≡ true → b ≡ tru
 still-owes true b e p = absurd (false≢true p)
 still-owes false b e p = e
 
-claim-from : (reader : ℕ) → reader < 8 → (calls : List Call) (w : Bool) (s : Session) (o : Seen) → Good reader w s o
+claim-from : (reader : ℕ) → reader < 8 → (calls : List Call) (w : Bool) (s : Session) (o : Seen) → Invariant reader w s o
     → OwnIn (watch reader o (valueTrace s calls)) → (w ≡ true → drainsToNone reader (valueTrace s calls) ≡ true)
     → allDrained reader (valueTrace s calls) ≡ true
     → Claim (heldIn (valueFinal s calls)) (valueFinal s calls .state .«epoch_floor») (watch reader o (valueTrace s calls))
@@ -157,8 +157,8 @@ claim-from reader low (response message incarnation ∷ cs) true s o g own d a =
 claim-from reader low (begin incarnation ∷ cs) true s o g own d a = absurd (false≢true (d refl))
 claim-from reader low (invalidate ∷ cs) true s o g own d a = absurd (false≢true (d refl))
 
-fresh-good : (reader : ℕ) (s : Session) → Fresh (s .state) → s .queue ≡ [] → Good reader false s unseen
-fresh-good reader s f q =
+fresh-invariant : (reader : ℕ) (s : Session) → Fresh (s .state) → s .queue ≡ [] → Invariant reader false s unseen
+fresh-invariant reader s f q =
     inl (record {
       registered = f .unregistered;
       list = refl;
@@ -173,4 +173,4 @@ pub values-demand-three : (reader : ℕ) → reader < 8 → (s : Session) → Fr
     → allDrained reader (valueTrace s calls) ≡ true
     → Claim (heldIn (valueFinal s calls)) (valueFinal s calls .state .«epoch_floor») (watch reader unseen (valueTrace s calls))
 values-demand-three reader low s f q calls a =
-    claim-from reader low calls false s unseen (fresh-good reader s f q) (values-own reader s calls) (λ e. absurd (false≢true e)) a
+    claim-from reader low calls false s unseen (fresh-invariant reader s f q) (values-own reader s calls) (λ e. absurd (false≢true e)) a

@@ -27,7 +27,7 @@ use Rattle.session.specs.declared.SessionRecord.{SessionRecord}
 use Rattle.session.specs.Store.{slot, listIn, queueIn, queueReads, queueEnd, toSlot, push, writeOne, writeAll}
 use Rattle.session.specs.Identity.{identityTopic, isIdentity}
 use Rattle.session.specs.Session.{Session, listsStart, inUse, view, anyBeyond, damaged, Result}
-use Rattle.session.specs.Session.{Reply, refused, accepted, nothing, changed, replayed}
+use Rattle.session.specs.Session.{CallAnswer, refused, accepted, unchanged, changed, replayed}
 use Rattle.session.specs.Update.{enqueue, hold}
 use Rattle.session.specs.Response.{lastList, register}
 use Rattle.session.specs.DemandThree.{Fresh}
@@ -188,17 +188,17 @@ damaged-is r st k =
 -- ---- what a result leaves
 
 -- the delta of a reply can be packed
-abbrev pub FitReply : Reply → Type 0
-FitReply (refused x) = Unit {0}
-FitReply accepted = Unit {0}
-FitReply nothing = Unit {0}
-FitReply (changed d) = FitDelta d
-FitReply (replayed index place d) = FitDelta d
+abbrev pub FitAnswer : CallAnswer → Type 0
+FitAnswer (refused x) = Unit {0}
+FitAnswer accepted = Unit {0}
+FitAnswer unchanged = Unit {0}
+FitAnswer (changed d) = FitDelta d
+FitAnswer (replayed index place d) = FitDelta d
 
 pub record Follows (r : SessionRecord) (st : List ℕ) (x : Result) : Type 0 where
   pub kept : Kept (x .next) (writeAll (x .writes) st)
   pub session : view (x .next) (writeAll (x .writes) st) ≡ after (view r st) x
-  pub reply : FitReply (x .reply)
+  pub reply : FitAnswer (x .reply)
 
 module _ (r : SessionRecord) (st : List ℕ) (k : Kept r st) where
   abbrev queued : List ConsumerAssignment
@@ -223,7 +223,7 @@ module _ (r : SessionRecord) (st : List ℕ) (k : Kept r st) where
   queue-still m h = queued-take st (r .«queue_count») (k .queue) m h ∙ ap (take m) (sym (append-nil queued))
 
   -- nothing is written
-  pub follow-still : (reply : Reply) (next : SessionRecord) → FitReply reply → (next .registered ≡ true → r .registered ≡ true)
+  pub follow-still : (reply : CallAnswer) (next : SessionRecord) → FitAnswer reply → (next .registered ≡ true → r .registered ≡ true)
       → next .«queue_count» ≤ r .«queue_count» → Within (next .«queue_count») (next .«drain_positions»)
       → Follows r st (record { reply = reply; next = next; writes = [] })
   follow-still reply next f g h p =

@@ -23,7 +23,7 @@ use Rattle.session.specs.declared.Match.{Match}
 use Rattle.session.specs.declared.Match.the-variants as match′
 use Rattle.session.specs.Store.{minStore, identitySlot, slot, writeAll}
 use Rattle.session.specs.Identity.{Identity, maxTexts, kindByte, textsLength, encodeIdentity, identityTopic, subscriptionOf, consumerNameOf, identityKind, isIdentity}
-use Rattle.session.specs.Session.{Session, atStart, view, Reply, refused, accepted, nothing, changed, replayed, Result}
+use Rattle.session.specs.Session.{Session, atStart, view, CallAnswer, refused, accepted, unchanged, changed, replayed, Result}
 use Rattle.session.specs.Update.{updateCall}
 use Rattle.session.specs.Response.{responseCall}
 use Rattle.session.specs.Drain.{drainCall}
@@ -38,18 +38,18 @@ pub record CallOutcome : Type 0 where
 abbrev pub callOutcome : Answer → SessionRecord → (store out : List ℕ) → CallOutcome
 callOutcome answer next store out = record { answer = answer; next = next; store = store; out = out }
 
-abbrev pub answerOf : Reply → Answer
+abbrev pub answerOf : CallAnswer → Answer
 answerOf (refused x) = answer.Refused x
 answerOf accepted = answer.Accepted
-answerOf nothing = answer.Unchanged
+answerOf unchanged = answer.Unchanged
 answerOf (changed d) = answer.Delta (sizeDelta d)
 answerOf (replayed index place d) = answer.Replay place (sizeDelta d)
 
 -- "An output is written from its first byte, its length is answered, and the bytes behind it stay."
-abbrev pub outputOf : Reply → List ℕ → List ℕ
+abbrev pub outputOf : CallAnswer → List ℕ → List ℕ
 outputOf (refused x) out = out
 outputOf accepted out = out
-outputOf nothing out = out
+outputOf unchanged out = out
 outputOf (changed d) out = put out 0 (encodeDelta d)
 outputOf (replayed index place d) out = put out 0 (encodeDelta d)
 

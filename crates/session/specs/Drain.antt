@@ -41,7 +41,7 @@ abbrev pub entryPlace : List ConsumerAssignment → ℕ → ℕ
 entryPlace queue i = queueEnd (take i queue) + 2
 
 unfoldable pub drained : Session → (reader : ℕ) → Found → Result
-drained s reader end = record { reply = session.nothing; next = withPosition (s .state) reader (s .state .«queue_count»); writes = [] }
+drained s reader end = record { reply = session.unchanged; next = withPosition (s .state) reader (s .state .«queue_count»); writes = [] }
 drained s reader (entry i d) =
     record { reply = session.replayed i (entryPlace (s .queue) i) d; next = withPosition (s .state) reader (suc i); writes = [] }
 

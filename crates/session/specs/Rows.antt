@@ -14,7 +14,7 @@ use Rattle.packed_delta.specs.Change.{without, deltaBetween}
 use Rattle.session.specs.declared.SessionRecord.{SessionRecord}
 use Rattle.session.specs.declared.Floor.the-variants.{At}
 use Rattle.session.specs.Store.{minOutput}
-use Rattle.session.specs.Session.{Session, nothing, replayed, Result, anyBeyond, damaged, refuse}
+use Rattle.session.specs.Session.{Session, unchanged, replayed, Result, anyBeyond, damaged, refuse}
 use Rattle.session.specs.Response.{register}
 use Rattle.session.specs.Drain.{nextChange, drained, drainCall}
 use Rattle.session.specs.Link.{beginOf, invalidateOf}
@@ -70,7 +70,7 @@ pub record Rows : Type 0 where
   -- "each moved only by its own reader"
   pub next-of-three : drainCall (sessionOf some) 3 minOutput .reply ≡ replayed 2 6170 (deltaBetween (at 2) (at 3))
   pub three-moved : moved (drainCall (sessionOf some) 3 minOutput) ≡ 3 ∷ 0 ∷ 0 ∷ 3 ∷ 0 ∷ 0 ∷ 0 ∷ 0 ∷ []
-  pub none-for-zero : drainCall (sessionOf some) 0 minOutput ≡ record { reply = nothing; next = recordOf some; writes = [] }
+  pub none-for-zero : drainCall (sessionOf some) 0 minOutput ≡ record { reply = unchanged; next = recordOf some; writes = [] }
   -- "all set to 0 by response, begin and invalidate"
   pub response-sets : moved (register (sessionOf some) (at 3) (at 3)) ≡ replicate 8 0
   pub begin-sets : beginOf (recordOf some) (record { 0 = 2 }) .next .«drain_positions» ≡ replicate 8 0

@@ -92,16 +92,16 @@ damaged s =
 
 -- ---- what a call gives
 
-pub data Reply : Type 0 where
-  refused : Refusal → Reply
-  accepted : Reply
-  nothing : Reply
-  changed : AssignmentDelta → Reply
+pub data CallAnswer : Type 0 where
+  refused : Refusal → CallAnswer
+  accepted : CallAnswer
+  unchanged : CallAnswer
+  changed : AssignmentDelta → CallAnswer
   -- the entry's index in the queue, and the byte place of its list in the store
-  replayed : (index place : ℕ) → AssignmentDelta → Reply
+  replayed : (index place : ℕ) → AssignmentDelta → CallAnswer
 
 pub record Result : Type 0 where
-  pub reply : Reply
+  pub reply : CallAnswer
   pub next : SessionRecord
   pub writes : List Write
 

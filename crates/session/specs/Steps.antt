@@ -9,7 +9,7 @@ use Rattle.wire_schema.specs.declared.Checked.{Checked}
 use Rattle.wire_schema.specs.declared.Checked.the-variants as checked
 use Rattle.packed.specs.Assignment.{ConsumerAssignment}
 use Rattle.intake_content.specs.Content as content
-use Rattle.session.specs.Session.{Session, nothing, Result, refuse, unless}
+use Rattle.session.specs.Session.{Session, unchanged, Result, refuse, unless}
 
 abbrev pub refuseIf : Session → Bool → Refusal → Result → Result
 refuseIf s test x rest = cond test (refuse x s) rest
@@ -33,7 +33,7 @@ takeContent s (content.taken a) rest = rest a
 
 -- none is answered, and nothing changes
 abbrev pub none : Session → Result
-none s = record { reply = nothing; next = s .state; writes = [] }
+none s = record { reply = unchanged; next = s .state; writes = [] }
 
 abbrev pub noneIf : Session → Bool → Result → Result
 noneIf s test rest = cond test (none s) rest

@@ -39,7 +39,7 @@ withFloor r floor =
 abbrev pub enqueue : Session → ConsumerAssignment → Result
 enqueue s a =
     record {
-      reply = session.nothing;
+      reply = session.unchanged;
       next = withQueueCount (s .state) (s .state .«queue_count» + 1);
       writes = push (queueEnd (s .queue)) a ∷ [];
     }

@@ -1,7 +1,7 @@
 -- A message's assignment in the buffer.
 --
 -- In order: the topic as a part of the store (`topic-end`, `topic-text`); what stands in the buffer behind an intake (`intake-answers`); a
--- message of two fields, of which the second holds an assignment (`plain-taken`).
+-- message of two fields, of which the second holds an assignment (`ordered-taken`).
 -- Assumes nothing.
 use Prim.Native.Nat.{ℕ, _+_, _-_, _≤_, _<_}
 use native.Mathlib.Nat.{add-sub-cancel-left}
@@ -27,7 +27,7 @@ use Rattle.wire_schema.specs.declared.MessageKind.the-variants.{ScalableConsume
 use Rattle.wire_schema.specs.declared.Checked.the-variants.{Valid}
 use Rattle.wire_schema.specs.FirstFault.{firstFault, Sound}
 use Rattle.wire_schema.proofs.SoundLaws.{update-row, response-row}
-use Rattle.wire_ordered.specs.Plain.{NumberIs, PartField}
+use Rattle.wire_ordered.specs.Ordered.{NumberIs, PartField}
 use Rattle.wire_values.specs.Values.{mergedFields}
 use Rattle.wire_readers.specs.Messages.{updateOf, responseOf}
 use Rattle.wire_readers.specs.Messages as wire
@@ -39,13 +39,13 @@ use Rattle.intake_content.proofs.ContentLaws.{content-fits}
 use Rattle.intake.specs.declared.Intake.{Intake}
 use Rattle.intake.specs.declared.Intake.the-variants as intake
 use Rattle.intake.specs.Intake.{IntakeIs}
-use Rattle.intake_ordered.specs.declared.PlainIntake.{PlainIntake}
-use Rattle.intake_ordered.specs.declared.PlainIntake.the-variants.{Taken}
-use Rattle.intake_ordered.specs.Taken.{PlainTaken, PlainSays}
+use Rattle.intake_ordered.specs.declared.OrderedIntake.{OrderedIntake}
+use Rattle.intake_ordered.specs.declared.OrderedIntake.the-variants.{Taken}
+use Rattle.intake_ordered.specs.Taken.{OrderedTaken, OrderedIs}
 use Rattle.session.specs.Store.{slot}
 use Rattle.session.specs.Identity.{identityTopic, isIdentity}
 use Rattle.packed_queue.proofs.EntryLaws.{size-ok}
-use Rattle.session_intake.specs.Taken.{AssignmentField, messageWith, contentIn, TopicEnd, Answers, PlainMessageTaken}
+use Rattle.session_intake.specs.Taken.{AssignmentField, messageWith, contentIn, TopicEnd, Answers, OrderedMessageTaken}
 
 -- ---- the topic
 
@@ -141,11 +141,11 @@ module _ (st m b b′ : List ℕ) (n end : ℕ) (o : AssignmentField n) (e : Top
           let f = content-fits (identityTopic (slot st 0)) _ (field-wide m h n o) a p in
           rw (q .0) (put-answers a b b′ (sizeAssignment a) l (f .0) (f .1) refl (q .1))
 
-  pub plain-taken : (head at from to epoch size : ℕ) → NumberIs 1 m 0 head at → PartField n m at from to → length m ≤ to
-      → (x : PlainIntake) → x ≡ Taken epoch size → PlainSays (take (end - 7) (drop 7 st)) (take (to - from) (drop from m)) b x b′
-      → PlainMessageTaken st m n head size b′
-  plain-taken head at from to epoch size i p g x y q =
-      let t : PlainTaken (take (end - 7) (drop 7 st)) (take (to - from) (drop from m)) b epoch size b′ = rw y at q in
+  pub ordered-taken : (head at from to epoch size : ℕ) → NumberIs 1 m 0 head at → PartField n m at from to → length m ≤ to
+      → (x : OrderedIntake) → x ≡ Taken epoch size → OrderedIs (take (end - 7) (drop 7 st)) (take (to - from) (drop from m)) b x b′
+      → OrderedMessageTaken st m n head size b′
+  ordered-taken head at from to epoch size i p g x y q =
+      let t : OrderedTaken (take (end - 7) (drop 7 st)) (take (to - from) (drop from m)) b epoch size b′ = rw y at q in
       let s : List ℕ = take (to - from) (drop from m) in
       let fs = message-row m i g (t .valid) n p in
       let w : mergedFields n (fieldsOf m) ≡ fieldsOf s = rw (fs, eq-eqb n n refl) (append-nil (fieldsOf s)) in

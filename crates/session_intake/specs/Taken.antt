@@ -24,8 +24,8 @@ use Rattle.intake.specs.declared.Intake.the-variants as intake
 use Rattle.session.specs.Store.{slot}
 use Rattle.session.specs.Identity.{identityTopic}
 use Rattle.session_store.specs.Scratch.{Scratch}
-use Rattle.session_intake.specs.declared.PlainMessage.{PlainMessage}
-use Rattle.session_intake.specs.declared.PlainMessage.the-variants as plain
+use Rattle.session_intake.specs.declared.OrderedMessage.{OrderedMessage}
+use Rattle.session_intake.specs.declared.OrderedMessage.the-variants as message
 
 -- the field that holds the assignment: 2 in an update, 4 in a response
 abbrev pub AssignmentField : ℕ → Type 0
@@ -63,12 +63,12 @@ pub record Answers (x : Intake) (b : List ℕ) (c : Content) : Type 0 where
 -- ---- a message in its usual form
 
 -- the message is valid, has those two fields and no other, and its assignment stands in the buffer b
-pub record PlainMessageTaken (store m : List ℕ) (n head size : ℕ) (b : List ℕ) : Type 0 where
+pub record OrderedMessageTaken (store m : List ℕ) (n head size : ℕ) (b : List ℕ) : Type 0 where
   pub valid : firstFault (messageWith n) m ≡ Valid
   pub part : List ℕ
   pub fields : fieldsOf m ≡ field 1 type.Varint (number head) ∷ field n type.Len (bytes part) ∷ []
   pub answers : Answers (intake.Taken size) b (contentIn store n m)
 
-abbrev pub PlainMessageSays : (store m : List ℕ) (n : ℕ) → PlainMessage → (b : List ℕ) → Type 0
-PlainMessageSays store m n (plain.Taken head size) b = PlainMessageTaken store m n head size b
-PlainMessageSays store m n plain.Other b = Unit {0}
+abbrev pub OrderedMessageIs : (store m : List ℕ) (n : ℕ) → OrderedMessage → (b : List ℕ) → Type 0
+OrderedMessageIs store m n (message.Taken head size) b = OrderedMessageTaken store m n head size b
+OrderedMessageIs store m n message.Other b = Unit {0}

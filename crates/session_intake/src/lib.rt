@@ -11,14 +11,14 @@ ghost use Rattle.wire_readers.specs.Messages.{readAssignment};
 ghost use Rattle.packed.specs.Assignment.{slotSize};
 ghost use Rattle.session.specs.Store.{minStore, slot};
 ghost use Rattle.session.specs.Identity.{isIdentity};
-ghost use Rattle.session_intake.specs.Taken.{AssignmentField, contentIn, TopicEnd, Answers, PlainMessageSays};
+ghost use Rattle.session_intake.specs.Taken.{AssignmentField, contentIn, TopicEnd, Answers, OrderedMessageIs};
 use intake::Intake;
-use intake_ordered::PlainIntake;
+use intake_ordered::OrderedIntake;
 use wire_ordered::NumberAt;
 use wire_ordered::Part;
 
 // What is told of a message.
-pub enum PlainMessage {
+pub enum OrderedMessage {
     // It is valid, and nothing refuses its assignment: the number of its field 1, and the packed assignment's size.
     Taken(u64, usize),
     // Nothing.
@@ -34,24 +34,24 @@ fn topic_end(store: &[u8]) -> usize
 }
 
 // A message of field 1, a number, and field n, its assignment, and nothing else. What the buffer holds where nothing is told is free.
-pub fn take_plain_message(store: &[u8], m: &[u8], n: u8, b: &mut [u8]) -> PlainMessage
+pub fn take_ordered_message(store: &[u8], m: &[u8], n: u8, b: &mut [u8]) -> OrderedMessage
     requires { ⌜ (minStore ≤ length (now store)) × (isIdentity (slot (now store) 0) ≡ true) ⌝ }
     requires { ⌜ AssignmentField n × (length (now b) ≡ slotSize) ⌝ }
-    ensures { λ r. ⌜ PlainMessageSays (now (store .entry)) (now (m .entry)) n r (now (b .exit)) ⌝ }
+    ensures { λ r. ⌜ OrderedMessageIs (now (store .entry)) (now (m .entry)) n r (now (b .exit)) ⌝ }
 {
     let NumberAt::Found(head, at) = wire_ordered::number_at(1, m, 0) else {
-        return PlainMessage::Other;
+        return OrderedMessage::Other;
     };
     let Part::Found(from, to) = wire_ordered::part_at(n, m, at) else {
-        return PlainMessage::Other;
+        return OrderedMessage::Other;
     };
     if to < m.len() {
-        return PlainMessage::Other;
+        return OrderedMessage::Other;
     }
     let end = topic_end(store);
-    match intake_ordered::take_plain(&m[from..to], &store[7..end], b) {
-        PlainIntake::Taken(_, size) => PlainMessage::Taken(head, size),
-        PlainIntake::Other => PlainMessage::Other,
+    match intake_ordered::take_ordered(&m[from..to], &store[7..end], b) {
+        OrderedIntake::Taken(_, size) => OrderedMessage::Taken(head, size),
+        OrderedIntake::Other => OrderedMessage::Other,
     }
 }
 

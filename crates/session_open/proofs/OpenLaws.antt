@@ -126,9 +126,9 @@ module _ (consumer : ℕ) (incarnation : ControllerIncarnation) (i : Identity) (
         unfolding openOutcome
         name-bad k = simp (er, le-ltb (length st) 6144 h, ← ex, not-false x f, ← ey, not-false y g, ← ez, not-true z k)
 
-        pub texts-good : not z ≡ false → openOutcome consumer incarnation i st ≡ fitted
+        pub texts-valid : not z ≡ false → openOutcome consumer incarnation i st ≡ fitted
         unfolding openOutcome
-        texts-good k = simp (le-ltb (length st) 6144 h, ← ex, not-false x f, ← ey, not-false y g, ← ez, not-false z k)
+        texts-valid k = simp (le-ltb (length st) 6144 h, ← ex, not-false x f, ← ey, not-false y g, ← ez, not-false z k)
 
   module _ (e : openOutcome consumer incarnation i st ≡ fitted) (t : Bool) (et : t ≡ leb (textsLength i) 2041) where
     pub open-long : not t ≡ true → notOpened IdentityTooLong r st ≡ openOutcome consumer incarnation i st

@@ -1,6 +1,6 @@
 -- The response, refusal by refusal: each law gives the result of one way through it.
 --
--- In order: what a message says (`response-epoch` to `plain-says`); a result on bytes (`refused-out`, `given-out`, `registered-out`); an
+-- In order: what a message says (`response-epoch` to `ordered-says`); a result on bytes (`refused-out`, `given-out`, `registered-out`); an
 -- assignment, 26 and 27 (`assignment-below` to `assignment-on`); content (`content-refused`, `content-taken`); a message that is valid
 -- (`valid-mismatch`, `valid-says`); the call (`message-bad` to `call-out`).
 -- Assumes nothing.
@@ -40,12 +40,12 @@ use Rattle.session.specs.Tails.{responseAssignment, responseContent, responseVa
 use Rattle.session.specs.Calls.{callOutcome, effectOf, responseOutcome}
 use Rattle.intake.specs.declared.Intake.{Intake}
 use Rattle.intake.specs.declared.Intake.the-variants as intake
-use Rattle.session_intake.specs.Taken.{contentIn, Answers, PlainMessageTaken}
+use Rattle.session_intake.specs.Taken.{contentIn, Answers, OrderedMessageTaken}
 use Rattle.session_record.specs.Floors.{belowFloor, floorValue}
 use Rattle.session_record.proofs.FloorLaws.{floor-below, floor-met}
 use Rattle.session_response.specs.declared.Stale.{Stale}
 use Rattle.session_response.specs.declared.Stale.the-variants as stale
-use Rattle.session_response.specs.Replay.{staleOf, staleRefusal, LastIs, deniedBy, responseSays, registeredBy, registered}
+use Rattle.session_response.specs.Replay.{staleOf, staleRefusal, LastIs, deniedBy, contentOfResponse, registeredBy, registered}
 use Rattle.session_response.proofs.ReplayLaws.{stale-fault, replayed-is}
 
 -- ---- what a message says
@@ -57,18 +57,18 @@ module _ (st m : List ℕ) where
   unfolding responseOf
   response-epoch epoch e = e
 
-  assignment-says : responseOf m .hasAssignment ≡ true → responseSays (identityTopic (slot st 0)) (responseOf m) ≡ contentIn st 4 m
+  assignment-says : responseOf m .hasAssignment ≡ true → contentOfResponse (identityTopic (slot st 0)) (responseOf m) ≡ contentIn st 4 m
   unfolding responseOf
   assignment-says e = rw e refl
 
   module _ (h : ResponseHead) (p : ResponseIs m h) (x : Intake) (b : List ℕ) where
     pub assignment-answers : h .«has_assignment» ≡ true → Answers x b (contentIn st 4 m)
-        → Answers x b (responseSays (identityTopic (slot st 0)) (responseOf m))
+        → Answers x b (contentOfResponse (identityTopic (slot st 0)) (responseOf m))
     assignment-answers e a = rw (assignment-says (sym (p .has-assignment) ∙ e)) a
 
   pub denial-answers : (h : ResponseHead) → ResponseIs m h → h .«has_assignment» ≡ false
       → (b : List ℕ) (y : Refusal) → y ≡ deniedBy (h .error) (h .«request_id»)
-      → Answers (intake.Refused y) b (responseSays (identityTopic (slot st 0)) (responseOf m))
+      → Answers (intake.Refused y) b (contentOfResponse (identityTopic (slot st 0)) (responseOf m))
   denial-answers h p e b y g =
       record {
         is = rw (sym (p .has-assignment) ∙ e) (ap refused (sym (g ∙ ap₂ deniedBy (p .error) (p .id))));
@@ -76,10 +76,10 @@ module _ (st m : List ℕ) where
       }
 
   -- one in its usual form
-  pub plain-says : (id n : ℕ) (b : List ℕ) → PlainMessageTaken st m 4 id n b
-      → responseSays (identityTopic (slot st 0)) (responseOf m) ≡ taken (decodeAssignment b)
+  pub ordered-says : (id n : ℕ) (b : List ℕ) → OrderedMessageTaken st m 4 id n b
+      → contentOfResponse (identityTopic (slot st 0)) (responseOf m) ≡ taken (decodeAssignment b)
   unfolding responseOf
-  plain-says id n b t = assignment-says (ap (λ (fs : List Field). present (partsOf 4 fs)) (t .fields)) ∙ t .answers .is
+  ordered-says id n b t = assignment-says (ap (λ (fs : List Field). present (partsOf 4 fs)) (t .fields)) ∙ t .answers .is
 
 module _ (r : SessionRecord) (st : List ℕ) where
   -- ---- a result on bytes
@@ -161,7 +161,7 @@ module _ (r : SessionRecord) (st : List ℕ) where
     valid-mismatch f = rw (ne-eqb (i .0) (r .incarnation .0) f) refl
 
     pub valid-says : i .0 ≡ r .incarnation .0
-        → responseValid (view r st) i w ≡ responseContent (view r st) (responseSays (identityTopic (slot st 0)) w)
+        → responseValid (view r st) i w ≡ responseContent (view r st) (contentOfResponse (identityTopic (slot st 0)) w)
     unfolding responseValid responseContent view
     valid-says e = rw (eq-eqb (i .0) (r .incarnation .0) e) (go (w .hasAssignment) (w .error))
       where

@@ -49,8 +49,8 @@ deniedBy (Given code) request = Broker code
 deniedBy Absent request = Empty request
 
 -- its assignment's content, or else 16 or 17
-abbrev pub responseSays : List ℕ → WireResponse → Content
-responseSays topic w = cond (w .hasAssignment) (contentOf topic (w .assignment)) (refused (deniedBy (w .error) (w .requestId)))
+abbrev pub contentOfResponse : List ℕ → WireResponse → Content
+contentOfResponse topic w = cond (w .hasAssignment) (contentOf topic (w .assignment)) (refused (deniedBy (w .error) (w .requestId)))
 
 -- the record behind an accepted response, whose last list has that epoch
 abbrev pub registeredBy : SessionRecord → (epoch count : ℕ) → SessionRecord

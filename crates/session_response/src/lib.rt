@@ -17,7 +17,7 @@ ghost use Rattle.session.specs.Tails.{responseAssignment, responseValid, respon
 ghost use Rattle.session.specs.Calls.{callOutcome, effectOf, responseOutcome};
 ghost use Rattle.session_store.specs.Scratch.{Scratch};
 ghost use Rattle.session_intake.specs.Taken.{contentFrom, Ready, Answers};
-ghost use Rattle.session_response.specs.Replay.{staleOf, LastBegins, LastIs, deniedBy, responseSays, registeredBy, registered};
+ghost use Rattle.session_response.specs.Replay.{staleOf, LastBegins, LastIs, deniedBy, contentOfResponse, registeredBy, registered};
 use intake::Intake;
 use packed::SLOT;
 use packed_queue::LENGTH;
@@ -25,7 +25,7 @@ use refusal::Refusal;
 use session::Answer;
 use session::Changed;
 use session::SessionRecord;
-use session_intake::PlainMessage;
+use session_intake::OrderedMessage;
 use session_store::MIN_STORE;
 use topic_types::ControllerIncarnation;
 use wire_messages::Checked;
@@ -190,7 +190,7 @@ fn denial(error: ErrorCode, request_id: u64) -> Refusal
 fn take_response(store: &[u8], message: &[u8], b: &mut [u8]) -> Intake
     requires { ⌜ (minStore ≤ length (now store)) × (isIdentity (slot (now store) 0) ≡ true) ⌝ }
     requires { ⌜ length (now b) ≡ packed-form.slotSize ⌝ }
-    ensures { λ x. ⌜ Answers x (now (b .exit)) (responseSays (identityTopic (slot (now (store .entry)) 0)) (responseOf (now (message .entry)))) ⌝ }
+    ensures { λ x. ⌜ Answers x (now (b .exit)) (contentOfResponse (identityTopic (slot (now (store .entry)) 0)) (responseOf (now (message .entry)))) ⌝ }
 {
     let head = wire_readers::read_response(message);
     let epoch = head.layout_epoch;
@@ -211,7 +211,7 @@ fn answered(
 ) -> Changed
     requires { ⌜ (minStore ≤ length (now store)) × (damaged (view r (now store)) ≡ false) ⌝ }
     requires { ⌜ Ready intake (now b) ⌝ }
-    ensures { λ x. ⌜ ((w : WireResponse) → responseSays (identityTopic (slot (now (store .entry)) 0)) w ≡ contentFrom intake (now (b .entry))
+    ensures { λ x. ⌜ ((w : WireResponse) → contentOfResponse (identityTopic (slot (now (store .entry)) 0)) w ≡ contentFrom intake (now (b .entry))
         → (out : List ℕ) → callOutcome (x .answer) (x .next) (now (store .exit)) out
         ≡ effectOf (responseValid (view r (now (store .entry))) incarnation w) (now (store .entry)) out) ⌝ }
 {
@@ -280,9 +280,11 @@ pub fn responded(
         return session_record::refuse(r, Refusal::MalformedStore);
     }
     let mut b = [0u8; SLOT];
-    match session_intake::take_plain_message(store, message, 4, &mut b) {
-        PlainMessage::Taken(_, size) => { answered(r, store, incarnation, Intake::Taken(size), &b) }
-        PlainMessage::Other => scanned(r, store, message, incarnation, &mut b),
+    match session_intake::take_ordered_message(store, message, 4, &mut b) {
+        OrderedMessage::Taken(_, size) => {
+            answered(r, store, incarnation, Intake::Taken(size), &b)
+        }
+        OrderedMessage::Other => scanned(r, store, message, incarnation, &mut b),
     }
 }
 

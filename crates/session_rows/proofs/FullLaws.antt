@@ -43,7 +43,7 @@ use Rattle.session.specs.Tails.{updateContent, updateValid}
 use Rattle.session.specs.Calls.{callOutcome, effectOf, OpenOutcome, openOutcome, updateOutcome}
 use Rattle.session.specs.Trace.{stepOf, Event, trace, final}
 use Rattle.session.specs.DemandThree.{Fresh, AllOfBytes}
-use Rattle.session.proofs.Model.{after, isNothing, valueTrace, valueFinal}
+use Rattle.session.proofs.Model.{after, isUnchanged, valueTrace, valueFinal}
 use Rattle.session.proofs.ViewLaws.{kept-fresh}
 use Rattle.session.proofs.TraceLaws.{bytes-of, Same, same}
 use Rattle.session_rows.specs.Rows.{messageA, link, zeros, identity, opened, pushed, recordOf, pushes, roomy, behindPushes}
@@ -119,7 +119,7 @@ module _ (baseline list : ConsumerAssignment) where
       record {
         ends = ap (λ s′. valueFinal s′ (replicate k (pushed messageA))) next ∙ r .ends ∙ ap (λ m. queuing m (grown q (suc k))) p;
         nones =
-            ap₂ _∷_ (ap (λ (y : Result). isNothing (y .reply)) x)
+            ap₂ _∷_ (ap (λ (y : Result). isUnchanged (y .reply)) x)
             (ap (λ s′. map (λ (v : Event). v .none) (valueTrace s′ (replicate k (pushed messageA)))) next ∙ r .nones);
       }
 

@@ -48,7 +48,7 @@ use Rattle.session.specs.Drain as session
 use Rattle.session.specs.Drain.{nextChange, drainCall}
 use Rattle.session.specs.Calls.{CallOutcome, openOutcome, updateOutcome, responseOutcome, drainOutcome}
 use Rattle.session.specs.Trace.{stepOf}
-use Rattle.session_rows.specs.Rows.{messageAt, messageA, bucket, messageOfTwo, written, zeros, opened, answered, pushed, drained, recordOf, storeOf}
+use Rattle.session_rows.specs.Rows.{messageAt, messageA, bucket, messageOfTwo, written, zeros, opened, responded, pushed, drained, recordOf, storeOf}
 use Rattle.session_rows.specs.Rows.{entryAt, epochAlone, gainsHalf, registered, holds, refuses, holdsA, stillA, holdsNext, staleA, overTwo, joins}
 use Rattle.session_rows.specs.Rows.{noRoom, replays, replayed, Rows}
 use Rattle.session_rows.proofs.RunLaws.{openedOn, run-is}
@@ -72,11 +72,11 @@ rows =
     let opens : opened minStore ≡ openedOn (storeOf [] []) = refl in
     let wide : opened 6196 ≡ openedOn (storeOf [] [] ++ zeros 52) = refl in
     let short : opened 6195 ≡ openedOn (storeOf [] [] ++ zeros 51) = refl in
-    let registers : stepOf (recordOf false Unset 0) (storeOf [] []) (answered 2) ≡ registered = refl in
+    let registers : stepOf (recordOf false Unset 0) (storeOf [] []) (responded 2) ≡ registered = refl in
     let held : stepOf (registered .next) (registered .store) (pushed messageA) ≡ holdsA = refl in
     let joined : stepOf (recordOf false Unset 0) (storeOf [] [] ++ zeros 52) (pushed messageA) ≡ joins 1 (entryAt 3 ++ zeros 26) = refl in
     let over : (m : List ℕ) (x : CallOutcome) → stepOf (registered .next) (registered .store) (pushed m) ≡ x → overTwo m ≡ registered ∷ x ∷ [] =
-    λ m x e. run-is minStore (storeOf [] []) opens (answered 2 ∷ pushed m ∷ []) (registered ∷ x ∷ []) (registers, (e, tt)) in
+    λ m x e. run-is minStore (storeOf [] []) opens (responded 2 ∷ pushed m ∷ []) (registered ∷ x ∷ []) (registers, (e, tt)) in
     record {
       a-valid = refl;
       a-read = refl;
@@ -84,10 +84,10 @@ rows =
       b-bytes = refl;
       opens = opens;
       c-d-e =
-          run-is minStore (storeOf [] []) opens (answered 2 ∷ pushed messageA ∷ pushed messageA ∷ pushed (messageAt 4) ∷ [])
+          run-is minStore (storeOf [] []) opens (responded 2 ∷ pushed messageA ∷ pushed messageA ∷ pushed (messageAt 4) ∷ [])
           (registered ∷ holdsA ∷ stillA ∷ holdsNext ∷ []) (registers, (held, (refl, (refl, tt))));
       f-stale =
-          run-is minStore (storeOf [] []) opens (answered 2 ∷ pushed messageA ∷ pushed (messageAt 2) ∷ [])
+          run-is minStore (storeOf [] []) opens (responded 2 ∷ pushed messageA ∷ pushed (messageAt 2) ∷ [])
           (registered ∷ holdsA ∷ staleA ∷ []) (registers, (held, (refl, tt)));
       g-shared = over (messageOfTwo (bucket 0 5) (bucket 5 9)) (refuses (OverlappingBucketRanges (record { 0 = 0 }))) refl;
       g-apart =
@@ -116,7 +116,7 @@ rows =
           run-is 6195 (storeOf [] [] ++ zeros 51) short (pushed messageA ∷ pushed messageA ∷ [])
           (joins 1 (entryAt 3 ++ zeros 25) ∷ noRoom (entryAt 3 ++ zeros 25) ∷ []) (refl, (refl, tt));
       close-places =
-          run-is 6196 (storeOf [] [] ++ zeros 52) wide (pushed messageA ∷ pushed (messageAt 4) ∷ answered 2 ∷ drained ∷ drained ∷ [])
+          run-is 6196 (storeOf [] [] ++ zeros 52) wide (pushed messageA ∷ pushed (messageAt 4) ∷ responded 2 ∷ drained ∷ drained ∷ [])
           (joins 1 (entryAt 3 ++ zeros 26) ∷ joins 2 (entryAt 3 ++ entryAt 4) ∷ replayed ∷ replays 6146 26 1 (gainsHalf 3)
           ∷ replays 6172 12 2 (epochAlone 4) ∷ [])
           (joined, (refl, (refl, (refl, (refl, tt)))));

@@ -81,8 +81,8 @@ abbrev pub opened : ℕ → OpenOutcome
 opened n = openOutcome 7 link identity (zeros n)
 
 -- an answer to request 1 with no segments at an epoch below 128; a push and a drain, with the least output, of zeros
-abbrev pub answered : ℕ → Call
-answered epoch = response (0x08 ∷ 0x01 ∷ 0x22 ∷ 0x02 ∷ 0x08 ∷ epoch ∷ []) link
+abbrev pub responded : ℕ → Call
+responded epoch = response (0x08 ∷ 0x01 ∷ 0x22 ∷ 0x02 ∷ 0x08 ∷ epoch ∷ []) link
 
 abbrev pub pushed : List ℕ → Call
 pushed message = update message link (zeros minOutput)
@@ -176,7 +176,7 @@ abbrev pub staleA : CallOutcome
 staleA = callOutcome (Refused (StaleEpoch 2 3)) (recordOf true (At 3) 0) (storeOf (emptyAt 2) (sheetAt 3)) (zeros minOutput)
 
 abbrev pub overTwo : List ℕ → List CallOutcome
-overTwo message = runOn minStore (answered 2 ∷ pushed message ∷ [])
+overTwo message = runOn minStore (responded 2 ∷ pushed message ∷ [])
 
 -- a push joins the queue: how many are then queued, and the bytes of the queue's area
 abbrev pub joins : ℕ → List ℕ → CallOutcome
@@ -234,10 +234,10 @@ pub record Rows : Type 0 where
   pub opens : opened minStore ≡ record { answer = Accepted; next = recordOf false Unset 0; store = storeOf [] [] }
   -- C: row A's message over an empty baseline of epoch 2: the delta in the output has lost 0 and gained 1. D: again, and it answers none and
   -- writes nothing. E: epoch 4 with the same segments, and both counts are 0
-  pub c-d-e : runOn minStore (answered 2 ∷ pushed messageA ∷ pushed messageA ∷ pushed (messageAt 4) ∷ [])
+  pub c-d-e : runOn minStore (responded 2 ∷ pushed messageA ∷ pushed messageA ∷ pushed (messageAt 4) ∷ [])
       ≡ registered ∷ holdsA ∷ stillA ∷ holdsNext ∷ []
   -- F: epoch 2 after 3 is 27, and nothing changes
-  pub f-stale : runOn minStore (answered 2 ∷ pushed messageA ∷ pushed (messageAt 2) ∷ []) ≡ registered ∷ holdsA ∷ staleA ∷ []
+  pub f-stale : runOn minStore (responded 2 ∷ pushed messageA ∷ pushed (messageAt 2) ∷ []) ≡ registered ∷ holdsA ∷ staleA ∷ []
   -- G: buckets 0-5 and 5-9 are 11, buckets 0-5 and 6-9 pass
   pub g-shared : overTwo (messageOfTwo (bucket 0 5) (bucket 5 9)) ≡ registered ∷ refuses (OverlappingBucketRanges (record { 0 = 0 })) ∷ []
   pub g-apart : overTwo (messageOfTwo (bucket 0 5) (bucket 6 9)) ≡ registered ∷ holds (ofThree (half 0 (keyRange 0 5 ∷ keyRange 6 9 ∷ []) ∷ [])) ∷ []
@@ -269,7 +269,7 @@ pub record Rows : Type 0 where
   pub close-fits : runOn 6196 (pushed messageA ∷ pushed messageA ∷ []) ≡ joins 1 (entryAt 3 ++ zeros 26) ∷ joins 2 (entryAt 3 ++ entryAt 3) ∷ []
   pub close-short : runOn 6195 (pushed messageA ∷ pushed messageA ∷ []) ≡ joins 1 (entryAt 3 ++ zeros 25) ∷ noRoom (entryAt 3 ++ zeros 25) ∷ []
   -- the place of each list, behind its length
-  pub close-places : runOn 6196 (pushed messageA ∷ pushed (messageAt 4) ∷ answered 2 ∷ drained ∷ drained ∷ [])
+  pub close-places : runOn 6196 (pushed messageA ∷ pushed (messageAt 4) ∷ responded 2 ∷ drained ∷ drained ∷ [])
       ≡ joins 1 (entryAt 3 ++ zeros 26)
       ∷ joins 2 (entryAt 3 ++ entryAt 4)
       ∷ replayed

@@ -117,17 +117,17 @@ module _ (r : SessionRecord) (part st : List ℕ) (x : Bool) (ex : x ≡ not (da
       flip t k = not-false t k
 
   module _ (n : not x ≡ false) where
-    good : damaged (view r part) ≡ false
-    good = not-true (damaged (view r part)) (sym ex ∙ not-false x n)
+    valid : damaged (view r part) ≡ false
+    valid = not-true (damaged (view r part)) (sym ex ∙ not-false x n)
 
     pub part-short : length st < length part → (c : Changed) → c ≡ refusedWith StoreTooShort → left c st ≡ restorePart r part st
     unfolding restorePart
-    part-short h c e = rw e (simp (good, lt-ltb (length st) (length part) h))
+    part-short h c e = rw e (simp (valid, lt-ltb (length st) (length part) h))
 
     pub part-put : length part ≤ length st → (p : List ℕ) → p ≡ put st 0 part
         → left (record { next = r; answer = Accepted }) p ≡ restorePart r part st
     unfolding restorePart
-    part-put h p e = rw e (simp (good, le-ltb (length st) (length part) h))
+    part-put h p e = rw e (simp (valid, le-ltb (length st) (length part) h))
 
 module _ (f st : List ℕ) (x : Bool) (ex : x ≡ isSaved f) where
   pub no-form : not x ≡ true → (c : Changed) → c ≡ refusedWith MalformedSave → left c st ≡ restoreOutcome f st

@@ -78,9 +78,9 @@ entries-most (suc n) l h =
     let p = both-true (startsEntry l) _ h in
     omega (arith, sheet-few l (p .0), entries-most n (drop (entryEnd l) l) (p .1))
 
-module _ (r : SessionRecord) (st : List ℕ) (good : damaged (view r st) ≡ false) where
+module _ (r : SessionRecord) (st : List ℕ) (valid : damaged (view r st) ≡ false) where
   sound : not (damaged (view r st)) ≡ true
-  sound = ap not good
+  sound = ap not valid
 
   -- where the queue ends, by the bytes
   end-is : (end : ℕ) → QueueEnds st (r .«queue_count») end → end ≡ 6144 + entriesEnd (r .«queue_count») (drop 6144 st)
@@ -160,4 +160,4 @@ module _ (r : SessionRecord) (st : List ℕ) (good : damaged (view r st) ≡ fal
         ap
         (λ (t : Bool). ltb 1024 (r .«queue_count») || (anyBeyond 8 (r .«queue_count») (r .«drain_positions») || not t))
         use-alike
-        ∙ good
+        ∙ valid

@@ -124,7 +124,7 @@ module _ (f ps q : List ℕ) (e : drop 40 f ≡ encodePositions 8 ps ++ q) (l : 
 -- ---- the form of a session that is sound
 
 module _ (r : SessionRecord) (st : List ℕ) (fit : Fits r) (bytes : Bytes st) (big : 6144 ≤ length st)
-    (good : damaged (view r st) ≡ false) where
+    (valid : damaged (view r st) ≡ false) where
   abbrev f : List ℕ
   f = encodeSaved r st
 
@@ -138,10 +138,10 @@ module _ (r : SessionRecord) (st : List ℕ) (fit : Fits r) (bytes : Bytes st) (
   c = exportRecord r
 
   pub part-least : 6144 ≤ length part
-  part-least = omega (arith, length-used r st _ (ends r st good big), end-least r st good _ (ends r st good big))
+  part-least = omega (arith, length-used r st _ (ends r st valid big), end-least r st valid _ (ends r st valid big))
 
   part-most : length part ≤ 2105344
-  part-most = omega (arith, length-used r st _ (ends r st good big), end-most r st good _ (ends r st good big))
+  part-most = omega (arith, length-used r st _ (ends r st valid big), end-most r st valid _ (ends r st valid big))
 
   d0 : drop 0 f ≡ bytesOf 4 mark ++ (bytesOf 4 (111 + length part) ++ (encodeRecord c ++ (part ++ sum)))
   unfolding encodeSaved encodeBody
@@ -195,7 +195,7 @@ module _ (r : SessionRecord) (st : List ℕ) (fit : Fits r) (bytes : Bytes st) (
   flag-at k = sym (getD-drop 104 f k 0) ∙ ap (λ (l : List ℕ). getD l k 0) d104
 
   sound : not (damaged (view r st)) ≡ true
-  sound = ap not good
+  sound = ap not valid
 
   -- positions lie within the queue, which has 1,024 at most
   position-word : (k : ℕ) → k < 8 → getD (r .«drain_positions») k 0 < 2 ^ 64

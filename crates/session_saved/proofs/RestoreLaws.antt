@@ -36,7 +36,7 @@ module _ (r : SessionRecord) (st out : List ℕ) (n : ℕ) where
 
   pub record Saves : Type 0 where
     pub big : 6144 ≤ length st
-    pub good : damaged (view r st) ≡ false
+    pub valid : damaged (view r st) ≡ false
     pub size : n ≡ length (encodeSaved r st)
     pub front : take n (saveOutcome r st out .out) ≡ encodeSaved r st
 
@@ -59,7 +59,7 @@ module _ (r : SessionRecord) (st out : List ℕ) (n : ℕ) where
           let o : saveOutcome r st out .out ≡ put out 0 f = simp (ex, ey, ez) in
           record {
             big = ltb-false _ _ ex;
-            good = ey;
+            valid = ey;
             size = s;
             front = ap₂ (λ (k : ℕ) (l : List ℕ). take k l) s o ∙ take-put out 0 f (omega arith);
           }
@@ -73,7 +73,7 @@ module _ (r : SessionRecord) (n n′ : ℕ) (s s′ : Bool) (t t′ : List ℕ) 
   one en es et eb el eq = rw (en, es, et, eb, el, eq)
 
 module _ (r : SessionRecord) (st t : List ℕ) (fit : Fits r) (bytes : Bytes st) (big : 6144 ≤ length st)
-    (good : damaged (view r st) ≡ false) (room : length (usedPart r st) ≤ length t) where
+    (valid : damaged (view r st) ≡ false) (room : length (usedPart r st) ≤ length t) where
   abbrev part : List ℕ
   part = usedPart r st
 
@@ -82,14 +82,14 @@ module _ (r : SessionRecord) (st t : List ℕ) (fit : Fits r) (bytes : Bytes st)
 
   q : QueueEnds st (r .«queue_count») (length part)
   q =
-      subst (QueueEnds st (r .«queue_count»)) (sym (length-used r st _ (ends r st good big))) (ends r st good big)
+      subst (QueueEnds st (r .«queue_count»)) (sym (length-used r st _ (ends r st valid big))) (ends r st valid big)
 
   part-front : take (length part) st ≡ part
   unfolding usedPart
   part-front = ap (λ (n : ℕ). take n st) (q .at)
 
   part-sound : damaged (view r part) ≡ false
-  part-sound = undamaged r st good part (length part) q (part-front ∙ sym (take-all (length part) part (omega arith)))
+  part-sound = undamaged r st valid part (length part) q (part-front ∙ sym (take-all (length part) part (omega arith)))
 
   alike : take (length part) st ≡ take (length part) back
   alike = part-front ∙ sym (take-put t 0 part (omega arith))
@@ -98,9 +98,9 @@ module _ (r : SessionRecord) (st t : List ℕ) (fit : Fits r) (bytes : Bytes st)
   unfolding restoreOutcome restorePart
   comes =
       simp (
-        form-read r st fit bytes big good,
-        record-read r st fit bytes big good,
-        store-read r st fit bytes big good,
+        form-read r st fit bytes big valid,
+        record-read r st fit bytes big valid,
+        store-read r st fit bytes big valid,
         part-sound,
         le-ltb (length t) (length part) room,
       )
@@ -108,14 +108,14 @@ module _ (r : SessionRecord) (st t : List ℕ) (fit : Fits r) (bytes : Bytes st)
   left : Restored r st t (length part) (record { answer = Accepted; next = r; store = back })
   unfolding view
   left =
-      let s = same-session r st good back (length part) q alike in
+      let s = same-session r st valid back (length part) q alike in
       let z : length part ≡ 0 + length part = omega arith in
       let l : length back ≡ length t = length-put t 0 part (omega arith) in
       record {
         answer = refl;
         next = refl;
         same = s;
-        undamaged = undamaged r st good back (length part) q alike;
+        undamaged = undamaged r st valid back (length part) q alike;
         behind = ap (λ (n : ℕ). drop n back) z ∙ drop-put t 0 part (omega arith) ∙ ap (λ (n : ℕ). drop n t) (sym z);
         size = l;
         whole = λ e. one r _ _ _ _ _ _ _ _ _ _ _ _ (l ∙ e) (s .sound) (s .topic) (s .baseline) (s .list) (s .queue);
@@ -129,5 +129,5 @@ save-restores r st out t n fit bytes e room =
     let k : n - 111 ≡ length (usedPart r st) = omega (arith, s .size, length-saved r st) in
     subst (λ (m : ℕ). Restored r st t m (restoreOutcome (take n (saveOutcome r st out .out)) t)) (sym k)
     (subst (λ (f : List ℕ). Restored r st t (length (usedPart r st)) (restoreOutcome f t)) (sym (s .front))
-    (subst (Restored r st t (length (usedPart r st))) (sym (comes r st t fit bytes (s .big) (s .good) (omega (arith, k, room))))
-    (left r st t fit bytes (s .big) (s .good) (omega (arith, k, room)))))
+    (subst (Restored r st t (length (usedPart r st))) (sym (comes r st t fit bytes (s .big) (s .valid) (omega (arith, k, room))))
+    (left r st t fit bytes (s .big) (s .valid) (omega (arith, k, room)))))

@@ -122,8 +122,8 @@ module _ (r : SessionRecord) (st : List ℕ) where
               unfolding queueReads
               told = read-there (r .«queue_count») (drop 6144 st) size (e ∙ ap (entriesRead (r .«queue_count»)) (part-queue st))
 
-              pub queue-good : damaged (view r st) ≡ false
-              queue-good = queue-decides ∙ ap not (told .0)
+              pub queue-valid : damaged (view r st) ≡ false
+              queue-valid = queue-decides ∙ ap not (told .0)
 
               pub queue-ended : 6144 ≤ length st → QueueEnds st (r .«queue_count») (6144 + size)
               queue-ended big = queue-ends st (r .«queue_count») big (told .0) size (told .1)
@@ -149,8 +149,8 @@ module _ (r : SessionRecord) (st : List ℕ) (e : not (damaged (view r st)) ≡ 
   unfolding inUse
   slots = both-true (isIdentity (slot st 0)) _ (sym (not-not (inUse r st)) ∙ places .1)
 
-  pub identity-good : isIdentity (slot st 0) ≡ true
-  identity-good = slots .0
+  pub identity-valid : isIdentity (slot st 0) ≡ true
+  identity-valid = slots .0
 
   pub lists-start : r .registered ≡ true → (startsAssignment (slot st 1) ≡ true) × (startsAssignment (slot st 2) ≡ true)
   lists-start f =
@@ -184,16 +184,16 @@ module _ (st : List ℕ) (n i : ℕ) (big : 6144 ≤ length st) (h : queueReads 
   begins = p ∙ ap (6144 +_) (ends-by-size i (drop 6144 st) (front-reads st n big h i (omega arith)))
 
   -- it stands at its place
-  good : startsEntry (drop (entriesEnd i (drop 6144 st)) (drop 6144 st)) ≡ true
+  valid : startsEntry (drop (entriesEnd i (drop 6144 st)) (drop 6144 st)) ≡ true
   unfolding queueReads
-  good = start-at n i (drop 6144 st) h l
+  valid = start-at n i (drop 6144 st) h l
 
   there : drop (entriesEnd i (drop 6144 st)) (drop 6144 st) ≡ drop at st
   there = drop-drop (entriesEnd i (drop 6144 st)) 6144 st ∙ ap (λ m. drop m st) (sym begins)
 
   entry-fits : at + entryEnd (drop at st) ≤ length st
   entry-fits =
-      let a : entryEnd (drop at st) ≤ length (drop at st) = entry-inside (drop at st) (ap startsEntry (sym there) ∙ good) in
+      let a : entryEnd (drop at st) ≤ length (drop at st) = entry-inside (drop at st) (ap startsEntry (sym there) ∙ valid) in
       omega (arith, a, length-drop at st)
 
   pub entry-room : at + 2 ≤ length st
@@ -214,15 +214,15 @@ module _ (st : List ℕ) (n i : ℕ) (big : 6144 ≤ length st) (h : queueReads 
         let x = drop (entriesEnd i (drop 6144 st)) (drop 6144 st) in
         record {
           inside = omega (arith, entry-fits, long);
-          few = omega (arith, long, ap (num 2) (sym there), sheet-few x good);
-          starts = ap startsAssignment sheet ∙ both-true (startsAssignment (sheetIn x)) _ (entry-whole x good) .0;
+          few = omega (arith, long, ap (num 2) (sym there), sheet-few x valid);
+          starts = ap startsAssignment sheet ∙ both-true (startsAssignment (sheetIn x)) _ (entry-whole x valid) .0;
           holds = ap decodeAssignment sheet;
         }
 
     -- a list fills its length
     pub entry-size : size ≡ sizeAssignment (entryIn st i)
     unfolding entryIn
-    entry-size = long ∙ ap (num 2) (sym there) ∙ sym (sheet-size (drop (entriesEnd i (drop 6144 st)) (drop 6144 st)) good)
+    entry-size = long ∙ ap (num 2) (sym there) ∙ sym (sheet-size (drop (entriesEnd i (drop 6144 st)) (drop 6144 st)) valid)
 
     -- the next one begins behind it
     pub entry-next : at + 2 + size ≡ queueEnd (queueIn st (i + 1))

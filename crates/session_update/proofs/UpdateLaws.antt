@@ -1,7 +1,7 @@
 -- The cases of an update, one law for each answer of the functions.
 --
--- In order: epochs and the list where they lie (`buffer-epoch` to `list-starts`); a store that is not damaged (`identity-good` to
--- `list-good`); an unregistered session (`epoch-low`, `queue-full`, `no-room`, `queue-joined`); a registered one (`list-same`, `epoch-stale`,
+-- In order: epochs and the list where they lie (`buffer-epoch` to `list-starts`); a store that is not damaged (`identity-valid` to
+-- `list-valid`); an unregistered session (`epoch-low`, `queue-full`, `no-room`, `queue-joined`); a registered one (`list-same`, `epoch-stale`,
 -- `list-held`); what the assignment comes to (`content-refuses` to `content-joins`); link and consumer
 -- (`address-link` to `let-in`); the message (`update-epoch` to `message-valid`); the call (`store-short` to `call-sound`).
 -- Assumes nothing.
@@ -46,7 +46,7 @@ use Rattle.session_record.specs.Floors.{belowFloor, floorValue}
 use Rattle.session_record.proofs.FloorLaws.{floor-below, floor-met}
 use Rattle.session_store.proofs.StoreLaws.{slot-at, count-most, lists-start}
 use Rattle.session_store.proofs.StoreLaws as store
-use Rattle.session_intake.specs.Taken.{contentIn, PlainMessageTaken}
+use Rattle.session_intake.specs.Taken.{contentIn, OrderedMessageTaken}
 use Rattle.session_update.specs.declared.Address.{Address}
 use Rattle.session_update.specs.declared.Address.the-variants as address
 use Rattle.session_update.specs.Address.{addressOf, byAddress}
@@ -76,14 +76,14 @@ list-starts st h = ap startsAssignment (slot-at st 2) ∙ h
 -- ---- a store that is not damaged
 
 module _ (r : SessionRecord) (st : List ℕ) (e : damaged (view r st) ≡ false) where
-  pub identity-good : isIdentity (slot st 0) ≡ true
-  identity-good = store.identity-good r st (ap not e)
+  pub identity-valid : isIdentity (slot st 0) ≡ true
+  identity-valid = store.identity-valid r st (ap not e)
 
-  pub count-good : r .«queue_count» ≤ 1024
-  count-good = count-most r st (ap not e)
+  pub count-valid : r .«queue_count» ≤ 1024
+  count-valid = count-most r st (ap not e)
 
-  pub list-good : r .registered ≡ true → startsAssignment (slot st 2) ≡ true
-  list-good h = lists-start r st (ap not e) h .1
+  pub list-valid : r .registered ≡ true → startsAssignment (slot st 2) ≡ true
+  list-valid h = lists-start r st (ap not e) h .1
 
 -- ---- unregistered
 
@@ -239,9 +239,9 @@ module _ (m : List ℕ) where
   update-content st e = e
 
   -- its consumer, where it has its usual form
-  pub plain-consumer : (st b : List ℕ) (id n : ℕ) → PlainMessageTaken st m 2 id n b → id ≡ updateOf m .consumerId
+  pub ordered-consumer : (st b : List ℕ) (id n : ℕ) → OrderedMessageTaken st m 2 id n b → id ≡ updateOf m .consumerId
   unfolding updateOf
-  plain-consumer st b id n t = sym (ap (numberIn 1) (t .fields))
+  ordered-consumer st b id n t = sym (ap (numberIn 1) (t .fields))
 
 module _ (r : SessionRecord) (st m : List ℕ) (incarnation : ControllerIncarnation) (out : List ℕ) where
   -- what the scan leaves to say

@@ -30,7 +30,7 @@ use refusal::Refusal;
 use session::Answer;
 use session::Changed;
 use session::SessionRecord;
-use session_intake::PlainMessage;
+use session_intake::OrderedMessage;
 use session_store::MAX_QUEUE;
 use session_store::Tested;
 use topic_types::ControllerIncarnation;
@@ -236,8 +236,8 @@ pub fn updated(
         return session_record::refuse(r, Refusal::MalformedStore);
     };
     let mut b = [0u8; SLOT];
-    match session_intake::take_plain_message(store, message, 2, &mut b) {
-        PlainMessage::Taken(id, n) => { addressed(r, store, end, id, incarnation, &b, n, out) }
-        PlainMessage::Other => scanned(r, store, end, message, incarnation, &mut b, out),
+    match session_intake::take_ordered_message(store, message, 2, &mut b) {
+        OrderedMessage::Taken(id, n) => { addressed(r, store, end, id, incarnation, &b, n, out) }
+        OrderedMessage::Other => scanned(r, store, end, message, incarnation, &mut b, out),
     }
 }

@@ -18,7 +18,7 @@ fn length(line: &[u8]) {
 
 fn told(r: TestAnswer) {
     match r {
-        TestAnswer::Told(b) => print::yes(b),
+        TestAnswer::Answered(b) => print::yes(b),
         TestAnswer::Refused(x) => print::refused(x),
     }
 }

@@ -1,9 +1,9 @@
 -- Laws of a text that is read sequence by sequence.
 --
 -- In order: a text is its first sequence and the rest (`text-step`); the end of a slice (`text-end`); at the place `at`
--- of a slice: no sequence (`sequence-stops`), a sequence (`sequence-passes`), a byte of the first row (`plain-passes`,
--- `plain-next`); bytes that may be passed over (`passes-none`, `passes-more`); bytes of the first row alone (`plain-one`,
--- `plain-join`, `plain-text`, `plain-turn`).
+-- of a slice: no sequence (`sequence-stops`), a sequence (`sequence-passes`), a byte of the first row (`ascii-passes`,
+-- `ascii-next`); bytes that may be passed over (`passes-none`, `passes-more`); bytes of the first row alone (`ascii-one`,
+-- `ascii-join`, `ascii-text`, `ascii-turn`).
 -- Assumes nothing.
 use Prim.Native.Nat.{ℕ, zero, suc, _+_, _-_, _≤_, _<_}
 use native.Mathlib.Decide.{decLe}
@@ -17,7 +17,7 @@ use lib.Dec.{eqb, ltb}
 use borrow.Author.Tests.{eq-eqb, ne-eqb, ltb-true}
 use Rattle.slice.specs.BoolLaws.{both-true}
 use Rattle.utf8.specs.Table.{sequenceOf, textAfter, isUtf8}
-use Rattle.utf8.specs.Passes.{Passes, Plain}
+use Rattle.utf8.specs.Passes.{Passes, Ascii}
 use Rattle.utf8.proofs.RowLaws.{first-row, sequence-le}
 
 text-skip : (n : ℕ) (l : List ℕ) → textAfter n l ≡ textAfter 0 (drop n l)
@@ -57,12 +57,12 @@ module _ (s : List ℕ) (at n : ℕ) (h : at < length s) (e : n ≡ sequenceOf (
   sequence-passes z = sequence-step ∙ rw (ne-eqb n 0 z)
 
 -- a byte of the first row; the same i places behind at
-pub plain-passes : (s : List ℕ) (at : ℕ) → at < length s → getD s at 0 ≤ 127 → isUtf8 (drop at s) ≡ isUtf8 (drop (at + 1) s)
-plain-passes s at h b = sequence-passes s at 1 h (sym (first-row s at h b)) (λ z. absurd (omega arith))
+pub ascii-passes : (s : List ℕ) (at : ℕ) → at < length s → getD s at 0 ≤ 127 → isUtf8 (drop at s) ≡ isUtf8 (drop (at + 1) s)
+ascii-passes s at h b = sequence-passes s at 1 h (sym (first-row s at h b)) (λ z. absurd (omega arith))
 
-pub plain-next : (s : List ℕ) (at i : ℕ) → at + i < length s → getD s (at + i) 0 ≤ 127
+pub ascii-next : (s : List ℕ) (at i : ℕ) → at + i < length s → getD s (at + i) 0 ≤ 127
     → isUtf8 (drop (at + i) s) ≡ isUtf8 (drop (at + (i + 1)) s)
-plain-next s at i h b = let e : at + i + 1 ≡ at + (i + 1) = omega arith in plain-passes s (at + i) h b ∙ rw e
+ascii-next s at i h b = let e : at + i + 1 ≡ at + (i + 1) = omega arith in ascii-passes s (at + i) h b ∙ rw e
 
 -- ---- bytes that may be passed over
 
@@ -78,39 +78,39 @@ module _ (s : List ℕ) (from : ℕ) where
 -- ---- bytes of the first row alone
 
 module _ (s : List ℕ) where
-  pub plain-none : (at : ℕ) → Plain s at at
-  plain-none at i h k = absurd (let z : ⊥ = omega arith in z)
+  pub ascii-none : (at : ℕ) → Ascii s at at
+  ascii-none at i h k = absurd (let z : ⊥ = omega arith in z)
 
   -- one more, and those up to a place with those from an earlier one on
-  pub plain-one : (from to : ℕ) → Plain s from to → getD s to 0 ≤ 127 → Plain s from (to + 1)
-  plain-one from to p b i h k = go (decLe (suc i) to)
+  pub ascii-one : (from to : ℕ) → Ascii s from to → getD s to 0 ≤ 127 → Ascii s from (to + 1)
+  ascii-one from to p b i h k = go (decLe (suc i) to)
     where
       go : Dec (suc i ≤ to) → getD s i 0 ≤ 127
       go (yes l) = p i h l
       go (no l) = let e : i ≡ to = omega arith in rw e b
 
-  pub plain-join : (from mid at to : ℕ) → at ≤ mid → Plain s from mid → Plain s at to → Plain s from to
-  plain-join from mid at to m p q i h k = go (decLe (suc i) mid)
+  pub ascii-join : (from mid at to : ℕ) → at ≤ mid → Ascii s from mid → Ascii s at to → Ascii s from to
+  ascii-join from mid at to m p q i h k = go (decLe (suc i) mid)
     where
       go : Dec (suc i ≤ mid) → getD s i 0 ≤ 127
       go (yes l) = p i h l
       go (no l) = q i (omega arith) k
 
-  plain-from : Plain s 0 (length s) → (d at : ℕ) → at + d ≡ length s → isUtf8 (drop at s) ≡ true
-  plain-from p zero at e = text-end s at (omega arith)
-  plain-from p (suc d) at e = plain-passes s at (omega arith) (p at (omega arith) (omega arith)) ∙ plain-from p d (at + 1) (omega arith)
+  ascii-from : Ascii s 0 (length s) → (d at : ℕ) → at + d ≡ length s → isUtf8 (drop at s) ≡ true
+  ascii-from p zero at e = text-end s at (omega arith)
+  ascii-from p (suc d) at e = ascii-passes s at (omega arith) (p at (omega arith) (omega arith)) ∙ ascii-from p d (at + 1) (omega arith)
 
-  pub plain-text : Plain s 0 (length s) → isUtf8 s ≡ true
-  plain-text p = plain-from p (length s) 0 (omega arith)
+  pub ascii-text : Ascii s 0 (length s) → isUtf8 s ≡ true
+  ascii-text p = ascii-from p (length s) 0 (omega arith)
 
   -- the bytes of a block up to i, and one more
-  pub plain-start : (at : ℕ) → Plain s at (at + 0)
-  plain-start at i h k = absurd (let z : ⊥ = omega arith in z)
+  pub ascii-start : (at : ℕ) → Ascii s at (at + 0)
+  ascii-start at i h k = absurd (let z : ⊥ = omega arith in z)
 
-  pub plain-turn : (at i : ℕ) (plain : Bool) → (plain ≡ true → Plain s at (at + i)) → (r : Bool) → r ≡ (plain && ltb (getD s (at + i) 0) 128) → r ≡ true
-      → Plain s at (at + (i + 1))
-  plain-turn at i plain h r e f =
-      let k : (plain ≡ true) × (ltb (getD s (at + i) 0) 128 ≡ true) = both-true plain (ltb (getD s (at + i) 0) 128) (sym e ∙ f) in
+  pub ascii-turn : (at i : ℕ) (ascii : Bool) → (ascii ≡ true → Ascii s at (at + i)) → (r : Bool) → r ≡ (ascii && ltb (getD s (at + i) 0) 128) → r ≡ true
+      → Ascii s at (at + (i + 1))
+  ascii-turn at i ascii h r e f =
+      let k : (ascii ≡ true) × (ltb (getD s (at + i) 0) 128 ≡ true) = both-true ascii (ltb (getD s (at + i) 0) 128) (sym e ∙ f) in
       let b : getD s (at + i) 0 ≤ 127 = omega (arith, ltb-true (getD s (at + i) 0) 128 (k .1)) in
       let z : at + i + 1 ≡ at + (i + 1) = omega arith in
-      rw z at (plain-one at (at + i) (h (k .0)) b)
+      rw z at (ascii-one at (at + i) (h (k .0)) b)

@@ -1,6 +1,6 @@
 -- Internal: cited by the contracts of helpers alone; whoever reads the claims may skip it.
 --
--- What `eights_end`, `plain_end`, `block_plain` and `all_plain` answer.
+-- What `eights_end`, `ascii_end`, `block_ascii` and `all_ascii` answer.
 -- Assumes nothing.
 use Prim.Native.Nat.{ℕ, _≤_, _<_}
 use mathlib.Core.Path.{_≡_}
@@ -15,5 +15,5 @@ pub record Passes (s : List ℕ) (from to : ℕ) : Type 0 where
   pub same : isUtf8 (drop from s) ≡ isUtf8 (drop to s)
 
 -- the bytes between two places are all of the first row
-abbrev pub Plain : (s : List ℕ) (from to : ℕ) → Type 0
-Plain s from to = (i : ℕ) → from ≤ i → i < to → getD s i 0 ≤ 127
+abbrev pub Ascii : (s : List ℕ) (from to : ℕ) → Type 0
+Ascii s from to = (i : ℕ) → from ≤ i → i < to → getD s i 0 ≤ 127

@@ -10,7 +10,7 @@ ghost use Prim.Native.Nat.{_+_, _≤_};
 ghost use lib.ListN.{length, drop};
 ghost use lib.Dec.{ltb};
 ghost use Rattle.utf8.specs.Table.{span, fits, sequenceOf, isUtf8};
-ghost use Rattle.utf8.specs.Passes.{Passes, Plain};
+ghost use Rattle.utf8.specs.Passes.{Passes, Ascii};
 
 // The byte values from the first to the second.
 struct Span(u8, u8);
@@ -89,7 +89,7 @@ pub fn sequence(s: &[u8]) -> usize
 
 // The eight bytes from a place on are all of the first row. They are counted with no way out of the loop, so that a
 // machine may test them at once.
-fn eight_plain(s: &[u8], at: usize) -> bool
+fn eight_ascii(s: &[u8], at: usize) -> bool
     requires { ⌜ at + 8 ≤ length (now s) ⌝ }
     ensures { λ r. ⌜ (r ≡ true → isUtf8 (drop at (now (s .entry))) ≡ isUtf8 (drop (at + 8) (now (s .entry)))) ⌝ }
 {
@@ -111,7 +111,7 @@ fn eights_end(s: &[u8], from: usize) -> usize
 {
     let mut at = from;
     while 8 <= s.len() - at {
-        if !eight_plain(s, at) {
+        if !eight_ascii(s, at) {
             return at;
         }
         at = at + 8;
@@ -120,7 +120,7 @@ fn eights_end(s: &[u8], from: usize) -> usize
 }
 
 // The place behind the bytes of the first row from a place on.
-fn plain_end(s: &[u8], from: usize) -> usize
+fn ascii_end(s: &[u8], from: usize) -> usize
     requires { ⌜ from ≤ length (now s) ⌝ }
     ensures { λ r. ⌜ Passes (now (s .entry)) from r ⌝ }
 {
@@ -135,42 +135,42 @@ fn plain_end(s: &[u8], from: usize) -> usize
 }
 
 // Whether bytes are of the first row still with one more.
-fn stays_plain(plain: bool, b: u8) -> bool
-    ensures { λ r. ⌜ r ≡ (plain && ltb b 128) ⌝ }
+fn stays_ascii(ascii: bool, b: u8) -> bool
+    ensures { λ r. ⌜ r ≡ (ascii && ltb b 128) ⌝ }
 {
-    if plain { b < 0x80 } else { false }
+    if ascii { b < 0x80 } else { false }
 }
 
 // The 16 bytes from a place on are all of the first row. There is no way out of the loop, so that a machine may test them at once.
-fn block_plain(s: &[u8], at: usize) -> bool
+fn block_ascii(s: &[u8], at: usize) -> bool
     requires { ⌜ at + 16 ≤ length (now s) ⌝ }
-    ensures { λ r. ⌜ (r ≡ true → Plain (now (s .entry)) at (at + 16)) ⌝ }
+    ensures { λ r. ⌜ (r ≡ true → Ascii (now (s .entry)) at (at + 16)) ⌝ }
 {
-    let mut plain = true;
+    let mut ascii = true;
     let mut i: usize = 0;
     while i < 16 {
-        plain = stays_plain(plain, s[at + i]);
+        ascii = stays_ascii(ascii, s[at + i]);
         i = i + 1;
     }
-    plain
+    ascii
 }
 
 // The part has 16 bytes or more, and all are of the first row. The last ones, which may not fill a block, are compared with those before them
 // once more.
-pub fn all_plain(s: &[u8]) -> bool
-    ensures { λ r. ⌜ (r ≡ true → Plain (now (s .entry)) 0 (length (now (s .entry)))) ⌝ }
+pub fn all_ascii(s: &[u8]) -> bool
+    ensures { λ r. ⌜ (r ≡ true → Ascii (now (s .entry)) 0 (length (now (s .entry)))) ⌝ }
 {
     if s.len() < 16 {
         return false;
     }
     let mut at: usize = 0;
     while 16 <= s.len() - at {
-        if !block_plain(s, at) {
+        if !block_ascii(s, at) {
             return false;
         }
         at = at + 16;
     }
-    block_plain(s, s.len() - 16)
+    block_ascii(s, s.len() - 16)
 }
 
 // The part is UTF-8, sequence by sequence.
@@ -185,7 +185,7 @@ fn is_text(s: &[u8]) -> bool
         }
         at = at + n;
         if n == 1 {
-            at = plain_end(s, at);
+            at = ascii_end(s, at);
         }
     }
     true
@@ -195,5 +195,5 @@ fn is_text(s: &[u8]) -> bool
 pub fn is_utf8(s: &[u8]) -> bool
     ensures { λ r. ⌜ r ≡ isUtf8 (now (s .entry)) ⌝ }
 {
-    if all_plain(s) { true } else { is_text(s) }
+    if all_ascii(s) { true } else { is_text(s) }
 }

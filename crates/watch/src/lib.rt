@@ -9,7 +9,7 @@ ghost use Rattle.wire_readers.specs.Messages.{watchUpdateOf};
 ghost use Rattle.watch_topics.specs.Topics.{insertAll, sorted, allShort};
 ghost use Rattle.watch_topics.specs.Packed.{decodeTopics, encodeTopics, sizeTopics, isSet};
 ghost use Rattle.watch_window.specs.Lists.{namedIn};
-ghost use Rattle.watch_window.specs.Window.{OrdersOf};
+ghost use Rattle.watch_window.specs.Window.{SortedOf};
 ghost use Rattle.watch_merge.specs.Merge.{Apart, Rises};
 ghost use Rattle.watch_sort.specs.Chunks.{SortedTo};
 ghost use Rattle.watch.specs.Watch.{snapshotIn, diffIn, outcome, done, settle, noEvent, forWatch, handleUpdate};
@@ -17,7 +17,7 @@ ghost use Rattle.watch.specs.Steps.{rest, addedIn, removedIn, OutFits, D
 use refusal::Refusal;
 use watch_chunks::Lists;
 use watch_window::Listing;
-use watch_window::Orders;
+use watch_window::Sorted;
 use wire_readers::ErrorCode;
 use wire_readers::Event;
 use wire_schema::Checked;
@@ -43,25 +43,25 @@ enum Room {
 }
 
 // The topics of a snapshot as the set at the front of buffer. Answers its length. The bytes of spare up to that length may change.
-fn write_topics(orders: Orders, buffer: &mut [u8], p: &[u8], spare: &mut [u8]) -> usize
-    requires { ⌜ OrdersOf 2 (now p) orders ⌝ }
+fn write_topics(order: Sorted, buffer: &mut [u8], p: &[u8], spare: &mut [u8]) -> usize
+    requires { ⌜ SortedOf 2 (now p) order ⌝ }
     requires { ⌜ allShort (namedIn 2 1 (now p)) ≡ true ⌝ }
     requires { ⌜ sizeTopics (sorted (namedIn 2 1 (now p))) ≤ length (now buffer) ⌝ }
     requires { ⌜ sizeTopics (sorted (namedIn 2 1 (now p))) ≤ length (now spare) ⌝ }
     ensures { λ r. ⌜ SortedTo (namedIn 2 1 (now (p .entry))) (now (buffer .entry)) (now (spare .entry)) (now (buffer .exit)) (now (spare .exit)) r ⌝ }
 {
-    if orders.added {
+    if order.added {
         return watch_sort::write_all(p, 2, 1, buffer);
     }
     if p.len() < FEW_BYTES {
-        return watch_lists::write_list(Listing::Added, orders, &p[..0], p, 2, buffer);
+        return watch_lists::write_list(Listing::Added, order, &p[..0], p, 2, buffer);
     }
     watch_sort::write_sorted(p, 2, 1, buffer, spare)
 }
 
 // The topics of a snapshot, as the set at the front of buffer and as the output. Answers the length of the set.
-fn write_snapshot(buffer: &mut [u8], orders: Orders, p: &[u8], out: &mut [u8]) -> usize
-    requires { ⌜ OrdersOf 2 (now p) orders ⌝ }
+fn write_snapshot(buffer: &mut [u8], order: Sorted, p: &[u8], out: &mut [u8]) -> usize
+    requires { ⌜ SortedOf 2 (now p) order ⌝ }
     requires { ⌜ allShort (namedIn 2 1 (now p)) ≡ true ⌝ }
     requires { ⌜ sizeTopics (sorted (namedIn 2 1 (now p))) ≤ length (now buffer) ⌝ }
     requires { ⌜ sizeTopics (sorted (namedIn 2 1 (now p))) < length (now out) ⌝ }
@@ -69,7 +69,7 @@ fn write_snapshot(buffer: &mut [u8], orders: Orders, p: &[u8], out: &mut [u8]) -
         × (now (out .exit) ≡ put (now (out .entry)) 0 (snapshotIn (now (p .entry)) .output))
         × (r ≡ sizeTopics (sorted (namedIn 2 1 (now (p .entry))))) ⌝ }
 {
-    let n = write_topics(orders, buffer, p, out);
+    let n = write_topics(order, buffer, p, out);
     slice_int::put_bytes(out, 1, &buffer[..n]);
     out[0] = 0;
     n
@@ -91,36 +91,36 @@ fn snapshot(buffer: &mut [u8], p: &[u8], out: &mut [u8]) -> WatchAnswer
     if !s.short {
         return WatchAnswer::Refused(Refusal::SetTooLong);
     }
-    let orders = Orders {
+    let order = Sorted {
         added: s.rises,
         removed: false,
     };
     if fits_whole(p.len(), buffer.len(), out.len()) {
-        let n = write_snapshot(buffer, orders, p, out);
+        let n = write_snapshot(buffer, order, p, out);
         return WatchAnswer::Changed(n, 1 + n);
     }
-    let z = watch_lists::measure(Listing::Added, orders, &p[..0], p, 2);
+    let z = watch_lists::measure(Listing::Added, order, &p[..0], p, 2);
     if buffer.len() < z {
         return WatchAnswer::Refused(Refusal::SetTooLong);
     }
     if out.len() <= z {
         return WatchAnswer::Refused(Refusal::ResultTooLong);
     }
-    write_snapshot(buffer, orders, p, out);
+    write_snapshot(buffer, order, p, out);
     WatchAnswer::Changed(z, 1 + z)
 }
 
 // The output of a diff, which fits. Answers the lengths of its lists.
-fn write_lists(set: &[u8], orders: Orders, p: &[u8], out: &mut [u8]) -> Lists
+fn write_lists(set: &[u8], order: Sorted, p: &[u8], out: &mut [u8]) -> Lists
     requires { ⌜ isSet (now set) ≡ true ⌝ }
-    requires { ⌜ OrdersOf 3 (now p) orders ⌝ }
+    requires { ⌜ SortedOf 3 (now p) order ⌝ }
     requires { ⌜ (allShort (namedIn 3 1 (now p)) ≡ true) × (allShort (namedIn 3 2 (now p)) ≡ true) ⌝ }
     requires { ⌜ OutFits (decodeTopics (now set)) (now p) (length (now out)) ⌝ }
     ensures { λ r. ⌜ (r .added ≡ sizeTopics (addedIn (decodeTopics (now (set .entry))) (now (p .entry))))
         × (r .removed ≡ sizeTopics (removedIn (decodeTopics (now (set .entry))) (now (p .entry))))
         × (now (out .exit) ≡ put (now (out .entry)) 0 (diffIn (decodeTopics (now (set .entry))) (now (p .entry)) .output)) ⌝ }
 {
-    let l = watch_chunks::write_lists(orders, set, p, 3, &mut out[5..]);
+    let l = watch_chunks::write_lists(order, set, p, 3, &mut out[5..]);
     slice_int::write_u32(out, 1, l.added as u32);
     out[0] = 1;
     l
@@ -161,20 +161,20 @@ fn fits(z: usize, gone: usize, room: usize) -> bool
 fn write_diff(
     buffer: &mut [u8],
     used: usize,
-    orders: Orders,
+    order: Sorted,
     p: &[u8],
     out: &mut [u8],
 ) -> WatchAnswer
     requires { ⌜ used ≤ length (now buffer) ⌝ }
     requires { ⌜ isSet (take used (now buffer)) ≡ true ⌝ }
-    requires { ⌜ OrdersOf 3 (now p) orders ⌝ }
+    requires { ⌜ SortedOf 3 (now p) order ⌝ }
     requires { ⌜ (allShort (namedIn 3 1 (now p)) ≡ true) × (allShort (namedIn 3 2 (now p)) ≡ true) ⌝ }
     requires { ⌜ DiffFits (decodeTopics (take used (now buffer))) (now p) (length (now buffer)) (length (now out)) ⌝ }
     ensures { λ r. ⌜ (r ≡ done (now (buffer .entry)) (now (out .entry)) (diffIn (decodeTopics (take used (now (buffer .entry)))) (now (p .entry))) .answer)
         × (now (buffer .exit) ≡ done (now (buffer .entry)) (now (out .entry)) (diffIn (decodeTopics (take used (now (buffer .entry)))) (now (p .entry))) .buffer)
         × (now (out .exit) ≡ done (now (buffer .entry)) (now (out .entry)) (diffIn (decodeTopics (take used (now (buffer .entry)))) (now (p .entry))) .out) ⌝ }
 {
-    let l = write_lists(&buffer[..used], orders, p, out);
+    let l = write_lists(&buffer[..used], order, p, out);
     let at = 5 + l.added;
     let end = at + l.removed;
     let n = write_set(buffer, used, &out[5..at], &out[at..end]);
@@ -198,17 +198,17 @@ fn fits_lists(n: usize, set: usize, out: usize) -> bool
 }
 
 // Whether the set after a diff and its output fit rooms of so many bytes.
-fn room_for(set: &[u8], orders: Orders, p: &[u8], room: usize, out: usize) -> Room
+fn room_for(set: &[u8], order: Sorted, p: &[u8], room: usize, out: usize) -> Room
     requires { ⌜ length (now set) ≤ room ⌝ }
     requires { ⌜ isSet (now set) ≡ true ⌝ }
-    requires { ⌜ OrdersOf 3 (now p) orders ⌝ }
+    requires { ⌜ SortedOf 3 (now p) order ⌝ }
     ensures { λ r. ⌜ RoomIs (decodeTopics (now (set .entry))) (now (p .entry)) room out r ⌝ }
 {
     if fits_lists(p.len(), room - set.len(), out) {
         return Room::Fits;
     }
-    let gone = watch_lists::measure(Listing::Removed, orders, set, p, 3);
-    let z = watch_lists::measure(Listing::Added, orders, set, p, 3);
+    let gone = watch_lists::measure(Listing::Removed, order, set, p, 3);
+    let z = watch_lists::measure(Listing::Added, order, set, p, 3);
     if room - (set.len() - gone) < z {
         return Room::NoSet;
     }
@@ -233,13 +233,13 @@ fn diff(buffer: &mut [u8], used: usize, p: &[u8], out: &mut [u8]) -> WatchAnswer
     if !r.short {
         return WatchAnswer::Refused(Refusal::SetTooLong);
     }
-    let orders = Orders {
+    let order = Sorted {
         added: a.rises,
         removed: r.rises,
     };
     let room = buffer.len();
-    match room_for(&buffer[..used], orders, p, room, out.len()) {
-        Room::Fits => write_diff(buffer, used, orders, p, out),
+    match room_for(&buffer[..used], order, p, room, out.len()) {
+        Room::Fits => write_diff(buffer, used, order, p, out),
         Room::NoSet => WatchAnswer::Refused(Refusal::SetTooLong),
         Room::NoOutput => WatchAnswer::Refused(Refusal::ResultTooLong),
     }

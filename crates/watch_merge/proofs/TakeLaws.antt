@@ -169,8 +169,8 @@ module _ {o g b : List ℕ} {to from at : ℕ} (v : Left o g b to from at) where
       ap (drop from) (v .wrote)
       ∙ drop-behind o 0 (encodeTopics (v .kept)) from (omega (arith, length-encode (v .kept), v .end, v .down)) (omega arith)
 
-  rest-good : Bytes (drop from o)
-  rest-good = Bytes-drop from o (v .bytes)
+  rest-valid : Bytes (drop from o)
+  rest-valid = Bytes-drop from o (v .bytes)
 
   pub part-rest : take (length b - from) (drop from b) ≡ drop from o
   part-rest = rest b from ∙ rest-is
@@ -249,7 +249,7 @@ module _ {o g b : List ℕ} {to from at : ℕ} (v : Left o g b to from at) where
         take-room =
             omega (
               arith,
-              size-parts (drop from o) rest-good (v .rises .whole) front (past topic behind) in-front,
+              size-parts (drop from o) rest-valid (v .rises .whole) front (past topic behind) in-front,
               length-drop from o,
               front-size,
               v .within,
@@ -262,16 +262,16 @@ module _ {o g b : List ℕ} {to from at : ℕ} (v : Left o g b to from at) where
 
         next-topics : decodeTopics (drop (from + p .at + s) o) ≡ past topic behind
         next-topics =
-            ap decodeTopics next-bytes ∙ rest-topics (drop from o) rest-good (v .rises .whole) front (past topic behind) in-front
+            ap decodeTopics next-bytes ∙ rest-topics (drop from o) rest-valid (v .rises .whole) front (past topic behind) in-front
 
         next-whole : isWhole (drop (from + p .at + s) o) ≡ true
         next-whole =
-            ap isWhole next-bytes ∙ rest-whole (drop from o) rest-good (v .rises .whole) front (past topic behind) in-front
+            ap isWhole next-bytes ∙ rest-whole (drop from o) rest-valid (v .rises .whole) front (past topic behind) in-front
 
         lower-bytes : take (p .at) (drop from o) ≡ encodeTopics (lower topic behind)
         lower-bytes =
             ap (λ (i : ℕ). take i (drop from o)) is-at
-            ∙ front-bytes (drop from o) rest-good (v .rises .whole) (lower topic behind) (here topic behind ++ past topic behind)
+            ∙ front-bytes (drop from o) rest-valid (v .rises .whole) (lower topic behind) (here topic behind ++ past topic behind)
             (in-front ∙ append-assoc (lower topic behind) (here topic behind) (past topic behind))
 
         pub take-next : (b′ : List ℕ) → b′ ≡ put b to (take (p .at) (drop from b)) → length b′ ≡ length b
@@ -310,12 +310,12 @@ module _ {o g b : List ℕ} {to from at : ℕ} (v : Left o g b to from at) where
       let r : List (List ℕ) = decodeTopics (drop from o) in
       let all : without (decodeTopics o) (decodeTopics g) ≡ v .kept ++ r =
       v .split ∙ ap (λ (x : List (List ℕ)). v .kept ++ x) (ap (without r) (topics-end g at h) ∙ without-none r) in
-      let z : sizeTopics r ≡ length (drop from o) = size-topics (drop from o) rest-good (v .rises .whole) in
+      let z : sizeTopics r ≡ length (drop from o) = size-topics (drop from o) rest-valid (v .rises .whole) in
       let ld : length (drop from o) ≡ length o - from = length-drop from o in
       let lb : length b ≡ length o = v .long in
       let lw : from ≤ length o = v .within in
       let f : take (length b - from) (drop from o) ≡ encodeTopics r =
-      take-all (length b - from) (drop from o) (omega arith) ∙ sym (write-back (drop from o) rest-good (v .rises .whole)) in (
+      take-all (length b - from) (drop from o) (omega arith) ∙ sym (write-back (drop from o) rest-valid (v .rises .whole)) in (
         omega (arith, ap sizeTopics all, size-append (v .kept) r, v .end),
         w ∙ moved r (length b - from) (omega arith) (omega arith) f ∙ ap (λ (x : List (List ℕ)). put o 0 (encodeTopics x)) (sym all),
       )

@@ -14,8 +14,8 @@ use Rattle.slice.specs.BoolLaws.{both}
 use Rattle.slice.proofs.PartLaws.{Bytes, Bytes-drop}
 use Rattle.slice_int.specs.Be.{beAt}
 use Rattle.utf8.specs.Table.{isUtf8}
-use Rattle.utf8.specs.Passes.{Plain}
-use Rattle.utf8.proofs.TextLaws.{plain-text}
+use Rattle.utf8.specs.Passes.{Ascii}
+use Rattle.utf8.proofs.TextLaws.{ascii-text}
 use Rattle.watch_topics.specs.declared.Order.{Order}
 use Rattle.watch_topics.specs.Topics.{order, byOrder, before, leads, rising, maxTopic}
 use Rattle.watch_topics.specs.Packed.{encodeTopic, lengthAt, decodeTopics, isWhole, allUtf8, isSet, topicPlace}
@@ -109,11 +109,11 @@ module _ (s : List ℕ) (at n : ℕ) (h : at < length s) (e : n ≡ beAt 2 s at)
 
 -- topics of bytes of the first row
 
-plain-drop : (k : ℕ) (l : List ℕ) → Plain l 0 (length l) → Plain (drop k l) 0 (length (drop k l))
-plain-drop k l p i a h = rw getD-drop (p (k + i) (omega arith) (omega (arith, length-drop k l)))
+ascii-drop : (k : ℕ) (l : List ℕ) → Ascii l 0 (length l) → Ascii (drop k l) 0 (length (drop k l))
+ascii-drop k l p i a h = rw getD-drop (p (k + i) (omega arith) (omega (arith, length-drop k l)))
 
-plain-take : (k : ℕ) (l : List ℕ) → Plain l 0 (length l) → Plain (take k l) 0 (length (take k l))
-plain-take k l p i a h =
+ascii-take : (k : ℕ) (l : List ℕ) → Ascii l 0 (length l) → Ascii (take k l) 0 (length (take k l))
+ascii-take k l p i a h =
     let e : i < k = omega (arith, length-take k l) in
     let f : i < length l = omega (arith, length-take k l) in
     ap-le (getD-take k l i 0 e) (p i a f)
@@ -121,26 +121,26 @@ plain-take k l p i a h =
     ap-le : {x y : ℕ} → x ≡ y → y ≤ 127 → x ≤ 127
     ap-le e h = omega arith
 
-plain-utf8 : (n : ℕ) (l : List ℕ) → length l ≤ n → Plain l 0 (length l) → allUtf8 (decodeTopics l) ≡ true
+ascii-utf8 : (n : ℕ) (l : List ℕ) → length l ≤ n → Ascii l 0 (length l) → allUtf8 (decodeTopics l) ≡ true
 unfolding allUtf8
-plain-utf8 zero l h p = rw (drop-of-length-le l {i = 0} h, topics-nil)
-plain-utf8 (suc n) l h p = go (λ m k q. plain-utf8 n m k q) (decLe 1 (length l))
+ascii-utf8 zero l h p = rw (drop-of-length-le l {i = 0} h, topics-nil)
+ascii-utf8 (suc n) l h p = go (λ m k q. ascii-utf8 n m k q) (decLe 1 (length l))
   where
-    go : ((m : List ℕ) → length m ≤ n → Plain m 0 (length m) → allUtf8 (decodeTopics m) ≡ true) → Dec (1 ≤ length l)
+    go : ((m : List ℕ) → length m ≤ n → Ascii m 0 (length m) → allUtf8 (decodeTopics m) ≡ true) → Dec (1 ≤ length l)
         → allUtf8 (decodeTopics l) ≡ true
     go ih (yes k) =
         let t : List ℕ = take (lengthAt l) (drop 2 l) in
         let r : List ℕ = drop (2 + lengthAt l) l in
         ap allUtf8 (topics-cons l k)
-        ∙ both (isUtf8 t) (allUtf8 (decodeTopics r)) (plain-text t (plain-take (lengthAt l) (drop 2 l) (plain-drop 2 l p)))
-        (ih r (omega (arith, length-drop (2 + lengthAt l) l)) (plain-drop (2 + lengthAt l) l p))
+        ∙ both (isUtf8 t) (allUtf8 (decodeTopics r)) (ascii-text t (ascii-take (lengthAt l) (drop 2 l) (ascii-drop 2 l p)))
+        (ih r (omega (arith, length-drop (2 + lengthAt l) l)) (ascii-drop (2 + lengthAt l) l p))
     go ih (no k) = ap (λ (m : List ℕ). allUtf8 (decodeTopics m)) (none l (omega arith)) ∙ ap allUtf8 topics-nil
       where
         none : (m : List ℕ) → length m ≤ 0 → m ≡ []
         none m e = drop-of-length-le m {i = 0} e
 
-pub plain-list : (s : List ℕ) → Plain s 0 (length s) → isWhole s ≡ isList s
-plain-list s p = sym (rw (plain-utf8 (length s) s (omega arith) p) (and-true (isWhole s)))
+pub ascii-list : (s : List ℕ) → Ascii s 0 (length s) → isWhole s ≡ isList s
+ascii-list s p = sym (rw (ascii-utf8 (length s) s (omega arith) p) (and-true (isWhole s)))
 
 -- ---- `is_rising`
 

@@ -194,12 +194,12 @@ fn is_whole(s: &[u8]) -> bool
     true
 }
 
-// The lengths lead to the end of the slice, and each topic is UTF-8. Where all bytes are plain, those of the lengths too, no topic is looked at
+// The lengths lead to the end of the slice, and each topic is UTF-8. Where all bytes are ASCII, those of the lengths too, no topic is looked at
 // by itself.
 fn is_list(s: &[u8]) -> bool
     ensures { λ r. ⌜ r ≡ (isWhole (now (s .entry)) && allUtf8 (decodeTopics (now (s .entry)))) ⌝ }
 {
-    if utf8::all_plain(s) {
+    if utf8::all_ascii(s) {
         is_whole(s)
     } else {
         is_utf8_list(s)

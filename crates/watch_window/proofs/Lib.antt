@@ -1,11 +1,11 @@
-mod SeatLaws
+mod PositionLaws
 mod PlacedLaws
 pub mod LowestLaws
 pub mod WindowLaws
-mod OfferLaws
+mod InsertLaws
 mod BoundLaws
 pub mod ReadLaws
 mod FillLaws
 mod MarkLaws
-pub mod SiftLaws
+pub mod FilterLaws
 mod BatchLaws

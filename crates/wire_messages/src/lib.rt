@@ -14,7 +14,7 @@ pub use wire_schema::MessageKind;
 fn scan(depth: usize, kind: MessageKind, s: &[u8]) -> Checked
     ensures { λ r. ⌜ r ≡ faultWithin depth kind (now (s .entry)) ⌝ }
 {
-    if wire_ordered::is_plain(kind, s) {
+    if wire_ordered::is_ordered(kind, s) {
         return Checked::Valid;
     }
     if depth == 0 {
@@ -48,7 +48,7 @@ fn scan(depth: usize, kind: MessageKind, s: &[u8]) -> Checked
 pub fn first_fault(kind: MessageKind, s: &[u8]) -> Checked
     ensures { λ r. ⌜ r ≡ firstFault kind (now (s .entry)) ⌝ }
 {
-    if wire_ordered::is_plain_command(kind, s) {
+    if wire_ordered::is_ordered_command(kind, s) {
         return Checked::Valid;
     }
     let depth = wire_schema::nesting(kind);

@@ -1,13 +1,13 @@
 // The usual form of a message told quickly: its fields in the order of their numbers, with one-byte keys, and no others. That is what
 // writers write.
 //
-// A plain message has no fault, whatever it is nested in: each of its fields comes once, so that no other part can lend it one that it lacks. A message that
-// is not plain may have none all the same: `wire_messages` decides.
+// A ordered message has no fault, whatever it is nested in: each of its fields comes once, so that no other part can lend it one that it lacks. A message that
+// is not ordered may have none all the same: `wire_messages` decides.
 ghost use mathlib.Core.Path.{_≡_};
 ghost use mathlib.Core.Bool.{true};
 ghost use Prim.Native.Nat.{ℕ, _<_};
 ghost use Rattle.wire_schema.specs.FirstFault.{firstFault, Sound};
-ghost use Rattle.wire_ordered.specs.Plain.{NumberField, NumberSays, PartSays, Passed, Carrier};
+ghost use Rattle.wire_ordered.specs.Ordered.{NumberField, NumberAtIs, PartIs, Passed, Carrier};
 use wire::Body;
 use wire::Varint;
 use wire::WireType;
@@ -31,7 +31,7 @@ pub enum Part {
 // The number of field f at a place.
 pub fn number_at(f: u8, s: &[u8], at: usize) -> NumberAt
     requires { ⌜ (0 < f) × (f < 16) ⌝ }
-    ensures { λ r. ⌜ NumberSays f (now (s .entry)) at r ⌝ }
+    ensures { λ r. ⌜ NumberAtIs f (now (s .entry)) at r ⌝ }
 {
     if s.len() <= at {
         return NumberAt::Absent;
@@ -60,7 +60,7 @@ fn number_end(f: u8, s: &[u8], at: usize) -> usize
 // The part of field f at a place.
 pub fn part_at(f: u8, s: &[u8], at: usize) -> Part
     requires { ⌜ (0 < f) × (f < 16) ⌝ }
-    ensures { λ r. ⌜ PartSays f (now (s .entry)) at r ⌝ }
+    ensures { λ r. ⌜ PartIs f (now (s .entry)) at r ⌝ }
 {
     if s.len() <= at {
         return Part::Absent;
@@ -77,7 +77,7 @@ pub fn part_at(f: u8, s: &[u8], at: usize) -> Part
 }
 
 // Fields 1 and 2, and nothing else.
-fn plain_range(s: &[u8]) -> bool
+fn ordered_range(s: &[u8]) -> bool
     ensures { λ r. ⌜ (r ≡ true → (d : ℕ) → Sound d MessageKind.IntRange (now (s .entry))) ⌝ }
 {
     let start = number_end(1, s, 0);
@@ -113,8 +113,8 @@ fn segment_end(s: &[u8]) -> usize
     if utf8::is_utf8(&s[from..to]) { to } else { 0 }
 }
 
-// Fields 1 to 4, then plain ranges as field 5, and nothing else.
-fn plain_segment(s: &[u8]) -> bool
+// Fields 1 to 4, then ordered ranges as field 5, and nothing else.
+fn ordered_segment(s: &[u8]) -> bool
     ensures { λ r. ⌜ (r ≡ true → (d : ℕ) → Sound d MessageKind.ScalableAssignedSegment (now (s .entry))) ⌝ }
 {
     let mut at = segment_end(s);
@@ -125,7 +125,7 @@ fn plain_segment(s: &[u8]) -> bool
         let Part::Found(from, to) = part_at(5, s, at) else {
             return false;
         };
-        if !plain_range(&s[from..to]) {
+        if !ordered_range(&s[from..to]) {
             return false;
         }
         at = to;
@@ -133,8 +133,8 @@ fn plain_segment(s: &[u8]) -> bool
     true
 }
 
-// Field 1, then plain segments as field 2, and nothing else.
-fn plain_assignment(s: &[u8]) -> bool
+// Field 1, then ordered segments as field 2, and nothing else.
+fn ordered_assignment(s: &[u8]) -> bool
     ensures { λ r. ⌜ (r ≡ true → (d : ℕ) → Sound d MessageKind.ScalableConsumerAssignment (now (s .entry))) ⌝ }
 {
     let mut at = number_end(1, s, 0);
@@ -145,7 +145,7 @@ fn plain_assignment(s: &[u8]) -> bool
         let Part::Found(from, to) = part_at(2, s, at) else {
             return false;
         };
-        if !plain_segment(&s[from..to]) {
+        if !ordered_segment(&s[from..to]) {
             return false;
         }
         at = to;
@@ -153,20 +153,20 @@ fn plain_assignment(s: &[u8]) -> bool
     true
 }
 
-// The message is told to be plain: an assignment, a segment or a range.
-pub fn is_plain(kind: MessageKind, s: &[u8]) -> bool
+// The message is told to be ordered: an assignment, a segment or a range.
+pub fn is_ordered(kind: MessageKind, s: &[u8]) -> bool
     ensures { λ r. ⌜ (r ≡ true → (d : ℕ) → Sound d kind (now (s .entry))) ⌝ }
 {
     match kind {
-        MessageKind::ScalableConsumerAssignment => plain_assignment(s),
-        MessageKind::ScalableAssignedSegment => plain_segment(s),
-        MessageKind::IntRange => plain_range(s),
+        MessageKind::ScalableConsumerAssignment => ordered_assignment(s),
+        MessageKind::ScalableAssignedSegment => ordered_segment(s),
+        MessageKind::IntRange => ordered_range(s),
         _ => false,
     }
 }
 
-// Field 1, then a plain assignment as field n, and nothing else.
-fn plain_carrier(s: &[u8], n: u8) -> bool
+// Field 1, then a ordered assignment as field n, and nothing else.
+fn ordered_carrier(s: &[u8], n: u8) -> bool
     requires { ⌜ (0 < n) × (n < 16) ⌝ }
     ensures { λ r. ⌜ (r ≡ true → Carrier n (now (s .entry))) ⌝ }
 {
@@ -180,16 +180,16 @@ fn plain_carrier(s: &[u8], n: u8) -> bool
     if to < s.len() {
         return false;
     }
-    plain_assignment(&s[from..to])
+    ordered_assignment(&s[from..to])
 }
 
-// The message is told to be plain: one that holds an assignment.
-pub fn is_plain_command(kind: MessageKind, s: &[u8]) -> bool
+// The message is told to be ordered: one that holds an assignment.
+pub fn is_ordered_command(kind: MessageKind, s: &[u8]) -> bool
     ensures { λ r. ⌜ (r ≡ true → firstFault kind (now (s .entry)) ≡ Checked.Valid) ⌝ }
 {
     match kind {
-        MessageKind::CommandScalableTopicAssignmentUpdate => plain_carrier(s, 2),
-        MessageKind::CommandScalableTopicSubscribeResponse => plain_carrier(s, 4),
+        MessageKind::CommandScalableTopicAssignmentUpdate => ordered_carrier(s, 2),
+        MessageKind::CommandScalableTopicSubscribeResponse => ordered_carrier(s, 4),
         _ => false,
     }
 }

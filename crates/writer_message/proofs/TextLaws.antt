@@ -1,7 +1,7 @@
 -- The name of a segment is UTF-8 where the parent is.
 --
 -- In order: a sequence stands at the front, whatever follows it (`sequence-append`), so a text behind a text that is UTF-8 decides alone
--- (`utf8-append`); bytes of ASCII are UTF-8 (`plain-utf8`), and a descriptor's are such (`descriptor-plain`); the name (`topic-utf8`).
+-- (`utf8-append`); bytes of ASCII are UTF-8 (`ascii-utf8`), and a descriptor's are such (`descriptor-ascii`); the name (`topic-utf8`).
 -- Assumes nothing.
 use Prim.Native.Nat.{ℕ, zero, suc, _+_, _-_, _/_, _%_, _≤_, _<_}
 use native.Mathlib.Omega.{arith}
@@ -18,7 +18,7 @@ use Rattle.slice.specs.Same.{startsWith}
 use Rattle.slice.proofs.SameLaws.{same-eq}
 use Rattle.utf8.specs.Table.{Span, table, within, fits, sequenceIn, sequenceOf, textAfter, isUtf8}
 use Rattle.utf8.proofs.RowLaws.{lead, lead-row, sequence-le}
-use Rattle.utf8.proofs.TextLaws.{text-end, plain-next}
+use Rattle.utf8.proofs.TextLaws.{text-end, ascii-next}
 use Rattle.name_parents.specs.Parents.{topicScheme, isPath, isParent, pathOf}
 use Rattle.name_topic.specs.Names.{segmentScheme, hexDigit, hex4, decimalWithin, decimal, descriptor, segmentTopic}
 use Rattle.keyed.proofs.KeyedLaws.{choose}
@@ -92,34 +92,34 @@ utf8-append l m e = text-append 0 l m (omega arith) e
 
 -- ---- ASCII
 
-abbrev pub Plain : ℕ → Type 0
-Plain b = b ≤ 127
+abbrev pub Ascii : ℕ → Type 0
+Ascii b = b ≤ 127
 
-pub plain-utf8 : (l : List ℕ) → Each Plain l → isUtf8 l ≡ true
-plain-utf8 [] h = text-end [] 0 (omega arith)
-plain-utf8 (b ∷ l) h = plain-next (b ∷ l) 0 0 (omega arith) (h .0) ∙ plain-utf8 l (h .1)
+pub ascii-utf8 : (l : List ℕ) → Each Ascii l → isUtf8 l ≡ true
+ascii-utf8 [] h = text-end [] 0 (omega arith)
+ascii-utf8 (b ∷ l) h = ascii-next (b ∷ l) 0 0 (omega arith) (h .0) ∙ ascii-utf8 l (h .1)
 
-hex-plain : (n : ℕ) → Plain (hexDigit (n % 16))
-hex-plain n = choose Plain (ltb (n % 16) 10) (λ t. omega arith) (λ t. omega arith)
+hex-ascii : (n : ℕ) → Ascii (hexDigit (n % 16))
+hex-ascii n = choose Ascii (ltb (n % 16) 10) (λ t. omega arith) (λ t. omega arith)
 
-hex4-plain : (v : ℕ) → Each Plain (hex4 v)
+hex4-ascii : (v : ℕ) → Each Ascii (hex4 v)
 unfolding hex4
-hex4-plain v = (hex-plain (v / 4096), (hex-plain (v / 256), (hex-plain (v / 16), (hex-plain v, tt))))
+hex4-ascii v = (hex-ascii (v / 4096), (hex-ascii (v / 256), (hex-ascii (v / 16), (hex-ascii v, tt))))
 
-digits-plain : (k v : ℕ) → Each Plain (decimalWithin k v)
+digits-ascii : (k v : ℕ) → Each Ascii (decimalWithin k v)
 unfolding decimalWithin
-digits-plain zero v = tt
-digits-plain (suc k) v =
-    each-append Plain (cond (ltb v 10) [] (decimalWithin k (v / 10))) ((0x30 + v % 10) ∷ [])
-    (choose (Each Plain) (ltb v 10) (λ t. tt) (λ t. digits-plain k (v / 10))) (omega arith, tt)
+digits-ascii zero v = tt
+digits-ascii (suc k) v =
+    each-append Ascii (cond (ltb v 10) [] (decimalWithin k (v / 10))) ((0x30 + v % 10) ∷ [])
+    (choose (Each Ascii) (ltb v 10) (λ t. tt) (λ t. digits-ascii k (v / 10))) (omega arith, tt)
 
-descriptor-plain : (r : KeyRange) (id : SegmentId) → Each Plain (descriptor r id)
+descriptor-ascii : (r : KeyRange) (id : SegmentId) → Each Ascii (descriptor r id)
 unfolding descriptor decimal
-descriptor-plain r id =
+descriptor-ascii r id =
     let number : List ℕ = 0x2D ∷ decimal (id .0) in
-    let end : Each Plain (hex4 (r .end) ++ number) =
-    each-append Plain (hex4 (r .end)) number (hex4-plain (r .end)) (omega arith, digits-plain 20 (id .0)) in
-    (omega arith, each-append Plain (hex4 (r .start)) (0x2D ∷ (hex4 (r .end) ++ number)) (hex4-plain (r .start)) (omega arith, end))
+    let end : Each Ascii (hex4 (r .end) ++ number) =
+    each-append Ascii (hex4 (r .end)) number (hex4-ascii (r .end)) (omega arith, digits-ascii 20 (id .0)) in
+    (omega arith, each-append Ascii (hex4 (r .start)) (0x2D ∷ (hex4 (r .end) ++ number)) (hex4-ascii (r .start)) (omega arith, end))
 
 -- ---- the name of a segment
 
@@ -136,7 +136,7 @@ unfolding segmentTopic
 topic-utf8 parent e u r id =
     let path : List ℕ = pathOf parent in
     let p : isUtf8 path ≡ true =
-    sym (utf8-append topicScheme path (plain-utf8 topicScheme (omega arith))) ∙ ap isUtf8 (parent-parts parent e) ∙ u in
-    utf8-append segmentScheme (path ++ descriptor r id) (plain-utf8 segmentScheme (omega arith))
+    sym (utf8-append topicScheme path (ascii-utf8 topicScheme (omega arith))) ∙ ap isUtf8 (parent-parts parent e) ∙ u in
+    utf8-append segmentScheme (path ++ descriptor r id) (ascii-utf8 segmentScheme (omega arith))
     ∙ utf8-append path (descriptor r id) p
-    ∙ plain-utf8 (descriptor r id) (descriptor-plain r id)
+    ∙ ascii-utf8 (descriptor r id) (descriptor-ascii r id)

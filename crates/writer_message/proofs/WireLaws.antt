@@ -3,7 +3,7 @@
 -- In order: the values of a row whose fields each hold a part (`row-numbers`, `row-parts`, `row-others`); a range, a segment and an
 -- assignment as they are read (`wireRange`, `wireSegment`, `wireAssignment`), of which the readers say the first two, by their rows
 -- (`range-row-says`, `segment-row-says`) and as they are written (`segment-says`); they stand for what was written (`segment-back`,
--- `segments-back`); a good segment passes (`good-passes`), and so a written one (`Written`, `each-written`, `written-passes`); what is read of an
+-- `segments-back`); a valid segment passes (`valid-passes`), and so a written one (`Written`, `each-written`, `written-passes`); what is read of an
 -- assignment, by its row (`assignment-row-says`) and as it is written (`assignment-says`), and what it comes to (`content-says`).
 -- Assumes nothing.
 use Prim.Native.Nat.{ℕ, suc, _+_, _%_, _^_, _≤_, _<_}
@@ -31,7 +31,7 @@ use Rattle.wire_values.specs.Integers.{int32Of}
 use Rattle.wire_readers.specs.Messages.{intRangeOf, readSegment, WireAssignment, readAssignment}
 use Rattle.packed.specs.Assignment.{AssignedSegment, ConsumerAssignment, inOrder, allInOrder, okBuckets, okSegment}
 use Rattle.packed.specs.Assignment.{okFrom, okAssignment}
-use Rattle.packed.proofs.AssignmentLaws.{ok-good, ok-tail}
+use Rattle.packed.proofs.AssignmentLaws.{ok-segment, ok-tail}
 use Rattle.packed.proofs.RoundLaws.{FitRange, FitRanges, FitSegment, FitSegments}
 use Rattle.intake_content.specs.Content.{firstOutside, outsideFaultBy, outsideIn, rangeFaultBy, bucketFault, bucketOf, segmentFault, assignedSegment, taken, contentOf}
 use Rattle.keyed.proofs.EachLaws.{Each}
@@ -106,10 +106,10 @@ segments-back path (g ∷ gs) = let p = segments-back path gs in cc (segment-bac
 
 -- ---- a written segment
 
--- a good segment that fits its widths, under a parent whose name is a text, in a message of fewer than 2 ^ 64 bytes
+-- a valid segment that fits its widths, under a parent whose name is a text, in a message of fewer than 2 ^ 64 bytes
 pub record Written (parent : List ℕ) (g : AssignedSegment) : Type 0 where
   pub fit : FitSegment g
-  pub good : okSegment g ≡ true
+  pub valid : okSegment g ≡ true
   pub short : length (segmentMessage (pathOf parent) g) < 2 ^ 64
   pub inside : firstOutside (g .range) 0 (g .buckets) ≡ none
   pub parent-ok : isParent parent ≡ true
@@ -124,7 +124,7 @@ module _ (parent : List ℕ) (p : isParent parent ≡ true) (u : isUtf8 parent �
       let id : SegmentId = record { 0 = g .segmentId } in
       let q = or-both (outsideFaultBy id (firstOutside (g .range) 0 (g .buckets))) (outsideIn gs) i in
       let n = segment-within (pathOf parent) g gs in
-      let w : Written parent g = record { fit = f .0; good = ok-good low g gs o; short = omega arith; inside = no-outside id _ (q .0); parent-ok = p; text = u } in
+      let w : Written parent g = record { fit = f .0; valid = ok-segment low g gs o; short = omega arith; inside = no-outside id _ (q .0); parent-ok = p; text = u } in
       (w, each-written (suc (g .segmentId)) gs (f .1) (ok-tail low g gs o) (q .1) (omega arith))
 
 -- ---- it passes
@@ -143,13 +143,13 @@ no-overlap true e = absurd (false≢true e)
 no-overlap false e = refl
 
 module _ (parent : List ℕ) (g : AssignedSegment) where
-  pub good-passes : isParent parent ≡ true → okSegment g ≡ true → FitRange (g .range) → FitRanges (g .buckets)
+  pub valid-passes : isParent parent ≡ true → okSegment g ≡ true → FitRange (g .range) → FitRanges (g .buckets)
       → firstOutside (g .range) 0 (g .buckets) ≡ none → segmentFault parent (wireSegment (pathOf parent) g) ≡ none
   unfolding okSegment okBuckets
-  good-passes p good fit fits i =
+  valid-passes p valid fit fits i =
       let r : KeyRange = g .range in
       let id : SegmentId = record { 0 = g .segmentId } in
-      let o = both-true (inOrder r) (okBuckets (g .buckets)) good in
+      let o = both-true (inOrder r) (okBuckets (g .buckets)) valid in
       let b = both-true (allInOrder (g .buckets)) (not (anyOverlap (g .buckets))) (o .1) in
       let h : r .start ≤ r .end = leb-true (r .start) (r .end) (o .0) in
       passes parent (wireSegment (pathOf parent) g) (record {
@@ -162,7 +162,7 @@ module _ (parent : List ℕ) (g : AssignedSegment) where
       })
 
   pub written-passes : Written parent g → segmentFault parent (wireSegment (pathOf parent) g) ≡ none
-  written-passes w = good-passes (w .parent-ok) (w .good) (w .fit .range) (w .fit .buckets) (w .inside)
+  written-passes w = valid-passes (w .parent-ok) (w .valid) (w .fit .range) (w .fit .buckets) (w .inside)
 
 -- ---- the assignment
 

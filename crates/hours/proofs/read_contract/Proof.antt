@@ -5,7 +5,7 @@ use mathlib.Core.List.{List}
 use borrow.Author.Tests.{not-true, not-false}
 use borrow.Author.Needs.{needs}
 use Rattle.hours.proofs.SpanLaws.{shape-short, shape-terms, shape-windows, shape-length, shape-bad-term}
-use Rattle.hours.proofs.SpanLaws.{shape-bad-window, shape-good}
+use Rattle.hours.proofs.SpanLaws.{shape-bad-window, shape-valid}
 use Rattle.hours.proofs.read_contract.Statement.{statement}
 use Rattle.hours.proofs.read_contract.Tie as tie
 
@@ -42,7 +42,7 @@ returns-6 c = let v = c .before in
     let e = v .before in
     let o = e .before in
     let w = o .before .before .before .before in
-    shape-good (bytes w) (w .before .read-u16 .result) (w .read-u162 .result) (w .before .read-u16 .ensures)
+    shape-valid (bytes w) (w .before .read-u16 .result) (w .read-u162 .result) (w .before .read-u16 .ensures)
     (w .read-u162 .ensures)
     (o .before .before .before .if2 .left) (o .before .before .if3 .left) (o .before .if4 .left)
     (o .spans-ok .result) (o .spans-ok .ensures) (not-false _ (e .if5 .left)) (v .spans-ok2 .result)

@@ -10,7 +10,7 @@ use lib.ListN.{length}
 use borrow.Author.Needs.{needs}
 use Rattle.slice_int.proofs.BeLaws.{length-bytesOf}
 use Rattle.slice_int.proofs.PutLaws.{length-put}
-use Rattle.intake_ordered_bucket.specs.Buckets.{BucketAt, BucketSays}
+use Rattle.intake_ordered_bucket.specs.Buckets.{BucketAt, BucketIs}
 use Rattle.intake_ordered.specs.Walk.{BucketsFrom}
 use Rattle.intake_ordered.proofs.TakeLaws.{buckets-end, buckets-next}
 use Rattle.intake_ordered.proofs.take_buckets.Statement.{statement}
@@ -30,7 +30,7 @@ found : (c : tie.After-known-told Inv-loop μ-loop)
     → let loop = c .before .before .before .before .before in
     let v = c .before .start .given .0 in
     BucketAt (loop .before .before .before .args .p .now) (loop .loop .at) (v .0) (v .1 .0) (v .1 .1 .0)
-found c = subst (BucketSays _ _) (c .before .start .given .1) (c .before .before .before .bucket-at .ensures)
+found c = subst (BucketIs _ _) (c .before .start .given .1) (c .before .before .before .bucket-at .ensures)
 
 loop-again : tie.Need-loop-again Inv-loop μ-loop
 loop-again c =

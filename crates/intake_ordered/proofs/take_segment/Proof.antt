@@ -5,7 +5,7 @@ use mathlib.Core.Path.{subst}
 use mathlib.Core.Bool.{true}
 use borrow.Author.Tests.{not-false}
 use Rattle.name_parents.proofs.PathLaws.{parent-long}
-use Rattle.intake_ordered.specs.Walk.{HeadRow, HeadSays, BucketsFrom, BucketsSay}
+use Rattle.intake_ordered.specs.Walk.{HeadRow, HeadIs, BucketsFrom, BucketsSay}
 use Rattle.intake_ordered.proofs.TakeLaws.{buckets-kept, segment-taken}
 use borrow.Author.Needs.{needs}
 use Rattle.intake_ordered.proofs.take_segment.Statement.{statement}
@@ -15,7 +15,7 @@ use Rattle.intake_ordered.proofs.take_segment.Tie as tie
 found : (c : tie.After-known-told)
     → let v = c .before .id .given .0 in
     HeadRow (c .before .before .before .before .before .before .before .args .p .now) (v .0) (v .1 .0) (v .1 .1 .0) (v .1 .1 .1 .0) (v .1 .1 .1 .1 .0)
-found c = subst (HeadSays _) (c .before .id .given .1) (c .before .before .before .head-of .ensures)
+found c = subst (HeadIs _) (c .before .id .given .1) (c .before .before .before .head-of .ensures)
 
 -- and buckets behind them
 walked : (c : tie.After-known-told2)

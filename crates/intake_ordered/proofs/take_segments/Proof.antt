@@ -8,8 +8,8 @@ use mathlib.Core.Bool.{Bool, true}
 use mathlib.Core.List.{List}
 use lib.ListN.{length, take, drop}
 use borrow.Author.Needs.{needs}
-use Rattle.wire_ordered.specs.Plain.{PartField, PartSays}
-use Rattle.intake_ordered.specs.Walk.{SegmentTaken, SegmentSays, SegmentsFrom}
+use Rattle.wire_ordered.specs.Ordered.{PartField, PartIs}
+use Rattle.intake_ordered.specs.Walk.{SegmentTaken, SegmentIs, SegmentsFrom}
 use Rattle.intake_ordered.proofs.TakeLaws.{segment-long, segment-kept, segments-count, segments-end, segments-next}
 use Rattle.intake_ordered.proofs.take_segments.Statement.{statement}
 use Rattle.intake_ordered.proofs.take_segments.Tie as tie
@@ -42,7 +42,7 @@ Found = lts.After-known-told (
 found : (c : Found)
     → let loop = c .before .before .before .before .before in
     PartField 2 (loop .before .before .before .before .args .s .now) (loop .loop .at) (c .before .from .given .0 .0) (c .before .from .given .0 .1 .0)
-found c = subst (PartSays 2 _ _) (c .before .from .given .1) (c .before .before .before .part-at .ensures)
+found c = subst (PartIs 2 _ _) (c .before .from .given .1) (c .before .before .before .part-at .ensures)
 
 -- and a segment in it
 abbrev Taken : Type 0
@@ -62,7 +62,7 @@ taken : (c : Taken)
     let a = loop .before .before .before .before .args in
     SegmentTaken (a .parent .now) (take (part .from .given .0 .1 .0 - from) (drop from (a .s .now))) (loop .loop .b) (loop .loop .used)
     (c .before .id .given .0 .0) (c .before .id .given .0 .1 .0) (c .before .before .before .before .before .take-segment .last .1 .1 .0)
-taken c = subst (SegmentSays _ _ _ _ _) (c .before .id .given .1) (c .before .before .before .before .before .take-segment .ensures)
+taken c = subst (SegmentIs _ _ _ _ _) (c .before .id .given .1) (c .before .before .before .before .before .take-segment .ensures)
 
 loop-holds : tie.Need-loop-holds Inv-loop μ-loop
 loop-holds c = (c .before .before .before .pre .1, omega arith, omega arith, λ n to after b′ k. segments-count (omega arith) k)

@@ -3,8 +3,8 @@ use Prim.Native.Nat.{_+_}
 use native.Mathlib.Omega.{arith}
 use mathlib.Core.Path.{subst}
 use borrow.Author.Needs.{needs}
-use Rattle.wire_ordered.specs.Plain.{PartField, PartSays}
-use Rattle.intake_ordered_bucket.specs.Buckets.{RangeSays, WideSays, BucketAt}
+use Rattle.wire_ordered.specs.Ordered.{PartField, PartIs}
+use Rattle.intake_ordered_bucket.specs.Buckets.{RangeIs, WideIs, BucketAt}
 use Rattle.intake_ordered_bucket.proofs.bucket_at.Statement.{statement}
 use Rattle.intake_ordered_bucket.proofs.bucket_at.Tie as tie
 
@@ -12,7 +12,7 @@ use Rattle.intake_ordered_bucket.proofs.bucket_at.Tie as tie
 told : (c : tie.After-known-told)
     → let a = c .before .before .before .before .before .args in
     BucketAt (a .p .now) (a .at) (c .before .start .given .0 .0) (c .before .start .given .0 .1 .0) (a .at + 10)
-told c = subst (WideSays _ _) (c .before .start .given .1) (c .before .before .before .wide-bucket .ensures)
+told c = subst (WideIs _ _) (c .before .start .given .1) (c .before .before .before .wide-bucket .ensures)
 
 returns : tie.Need-returns
 returns c = told c
@@ -21,7 +21,7 @@ returns c = told c
 found : (c : tie.After-known-told2)
     → let a = c .before .before .before .before .before .before .before .before .args in
     PartField 5 (a .p .now) (a .at) (c .before .from .given .0 .0) (c .before .from .given .0 .1 .0)
-found c = subst (PartSays 5 _ _) (c .before .from .given .1) (c .before .before .before .part-at .ensures)
+found c = subst (PartIs 5 _ _) (c .before .from .given .1) (c .before .before .before .part-at .ensures)
 
 returns-4 : tie.Need-returns-4
 returns-4 c =
@@ -29,7 +29,7 @@ returns-4 c =
     record {
       from = d .before .from .given .0 .0;
       part = found d;
-      range = subst (RangeSays _) (c .before .start2 .given .1) (c .before .before .before .range-in .ensures);
+      range = subst (RangeIs _) (c .before .start2 .given .1) (c .before .before .before .range-in .ensures);
     }
 
 pub bucket-at-spec : {M : Type 1} → statement M

@@ -1,6 +1,6 @@
 -- `range_in` meets its contract: two numbers, and nothing behind them. Assumes nothing.
 use mathlib.Core.Path.{subst}
-use Rattle.wire_ordered.specs.Plain.{NumberSays}
+use Rattle.wire_ordered.specs.Ordered.{NumberAtIs}
 use Rattle.intake_ordered_bucket.proofs.BucketLaws.{range-row}
 use borrow.Author.Needs.{needs}
 use Rattle.intake_ordered_bucket.proofs.range_in.Statement.{statement}
@@ -10,8 +10,8 @@ returns-6 : tie.Need-returns-6
 returns-6 c =
     let d = c .before .before .before .before in
     let e = d .before .before .before .before in
-    range-row (subst (NumberSays 1 _ _) (e .start .given .1) (e .before .before .number-at .ensures))
-    (subst (NumberSays 2 _ _) (d .end .given .1) (d .before .before .number-at2 .ensures))
+    range-row (subst (NumberAtIs 1 _ _) (e .start .given .1) (e .before .before .number-at .ensures))
+    (subst (NumberAtIs 2 _ _) (d .end .given .1) (d .before .before .number-at2 .ensures))
     (c .before .before .if1 .left) (c .before .if2 .left) (c .if3 .left)
 
 pub range-in-spec : {M : Type 1} → statement M

@@ -6,20 +6,20 @@ use borrow.Author.Needs.{needs}
 use borrow.Author.Tests.{not-true, not-false}
 use Rattle.intake_content.specs.Content.{bucketOk}
 use Rattle.intake_scan.proofs.BucketLaws.{bucket-fits}
-use Rattle.intake_scan.proofs.RunLaws.{bucket-behind, bucket-good, bucket-bad}
+use Rattle.intake_scan.proofs.RunLaws.{bucket-behind, bucket-valid, bucket-bad}
 use Rattle.intake_scan.proofs.next_bucket.Statement.{statement}
 use Rattle.intake_scan.proofs.next_bucket.Tie as tie
 
 returns : tie.Need-returns
 returns c =
     let a = c .before .before .before .args in
-    let g : a .run .good ≡ false = not-true _ (c .if1 .taken) in
+    let g : a .run .valid ≡ false = not-true _ (c .if1 .taken) in
     (sym (bucket-behind (a .run) (a .r) g), rw g)
 
 returns-2 : tie.Need-returns-2
 returns-2 c =
     let a = c .before .before .before .before .before .args in
-    let g : a .run .good ≡ true = not-false _ (c .before .before .if1 .left) in
+    let g : a .run .valid ≡ true = not-false _ (c .before .before .if1 .left) in
     let o : bucketOk (a .r) ≡ false = sym (c .before .is-bucket .ensures) ∙ not-true _ (c .if2 .taken) in
     (sym (bucket-bad (a .run) (a .r) g o), rw (g, o))
 
@@ -34,10 +34,10 @@ returns-3 : tie.Need-returns-3
 returns-3 c =
     let d = c .before .before .before .before .before .before in
     let a = d .before .before .before .before .before .before .before .args in
-    let g : a .run .good ≡ true = not-false _ (d .before .before .before .before .if1 .left) in
+    let g : a .run .valid ≡ true = not-false _ (d .before .before .before .before .if1 .left) in
     let o : bucketOk (a .r) ≡ true = sym (d .before .before .before .is-bucket .ensures) ∙ not-false _ (d .before .before .if2 .left) in
     let k = d .before .key-range-of .ensures in (
-      rw (c .above .ensures, c .before .and .ensures, k) (sym (bucket-good (a .run) (a .r) g o)),
+      rw (c .above .ensures, c .before .and .ensures, k) (sym (bucket-valid (a .run) (a .r) g o)),
       rw (g, o) (rw k at (c .before .before .before .before .before .write-bucket .ensures)),
     )
 

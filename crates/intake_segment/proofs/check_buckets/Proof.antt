@@ -5,7 +5,7 @@ use mir.Syntax.{w32}
 use mir.Val.{toZ, ofZ}
 use borrow.Author.Tests.{not-true, not-false}
 use borrow.Author.Needs.{needs}
-use Rattle.intake_segment.proofs.CheckLaws.{bucket-bad, buckets-good, buckets-none, buckets-rise, buckets-apart, buckets-overlap}
+use Rattle.intake_segment.proofs.CheckLaws.{bucket-bad, buckets-valid, buckets-none, buckets-rise, buckets-apart, buckets-overlap}
 use Rattle.intake_segment.proofs.check_buckets.Statement.{statement}
 use Rattle.intake_segment.proofs.check_buckets.Tie as tie
 
@@ -33,7 +33,7 @@ buckets-overlap-requires : tie.Need-buckets-overlap-requires
 buckets-overlap-requires c κs =
     let i = c .before .before .before in
     let s = i .before .before .before .before .before .before in
-    buckets-good [] (s .pre .1) (not-false _ (i .if1 .left))
+    buckets-valid [] (s .pre .1) (not-false _ (i .if1 .left))
 
 returns-4 : tie.Need-returns-4
 returns-4 c =

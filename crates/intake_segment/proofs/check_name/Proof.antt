@@ -11,7 +11,7 @@ use Rattle.name_parents.proofs.PathLaws.{parent-long}
 use Rattle.name_topic.proofs.is_segment_topic.Reads as is-segment-topic-reads
 use Rattle.intake_segment.proofs.check_name.Reads as reads
 use Rattle.intake_segment.proofs.check_name.Lts as lts
-use Rattle.intake_segment.proofs.CheckLaws.{name-no-parent, name-good, name-other}
+use Rattle.intake_segment.proofs.CheckLaws.{name-no-parent, name-valid, name-other}
 use Rattle.intake_segment.proofs.check_name.Statement.{statement}
 use Rattle.intake_segment.proofs.check_name.Tie as tie
 
@@ -37,7 +37,7 @@ part-is-segment-topic-start-2 c = omega (arith, long (c .before .before))
 returns-2 : tie.Need-returns-2
 returns-2 c =
     let i = c .before .before .before .before .before in
-    name-good _ (i .before .before .before .pre .1) (is-parent i) (c .before .is-segment-topic .ensures) (c .if2 .taken)
+    name-valid _ (i .before .before .before .pre .1) (is-parent i) (c .before .is-segment-topic .ensures) (c .if2 .taken)
 
 returns-3 : tie.Need-returns-3
 returns-3 c =

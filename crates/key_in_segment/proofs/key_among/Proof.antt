@@ -6,7 +6,7 @@ use mathlib.Core.List.{List}
 use borrow.Author.Needs.{needs}
 use Rattle.keyed.specs.Keyed.{find}
 use Rattle.packed.specs.Assignment.{AssignedSegment, idOf}
-use Rattle.packed_records.proofs.WalkLaws.{Turn, turn-start, turn-end, turn-head, turn-good, turn-inside, turn-found, turn-next}
+use Rattle.packed_records.proofs.WalkLaws.{Turn, turn-start, turn-end, turn-head, turn-valid, turn-inside, turn-found, turn-next}
 use Rattle.key_in_segment.specs.SegmentKey.{keyAt, keyIn}
 use Rattle.key_in_segment.proofs.WalkLaws.{key-found, key-further, key-none}
 use Rattle.key_in_segment.proofs.key_among.Statement.{statement}
@@ -28,7 +28,7 @@ least-at-requires : tie.Need-least-at-requires Inv-loop μ-loop
 least-at-requires c κs =
     let i = c .before .before in
     let v = i .before .loop .inv in
-    (turn-inside v (i .loop-test .taken) _ refl, turn-good v (i .loop-test .taken))
+    (turn-inside v (i .loop-test .taken) _ refl, turn-valid v (i .loop-test .taken))
 
 returns : tie.Need-returns Inv-loop μ-loop
 returns c =

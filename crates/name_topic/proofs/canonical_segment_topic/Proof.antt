@@ -50,9 +50,9 @@ returns-3 c =
     let k = t .before .before in
     let e = k .before .before .before .before in
     let a = e .before .before .before .before .args in
-    let good = sym (t .before .is-parent .ensures) ∙ t .if2 .taken in
+    let valid = sym (t .before .is-parent .ensures) ∙ t .if2 .taken in
     (rw (rest (a .parent .now) 8) at (place .write-segment-topic .ensures))
-    ∙ sym (canonical-written (a .parent .now) (a .start) (a .end) (a .id) (a .out .now) (is-text e) _ (is-range k) good)
+    ∙ sym (canonical-written (a .parent .now) (a .start) (a .end) (a .id) (a .out .now) (is-text e) _ (is-range k) valid)
 
 returns-4 : tie.Need-returns-4
 returns-4 c =

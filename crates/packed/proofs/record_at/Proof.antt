@@ -4,7 +4,7 @@ use native.Mathlib.Omega.{arith}
 use lib.ListN.{drop}
 use borrow.Author.Needs.{needs}
 use Rattle.packed.specs.Assignment.{decodeSegment}
-use Rattle.packed.proofs.AssignmentLaws.{Seen, seen-size, size-least, record-short, record-reversed, record-clash, record-good}
+use Rattle.packed.proofs.AssignmentLaws.{Seen, seen-size, size-least, record-short, record-reversed, record-clash, record-valid}
 use Rattle.packed.proofs.record_at.Statement.{statement}
 use Rattle.packed.proofs.record_at.Tie as tie
 
@@ -43,7 +43,7 @@ returns-4 c =
     let k = b .before .before .before .before in
     let u = k .before .before in
     let a = u .before .before .before .args in
-    record-good (a .s .now) (a .at) (u .read-u64 .result) (k .before .range-at .result) (k .read-u16 .result) (seen k) (a .end)
+    record-valid (a .s .now) (a .at) (u .read-u64 .result) (k .before .range-at .result) (k .read-u16 .result) (seen k) (a .end)
     (b .before .if3 .left) (b .buckets-ok .result) (b .buckets-ok .ensures) (c .if4 .taken) (omega arith)
 
 returns-5 : tie.Need-returns-5

@@ -1,4 +1,4 @@
--- `packed::rise_by_words` meets its contract. The invariant is `Told`, the measure how many ranges are left. Assumes nothing.
+-- `packed::rise_by_words` meets its contract. The invariant is `Answered`, the measure how many ranges are left. Assumes nothing.
 use Prim.Native.Nat.{_+_, _-_, _*_, _≤_}
 use native.Mathlib.Omega.{arith}
 use mathlib.Core.Path.{_≡_, refl}
@@ -6,12 +6,12 @@ use lib.ListN.{length}
 use lib.Bits.{bitAnd}
 use borrow.Author.Needs.{needs}
 use Rattle.packed.specs.Words.{topsOf}
-use Rattle.packed.proofs.WordLaws.{Told, Split, told-start, told-words, told-next, flags-most, split-none, split-all, split-end}
+use Rattle.packed.proofs.WordLaws.{Answered, Split, told-start, told-words, told-next, flags-most, split-none, split-all, split-end}
 use Rattle.packed.proofs.rise_by_words.Statement.{statement}
 use Rattle.packed.proofs.rise_by_words.Tie as tie
 
 abbrev Inv-loop : tie.InvT-loop
-Inv-loop s at n x₀ y₀ low₀ p₀ left₀ x y low p left = Told s at n x y low p left
+Inv-loop s at n x₀ y₀ low₀ p₀ left₀ x y low p left = Answered s at n x y low p left
 
 abbrev μ-loop : tie.MeasureT-loop
 μ-loop s at n x₀ y₀ low₀ p₀ left₀ x y low p left = left

@@ -4,7 +4,7 @@ use native.Mathlib.Omega.{arith}
 use mathlib.Core.Path.{sym, _∙_}
 use borrow.Author.Needs.{needs}
 use borrow.Author.Tests.{not-true, not-false}
-use Rattle.packed_delta.proofs.ReadLaws.{Counts, front-short, front-cut, front-falls, front-bad, front-good}
+use Rattle.packed_delta.proofs.ReadLaws.{Counts, front-short, front-cut, front-falls, front-bad, front-valid}
 use Rattle.packed_delta.proofs.read_front.Statement.{statement}
 use Rattle.packed_delta.proofs.read_front.Tie as tie
 
@@ -28,7 +28,7 @@ returns-4 c =
     let k = c .before in
     let r = k .before .before in
     let i = r .before .before in
-    front-good (counts (i .before .before)) (sym (not-false _ (r .before .if3 .left)) ∙ i .ids-rise .ensures) (k .size .given .0 .0)
+    front-valid (counts (i .before .before)) (sym (not-false _ (r .before .if3 .left)) ∙ i .ids-rise .ensures) (k .size .given .0 .0)
     (sym (k .size .given .1) ∙ r .records-to .ensures)
 
 returns-5 : tie.Need-returns-5

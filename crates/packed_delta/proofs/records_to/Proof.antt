@@ -6,7 +6,7 @@ use mathlib.Core.Path.{sym, _∙_}
 use mathlib.Core.Logic.{⊎-elim}
 use lib.ListN.{length}
 use borrow.Author.Needs.{needs}
-use Rattle.packed.proofs.AssignmentLaws.{Got, got}
+use Rattle.packed.proofs.AssignmentLaws.{RecordIs, record-is}
 use Rattle.packed_delta.proofs.ReadLaws.{lowest-first, lowest-above, lowest-stale}
 use Rattle.packed_delta.proofs.ReadLaws.{Records, records-start, records-cut, records-stale, records-next, records-end}
 use Rattle.packed_delta.proofs.records_to.Statement.{statement}
@@ -27,18 +27,18 @@ returns c =
     records-cut (r .before .before .loop .inv) (r .before .loop-test .taken) (sym (c .enum-told .given .1) ∙ r .record-at .ensures)
 
 -- what the record that was read says
-got-here : (k : tie.After-known-told Inv-loop μ-loop)
+record-here : (k : tie.After-known-told Inv-loop μ-loop)
     → let r = k .before .before .before in
     let l = r .before .before in
     let s = l .before .before .args .s .now in
     let v = k .before .id .given .0 in
-    Got s (l .loop .p) (length s) (v .0) (v .1 .0)
-got-here k =
+    RecordIs s (l .loop .p) (length s) (v .0) (v .1 .0)
+record-here k =
     let r = k .before .before .before in
     let l = r .before .before in
     let s = l .before .before .args .s .now in
     let v = k .before .id .given .0 in
-    got s (l .loop .p) (length s) (v .0) (v .1 .0) (sym (k .before .id .given .1) ∙ r .record-at .ensures)
+    record-is s (l .loop .p) (length s) (v .0) (v .1 .0) (sym (k .before .id .given .1) ∙ r .record-at .ensures)
 
 returns-2 : tie.Need-returns-2 Inv-loop μ-loop
 returns-2 c =
@@ -46,13 +46,13 @@ returns-2 c =
     let r = k .before .before .before in
     let l = r .before .before .loop in
     let i = k .before .id .given .0 .0 in
-    records-stale (l .inv) (r .before .loop-test .taken) (got-here k)
+    records-stale (l .inv) (r .before .loop-test .taken) (record-here k)
     (lowest-stale (l .first) (l .prev) i (c .before .if1 .taken) (c .if2 .taken))
 
 add-p : tie.Need-add-p Inv-loop μ-loop
 add-p c =
     let l = c .before .before .before .before .before .before in
-    let g = got-here (c .before) in omega (arith, g .fits, g .size-is, l .before .before .good)
+    let g = record-here (c .before) in omega (arith, g .fits, g .size-is, l .before .before .good)
 
 loop-again : tie.Need-loop-again Inv-loop μ-loop
 loop-again c =
@@ -60,7 +60,7 @@ loop-again c =
     let r = k .before .before .before in
     let l = r .before .before .loop in
     let i = k .before .id .given .0 .0 in
-    records-next (l .inv) (r .before .loop-test .taken) (got-here k)
+    records-next (l .inv) (r .before .loop-test .taken) (record-here k)
     (⊎-elim (λ w. lowest-above (l .first) (l .prev) i (w .0 .taken) (w .1 .left))
     (λ w. lowest-first (l .first) (l .prev) i (w .left)) (c .if1 .came))
 

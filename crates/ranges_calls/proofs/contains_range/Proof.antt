@@ -2,7 +2,7 @@
 -- Assumes nothing.
 use mathlib.Core.Path.{sym, ap, _∙_}
 use Rattle.ranges_calls.specs.Calls.{holdsRange, containsRangeOf}
-use Rattle.ranges_calls.specs.declared.TestAnswer.the-variants.{Told}
+use Rattle.ranges_calls.specs.declared.TestAnswer.the-variants.{Answered}
 use Rattle.ranges_calls.proofs.PairLaws.{testBoth, by-pair}
 use borrow.Author.Needs.{needs}
 use Rattle.ranges_calls.proofs.contains_range.Statement.{statement}
@@ -18,7 +18,7 @@ returns-2 : tie.Need-returns-2
 unfolding containsRangeOf
 returns-2 c =
     let e = sym (c .before .before .before .before .both .ensures) ∙ c .before .before .a .given .1 in
-    ap Told (c .holds-range .ensures) ∙ sym (by-pair holdsRange _ _ ∙ ap (testBoth holdsRange) e)
+    ap Answered (c .holds-range .ensures) ∙ sym (by-pair holdsRange _ _ ∙ ap (testBoth holdsRange) e)
 
 pub contains-range-spec : {M : Type 1} → statement M
 contains-range-spec =

@@ -2,7 +2,7 @@
 -- Assumes nothing.
 use mathlib.Core.Path.{sym, ap, _∙_}
 use Rattle.ranges_calls.specs.Calls.{touches, isAdjacentOf}
-use Rattle.ranges_calls.specs.declared.TestAnswer.the-variants.{Told}
+use Rattle.ranges_calls.specs.declared.TestAnswer.the-variants.{Answered}
 use Rattle.ranges_calls.proofs.PairLaws.{testBoth, by-pair}
 use borrow.Author.Needs.{needs}
 use Rattle.ranges_calls.proofs.is_adjacent_to.Statement.{statement}
@@ -18,7 +18,7 @@ returns-2 : tie.Need-returns-2
 unfolding isAdjacentOf
 returns-2 c =
     let e = sym (c .before .before .before .before .both .ensures) ∙ c .before .before .a .given .1 in
-    ap Told (c .touch .ensures) ∙ sym (by-pair touches _ _ ∙ ap (testBoth touches) e)
+    ap Answered (c .touch .ensures) ∙ sym (by-pair touches _ _ ∙ ap (testBoth touches) e)
 
 pub is-adjacent-to-spec : {M : Type 1} → statement M
 is-adjacent-to-spec =

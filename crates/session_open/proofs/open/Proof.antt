@@ -5,7 +5,7 @@ use lib.ListN.{length}
 use Rattle.session.specs.Identity.{Identity}
 use Rattle.session.specs.Calls.{openOutcome}
 use Rattle.session_open.proofs.OpenLaws.{texts-room, told, fitted, open-short, topic-bad, subscription-bad, name-bad}
-use Rattle.session_open.proofs.OpenLaws.{texts-good, open-long, open-done}
+use Rattle.session_open.proofs.OpenLaws.{texts-valid, open-long, open-done}
 use borrow.Author.Needs.{needs}
 use Rattle.session_open.proofs.open.Statement.{statement}
 use Rattle.session_open.proofs.open.Tie as tie
@@ -78,7 +78,7 @@ decided c =
     let k = l .before .before in
     let f = k .before in
     let s = start f in
-    texts-good (s .args .consumer-id) (s .args .incarnation) (given s) (s .args .store .now) (f .fresh .result) (f .fresh .ensures)
+    texts-valid (s .args .consumer-id) (s .args .incarnation) (given s) (s .args .store .now) (f .fresh .result) (f .fresh .ensures)
     (k .if1 .left) (l .before .is-utf8 .result) (l .before .is-utf8 .ensures) (l .if2 .left)
     (m .before .is-utf82 .result) (m .before .is-utf82 .ensures) (m .if3 .left) (c .before .is-utf83 .result) (c .before .is-utf83 .ensures)
     (c .if4 .left)

@@ -5,11 +5,11 @@ use mathlib.Core.Bool.{false, not}
 use mathlib.Core.Logic.{inr}
 use Rattle.wire_readers.specs.Messages.{responseOf}
 use Rattle.session.specs.Session.{view, damaged}
-use Rattle.session_store.proofs.StoreLaws.{identity-good}
-use Rattle.session_intake.specs.declared.PlainMessage.{PlainMessage}
-use Rattle.session_intake.specs.Taken.{PlainMessageTaken, PlainMessageSays}
+use Rattle.session_store.proofs.StoreLaws.{identity-valid}
+use Rattle.session_intake.specs.declared.OrderedMessage.{OrderedMessage}
+use Rattle.session_intake.specs.Taken.{OrderedMessageTaken, OrderedMessageIs}
 use Rattle.session_response.proofs.CallLaws.{refused-out, given-out, call-out}
-use Rattle.session_response.proofs.CallLaws.{plain-says, message-valid, call-short, call-damaged, undamaged, call-sound}
+use Rattle.session_response.proofs.CallLaws.{ordered-says, message-valid, call-short, call-damaged, undamaged, call-sound}
 use borrow.Author.Needs.{needs}
 use Rattle.session_response.proofs.responded.Statement.{statement}
 use Rattle.session_response.proofs.responded.Tie as tie
@@ -18,22 +18,22 @@ abbrev start : tie.Else2 → tie.Start
 start c = c .before .before .before .before .before .before
 
 -- the store passed its test
-good : (c : tie.Else2) → damaged (view (start c .args .r) (start c .args .store .now)) ≡ false
-good c =
+valid : (c : tie.Else2) → damaged (view (start c .args .r) (start c .args .store .now)) ≡ false
+valid c =
     let n = c .before in
     let s = start c in
     undamaged (s .args .r) (s .args .store .now) (s .args .message .now) (s .args .incarnation) (n .before .before .if1 .left)
     (n .is-sound .result) (n .is-sound .ensures) (c .if2 .left)
 
 -- the message has its usual form
-plain : (c : tie.After-size) → let t = c .before .before .before in let s = start (t .before .before .before) in
-    PlainMessageTaken (s .args .store .now) (s .args .message .now) 4 (c .size .given .0 .0) (c .size .given .0 .1 .0)
-    (t .take-plain-message .last .1 .1 .1 .0)
-plain c =
+ordered : (c : tie.After-size) → let t = c .before .before .before in let s = start (t .before .before .before) in
+    OrderedMessageTaken (s .args .store .now) (s .args .message .now) 4 (c .size .given .0 .0) (c .size .given .0 .1 .0)
+    (t .take-ordered-message .last .1 .1 .1 .0)
+ordered c =
     let t = c .before .before .before in
     let s = start (t .before .before .before) in
-    subst (λ (x : PlainMessage). PlainMessageSays (s .args .store .now) (s .args .message .now) 4 x (t .take-plain-message .last .1 .1 .1 .0))
-    (c .size .given .1) (t .take-plain-message .ensures)
+    subst (λ (x : OrderedMessage). OrderedMessageIs (s .args .store .now) (s .args .message .now) 4 x (t .take-ordered-message .last .1 .1 .1 .0))
+    (c .size .given .1) (t .take-ordered-message .ensures)
 
 returns : tie.Need-returns
 returns c =
@@ -52,22 +52,22 @@ returns-2 c =
     (call-damaged (s .args .r) (s .args .store .now) (s .args .message .now) (s .args .incarnation) (k .if1 .left) (n .is-sound .result)
     (n .is-sound .ensures) (c .before .if2 .taken)))
 
-take-plain-message-requires : tie.Need-take-plain-message-requires
-take-plain-message-requires c κs =
+take-ordered-message-requires : tie.Need-take-ordered-message-requires
+take-ordered-message-requires c κs =
     let e = c .before .before in
     let s = start e in
-    ((e .before .before .before .if1 .left, identity-good (s .args .r) (s .args .store .now) (ap not (good e))), (inr refl, refl))
+    ((e .before .before .before .if1 .left, identity-valid (s .args .r) (s .args .store .now) (ap not (valid e))), (inr refl, refl))
 
 answered-requires : tie.Need-answered-requires
 answered-requires c κs =
     let i = c .before .before .before in
     let e = i .before .before .before .before .before .before in
-    ((e .before .before .before .if1 .left, good e), plain i .answers .ready)
+    ((e .before .before .before .if1 .left, valid e), ordered i .answers .ready)
 
 scanned-requires : tie.Need-scanned-requires
 scanned-requires c κs =
     let e = c .before .before .before .before .before .before .before .before in
-    ((e .before .before .before .if1 .left, good e), search needs)
+    ((e .before .before .before .if1 .left, valid e), search needs)
 
 returns-3 : tie.Need-returns-3
 returns-3 c =
@@ -80,8 +80,8 @@ returns-3 c =
     (given-out (s .args .r) (s .args .store .now) (a .answered .result) (a .answered .last .1 .0) _ _
     (call-sound (s .args .r) (s .args .store .now) (s .args .message .now) (s .args .incarnation) (n .before .before .if1 .left)
     (n .is-sound .result) (n .is-sound .ensures) (e .if2 .left)
-    ∙ message-valid (s .args .r) (s .args .store .now) (s .args .message .now) (s .args .incarnation) (plain i .valid))
-    (a .answered .ensures (responseOf (s .args .message .now)) (plain-says (s .args .store .now) (s .args .message .now) _ _ _ (plain i))))
+    ∙ message-valid (s .args .r) (s .args .store .now) (s .args .message .now) (s .args .incarnation) (ordered i .valid))
+    (a .answered .ensures (responseOf (s .args .message .now)) (ordered-says (s .args .store .now) (s .args .message .now) _ _ _ (ordered i))))
 
 returns-4 : tie.Need-returns-4
 returns-4 c =
@@ -99,7 +99,7 @@ responded-spec =
     tie.close
     (tie.spec (λ c κs. search needs) returns
     (λ c κs. search needs) (λ c κs. search needs) (λ c. search needs) returns-2
-    (λ c. search needs) take-plain-message-requires
+    (λ c. search needs) take-ordered-message-requires
     (λ c. search needs) (λ c. search needs) answered-requires
     (λ c. search needs) (λ c. search needs) scanned-requires
     (λ c. search needs) returns-3

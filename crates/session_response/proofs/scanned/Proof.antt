@@ -3,7 +3,7 @@
 use mathlib.Core.Path.{sym, ap, _∙_}
 use mathlib.Core.Bool.{not}
 use Rattle.wire_readers.specs.Messages.{responseOf}
-use Rattle.session_store.proofs.StoreLaws.{identity-good}
+use Rattle.session_store.proofs.StoreLaws.{identity-valid}
 use Rattle.session_response.proofs.CallLaws.{refused-out, given-out, message-bad, message-valid, valid-mismatch}
 use borrow.Author.Needs.{needs}
 use Rattle.session_response.proofs.scanned.Statement.{statement}
@@ -16,7 +16,7 @@ valid c = c .before .before .before .before
 take-response-requires : tie.Need-take-response-requires
 take-response-requires c κs =
     let s = valid (c .before .before) .before .before .before .before .before .before in
-    ((s .pre .0 .0, identity-good (s .args .r) (s .args .store .now) (ap not (s .pre .0 .1))), s .pre .1)
+    ((s .pre .0 .0, identity-valid (s .args .r) (s .args .store .now) (ap not (s .pre .0 .1))), s .pre .1)
 
 returns : tie.Need-returns
 returns c =

@@ -9,7 +9,7 @@ use Rattle.session.specs.Store.{slot}
 use Rattle.session.specs.Identity.{isIdentity}
 use Rattle.session.specs.Session.{view, anyBeyond, damaged}
 use Rattle.session_store.specs.Places.{QueueEnds}
-use Rattle.session_store.proofs.StoreLaws.{slot-at, count-bad, position-bad, identity-bad, lists-bad, queue-bad, queue-good, queue-ended}
+use Rattle.session_store.proofs.StoreLaws.{slot-at, count-bad, position-bad, identity-bad, lists-bad, queue-bad, queue-valid, queue-ended}
 use Rattle.session_store.proofs.test_store.Statement.{statement}
 use Rattle.session_store.proofs.test_store.Tie as tie
 
@@ -65,7 +65,7 @@ read c =
     let k = n .before .before in
     let s = start k in
     let e = sym (c .size .given .1) ∙ a .read-entries .ensures in (
-      queue-good (s .args .r) (s .args .store .now) (k .if1 .left) (within n) (m .before .is-identity .result)
+      queue-valid (s .args .r) (s .args .store .now) (k .if1 .left) (within n) (m .before .is-identity .result)
           (named (m .before)) (m .if3 .left) (l .before .lists-start .result) (l .before .lists-start .ensures) (l .if4 .left) _ e,
       queue-ended (s .args .r) (s .args .store .now) (k .if1 .left) (within n) (m .before .is-identity .result)
           (named (m .before)) (m .if3 .left) (l .before .lists-start .result) (l .before .lists-start .ensures) (l .if4 .left) _ e (s .pre),

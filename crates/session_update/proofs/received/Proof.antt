@@ -4,7 +4,7 @@ use mathlib.Core.Path.{ap, subst}
 use Rattle.intake.specs.declared.Intake.{Intake}
 use Rattle.session_store.specs.Scratch.{Scratch}
 use Rattle.session_intake.specs.Taken.{contentFrom, Ready}
-use Rattle.session_update.proofs.UpdateLaws.{count-good, list-good, told, content-refuses, content-holds, content-joins}
+use Rattle.session_update.proofs.UpdateLaws.{count-valid, list-valid, told, content-refuses, content-holds, content-joins}
 use borrow.Author.Needs.{needs}
 use Rattle.session_update.proofs.received.Statement.{statement}
 use Rattle.session_update.proofs.received.Tie as tie
@@ -23,13 +23,13 @@ held-requires c κs =
     let t = c .before .before in
     let b = t .before .before in
     let s = start b in
-    (s .pre .0, (list-good (s .args .r) (s .args .store .now) (s .pre .1 .0 .0) (t .if1 .taken), buffer b))
+    (s .pre .0, (list-valid (s .args .r) (s .args .store .now) (s .pre .1 .0 .0) (t .if1 .taken), buffer b))
 
 enqueued-requires : tie.Need-enqueued-requires
 enqueued-requires c κs =
     let b = c .before .before .before in
     let s = start b in
-    (count-good (s .args .r) (s .args .store .now) (s .pre .1 .0 .0), (s .pre .1 .0 .1, buffer b))
+    (count-valid (s .args .r) (s .args .store .now) (s .pre .1 .0 .0), (s .pre .1 .0 .1, buffer b))
 
 returns : tie.Need-returns
 returns c =

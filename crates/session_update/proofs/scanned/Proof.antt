@@ -8,7 +8,7 @@ use Rattle.session.specs.Session.{view}
 use Rattle.session.specs.Tails.{updateContent}
 use Rattle.session.specs.Calls.{effectOf}
 use Rattle.session_update.specs.Address.{addressOf}
-use Rattle.session_update.proofs.UpdateLaws.{told, identity-good, update-epoch, update-content, message-bad, message-valid}
+use Rattle.session_update.proofs.UpdateLaws.{told, identity-valid, update-epoch, update-content, message-bad, message-valid}
 use Rattle.session_update.proofs.UpdateLaws.{turned-away, let-in}
 use borrow.Author.Needs.{needs}
 use Rattle.session_update.proofs.scanned.Statement.{statement}
@@ -18,7 +18,7 @@ take-assignment-requires : tie.Need-take-assignment-requires
 take-assignment-requires c κs =
     let h = c .before .before .before .before .before in
     let s = h .before .before .before .before .before .before .before .before in (
-      (s .pre .0 .0, identity-good (s .args .r) (s .args .store .now) (s .pre .1 .0 .0)),
+      (s .pre .0 .0, identity-valid (s .args .r) (s .args .store .now) (s .pre .1 .0 .0)),
       ((inl refl, s .pre .1 .1), update-epoch (s .args .message .now) _ (h .read-update .ensures .epoch)),
     )
 

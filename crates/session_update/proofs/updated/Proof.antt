@@ -6,10 +6,10 @@ use Rattle.wire_readers.specs.Messages.{updateOf}
 use Rattle.session_store.specs.declared.Tested.{Tested}
 use Rattle.session_store.specs.declared.Tested.the-variants.{Sound}
 use Rattle.session_store.specs.Tests.{StoreTested}
-use Rattle.session_intake.specs.declared.PlainMessage.{PlainMessage}
-use Rattle.session_intake.specs.Taken.{PlainMessageTaken, PlainMessageSays}
+use Rattle.session_intake.specs.declared.OrderedMessage.{OrderedMessage}
+use Rattle.session_intake.specs.Taken.{OrderedMessageTaken, OrderedMessageIs}
 use Rattle.session_update.proofs.UpdateLaws.{told, store-short, output-short, store-bad, call-sound}
-use Rattle.session_update.proofs.UpdateLaws.{identity-good, update-content, plain-consumer, message-valid}
+use Rattle.session_update.proofs.UpdateLaws.{identity-valid, update-content, ordered-consumer, message-valid}
 use borrow.Author.Needs.{needs}
 use Rattle.session_update.proofs.updated.Statement.{statement}
 use Rattle.session_update.proofs.updated.Tie as tie
@@ -20,12 +20,12 @@ start c = c .before .before .before .before .before
 abbrev first : tie.After-end → tie.Else2
 first c = c .before .before .before .before
 
-abbrev tested : tie.After-take-plain-message → tie.After-end
+abbrev tested : tie.After-take-ordered-message → tie.After-end
 tested c = c .before .before .before .before
 
 -- the store passed its test
-good : (c : tie.After-end) → let s = start (first c) in StoreTested (s .args .r) (s .args .store .now) (Sound (c .end .given .0 .0))
-good c =
+valid : (c : tie.After-end) → let s = start (first c) in StoreTested (s .args .r) (s .args .store .now) (Sound (c .end .given .0 .0))
+valid c =
     let t = c .before .before in
     let s = start (t .before .before) in
     subst (λ (x : Tested). StoreTested (s .args .r) (s .args .store .now) x) (c .end .given .1) (t .test-store .ensures)
@@ -56,34 +56,34 @@ returns-3 c =
     (subst (λ (x : Tested). StoreTested (s .args .r) (s .args .store .now) x) (d .enum-told .given .1) (t .test-store .ensures)))
 
 -- the message has its usual form
-plain : (c : tie.After-id) → let t = c .before .before .before in let s = start (first (tested t)) in
-    PlainMessageTaken (s .args .store .now) (s .args .message .now) 2 (c .id .given .0 .0) (c .id .given .0 .1 .0)
-    (t .take-plain-message .last .1 .1 .1 .0)
-plain c =
+ordered : (c : tie.After-id) → let t = c .before .before .before in let s = start (first (tested t)) in
+    OrderedMessageTaken (s .args .store .now) (s .args .message .now) 2 (c .id .given .0 .0) (c .id .given .0 .1 .0)
+    (t .take-ordered-message .last .1 .1 .1 .0)
+ordered c =
     let t = c .before .before .before in
     let s = start (first (tested t)) in
-    subst (λ (x : PlainMessage). PlainMessageSays (s .args .store .now) (s .args .message .now) 2 x (t .take-plain-message .last .1 .1 .1 .0))
-    (c .id .given .1) (t .take-plain-message .ensures)
+    subst (λ (x : OrderedMessage). OrderedMessageIs (s .args .store .now) (s .args .message .now) 2 x (t .take-ordered-message .last .1 .1 .1 .0))
+    (c .id .given .1) (t .take-ordered-message .ensures)
 
-take-plain-message-requires : tie.Need-take-plain-message-requires
-take-plain-message-requires c κs =
+take-ordered-message-requires : tie.Need-take-ordered-message-requires
+take-ordered-message-requires c κs =
     let k = c .before .before .before in
     let o = first k in
     let s = start o in
-    ((o .before .if1 .left, identity-good (s .args .r) (s .args .store .now) (good k .0)), (inl refl, refl))
+    ((o .before .if1 .left, identity-valid (s .args .r) (s .args .store .now) (valid k .0)), (inl refl, refl))
 
 addressed-requires : tie.Need-addressed-requires
 addressed-requires c κs =
     let i = c .before .before .before .before in
     let k = tested (i .before .before .before) in
     let o = first k in
-    ((o .before .if1 .left, o .if2 .left), (good k, plain i .answers .ready))
+    ((o .before .if1 .left, o .if2 .left), (valid k, ordered i .answers .ready))
 
 scanned-requires : tie.Need-scanned-requires
 scanned-requires c κs =
     let k = tested (c .before .before .before .before .before .before) in
     let o = first k in
-    ((o .before .if1 .left, o .if2 .left), (good k, search needs))
+    ((o .before .if1 .left, o .if2 .left), (valid k, search needs))
 
 returns-4 : tie.Need-returns-4
 returns-4 c =
@@ -93,10 +93,10 @@ returns-4 c =
     let o = first k in
     let s = start o in
     call-sound (s .args .r) (s .args .store .now) (s .args .message .now) (s .args .incarnation) (s .args .out .now)
-    (o .before .if1 .left) (o .if2 .left) (good k .0)
-    (message-valid (s .args .r) (s .args .store .now) (s .args .message .now) (s .args .incarnation) (s .args .out .now) (plain i .valid)
-    (a .addressed .ensures (updateOf (s .args .message .now)) (plain-consumer (s .args .message .now) (s .args .store .now) _ _ _ (plain i))
-    (update-content (s .args .message .now) (s .args .store .now) (plain i .answers .is))))
+    (o .before .if1 .left) (o .if2 .left) (valid k .0)
+    (message-valid (s .args .r) (s .args .store .now) (s .args .message .now) (s .args .incarnation) (s .args .out .now) (ordered i .valid)
+    (a .addressed .ensures (updateOf (s .args .message .now)) (ordered-consumer (s .args .message .now) (s .args .store .now) _ _ _ (ordered i))
+    (update-content (s .args .message .now) (s .args .store .now) (ordered i .answers .is))))
 
 returns-5 : tie.Need-returns-5
 returns-5 c =
@@ -105,7 +105,7 @@ returns-5 c =
     let o = first k in
     let s = start o in
     call-sound (s .args .r) (s .args .store .now) (s .args .message .now) (s .args .incarnation) (s .args .out .now)
-    (o .before .if1 .left) (o .if2 .left) (good k .0) (v .scanned .ensures)
+    (o .before .if1 .left) (o .if2 .left) (valid k .0) (v .scanned .ensures)
 
 pub updated-spec : {M : Type 1} → statement M
 updated-spec =
@@ -124,9 +124,9 @@ updated-spec =
     (λ c κs. search needs)
     (λ c. search needs)
     returns-3
-    -- slice-aggregate-take-plain-message
+    -- slice-aggregate-take-ordered-message
     (λ c. search needs)
-    take-plain-message-requires
+    take-ordered-message-requires
     -- enum-known-id, slice-aggregate-addressed
     (λ c. search needs)
     (λ c. search needs)

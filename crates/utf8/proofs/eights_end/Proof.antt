@@ -21,8 +21,8 @@ loop-holds c = let a = c .before .args in passes-none (a .s .now) (a .from) (ome
 sub-loop : tie.Need-sub-loop Inv-loop μ-loop
 sub-loop c = c .loop .inv .inside
 
-eight-plain-requires : tie.Need-eight-plain-requires Inv-loop μ-loop
-eight-plain-requires c κs = omega (arith, c .before .loop .inv .inside)
+eight-ascii-requires : tie.Need-eight-ascii-requires Inv-loop μ-loop
+eight-ascii-requires c κs = omega (arith, c .before .loop .inv .inside)
 
 returns : tie.Need-returns Inv-loop μ-loop
 returns c = c .before .before .before .loop .inv
@@ -32,7 +32,7 @@ loop-again c =
     let l = c .before .before .before .loop in
     let a = c .before .before .before .before .before .args in
     passes-more (a .s .now) (a .from) (l .at) 8 (l .inv) (omega (arith, l .inv .inside))
-    (c .before .eight-plain .ensures (not-false _ (c .if1 .left)))
+    (c .before .eight-ascii .ensures (not-false _ (c .if1 .left)))
 
 returns-2 : tie.Need-returns-2 Inv-loop μ-loop
 returns-2 c = c .before .loop .inv
@@ -40,5 +40,5 @@ returns-2 c = c .before .loop .inv
 pub eights-end-spec : {M : Type 1} → statement M
 eights-end-spec =
     tie.close
-    (tie.spec Inv-loop μ-loop loop-holds sub-loop eight-plain-requires returns
+    (tie.spec Inv-loop μ-loop loop-holds sub-loop eight-ascii-requires returns
     (λ c. omega arith) (λ c. omega arith) loop-again returns-2)

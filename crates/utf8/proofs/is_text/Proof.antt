@@ -49,15 +49,15 @@ returns c =
 add-at : tie.Need-add-at Inv-loop μ-loop
 add-at c = omega (arith, inside (c .before))
 
-plain-end-requires : tie.Need-plain-end-requires Inv-loop μ-loop
-plain-end-requires c κs = inside (c .before .before)
+ascii-end-requires : tie.Need-ascii-end-requires Inv-loop μ-loop
+ascii-end-requires c κs = inside (c .before .before)
 
 loop-less : tie.Need-loop-less Inv-loop μ-loop
-loop-less c = let p = c .plain-end .ensures in omega (arith, p .onward, p .inside)
+loop-less c = let p = c .ascii-end .ensures in omega (arith, p .onward, p .inside)
 
 loop-again : tie.Need-loop-again Inv-loop μ-loop
 loop-again c =
-    let p = c .plain-end .ensures in
+    let p = c .ascii-end .ensures in
     (p .inside, onward (c .before .before .before) (c .before .before .if1 .left) ∙ p .same)
 
 loop-less-2 : tie.Need-loop-less-2 Inv-loop μ-loop
@@ -75,4 +75,4 @@ is-text-spec =
     tie.close
     (tie.spec Inv-loop μ-loop loop-holds
     (λ c. search needs) (λ c. search needs) (λ c. search needs) (λ c κs. search needs) returns add-at
-    plain-end-requires loop-less loop-again loop-less-2 loop-again-2 returns-2)
+    ascii-end-requires loop-less loop-again loop-less-2 loop-again-2 returns-2)

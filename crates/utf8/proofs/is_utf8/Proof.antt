@@ -2,12 +2,12 @@
 -- Assumes nothing.
 use mathlib.Core.Path.{sym}
 use borrow.Author.Needs.{needs}
-use Rattle.utf8.proofs.TextLaws.{plain-text}
+use Rattle.utf8.proofs.TextLaws.{ascii-text}
 use Rattle.utf8.proofs.is_utf8.Statement.{statement}
 use Rattle.utf8.proofs.is_utf8.Tie as tie
 
 returns : tie.Need-returns
-returns c = sym (plain-text (c .before .before .before .args .s .now) (c .before .all-plain .ensures (c .if1 .taken)))
+returns c = sym (ascii-text (c .before .before .before .args .s .now) (c .before .all-ascii .ensures (c .if1 .taken)))
 
 returns-2 : tie.Need-returns-2
 returns-2 c = c .is-text .ensures

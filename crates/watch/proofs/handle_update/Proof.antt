@@ -36,8 +36,8 @@ Formed = lts.Else2 claims reads.Pre reads.Post
 abbrev start : Formed → lts.Start claims reads.Pre reads.Post
 start c = c .before .before .before .before .before .before .before
 
-good : (c : Formed) → let a = start c .args in isSet (take (a .used) (a .buffer .now)) ≡ true
-good c = sym (c .before .is-set .ensures) ∙ not-false _ (c .if2 .left)
+valid : (c : Formed) → let a = start c .args in isSet (take (a .used) (a .buffer .now)) ≡ true
+valid c = sym (c .before .is-set .ensures) ∙ not-false _ (c .if2 .left)
 
 slice-aggregate-is-set : tie.Need-slice-aggregate-is-set
 slice-aggregate-is-set c = sym (length-take-le _ _ (c .before .if1 .left))
@@ -46,13 +46,13 @@ returns-2 : tie.Need-returns-2
 returns-2 c = sym (set-bad _ _ _ _ _ (sym (c .before .is-set .ensures) ∙ not-true _ (c .if2 .taken)))
 
 update-requires : tie.Need-update-requires
-update-requires c κs = let f = c .before .before .before .before .before in (f .before .before .before .if1 .left, good f)
+update-requires c κs = let f = c .before .before .before .before .before in (f .before .before .before .if1 .left, valid f)
 
 returns-3 : tie.Need-returns-3
 returns-3 c =
     let f = c .before .before .before .before in
     let e = sym (c .before .x .given .1) ∙ c .before .before .before .first-fault .ensures in
-    sym (checked _ _ _ _ _ (f .before .before .before .if1 .left) (good f) _ e)
+    sym (checked _ _ _ _ _ (f .before .before .before .if1 .left) (valid f) _ e)
 
 returns-4 : tie.Need-returns-4
 returns-4 c =
@@ -60,7 +60,7 @@ returns-4 c =
     let t = c .before .before .before .before .before .before .before in
     let e = sym (t .enum-told .given .1) ∙ t .before .before .first-fault .ensures in
     let u = c .before .before .before .before .update .ensures in
-    told-by _ _ _ _ _ (checked _ _ _ _ _ (f .before .before .before .if1 .left) (good f) _ e) u
+    told-by _ _ _ _ _ (checked _ _ _ _ _ (f .before .before .before .if1 .left) (valid f) _ e) u
 
 pub handle-update-spec : {M : Type 1} → statement M
 handle-update-spec =

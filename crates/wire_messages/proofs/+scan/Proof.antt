@@ -16,7 +16,7 @@ use Rattle.wire_messages.proofs.scan.Reads as scan
 use Rattle.wire_messages.proofs.scan.Kinds as scan-kinds
 use Rattle.wire_messages.proofs.+scan.Lts-scan as scan-lts
 use Rattle.wire_field_step.proofs.read_field.Reads as read-field-reads
-use Rattle.wire_ordered.proofs.is_plain.Reads as is-plain-reads
+use Rattle.wire_ordered.proofs.is_ordered.Reads as is-ordered-reads
 use Rattle.wire_messages.proofs.+scan.{statement}
 use Rattle.wire_messages.proofs.+scan.Tie.{close}
 
@@ -38,8 +38,8 @@ abbrev μ-loop : scan-lts.MeasureT-loop
 module _ (t : ℕ) where
   abbrev callees : scan-lts.Claims
   callees = (
-    is-plain-reads.Asked,
-    is-plain-reads.Learnt,
+    is-ordered-reads.Asked,
+    is-ordered-reads.Learnt,
     read-field-reads.Asked,
     read-field-reads.Learnt,
     scan-below t,
@@ -71,9 +71,9 @@ module _ (t : ℕ) where
 pub +scan-spec : {M : Type 1} → statement M
 +scan-spec =
     close μ-scan λ t. scan-lts.spec (callees t) (scan-at t) scan.Post Inv-loop μ-loop
-    -- is-plain-requires, returns: the message is plain
+    -- is-ordered-requires, returns: the message is ordered
     (λ c κs. search needs)
-    (λ c. sym (c .before .is-plain .ensures (c .if1 .taken) (c .before .before .before .args .depth) .read))
+    (λ c. sym (c .before .is-ordered .ensures (c .if1 .taken) (c .before .before .before .args .depth) .read))
     -- returns-2: no depth is left
     (λ c. rw (c .if2 .taken))
     -- loop-holds

@@ -16,9 +16,9 @@ pub first-fault-spec : {M : Type 1} → statement M
 first-fault-spec =
     tie.close
     (tie.spec
-    -- is-plain-command-requires, returns: the usual form
+    -- is-ordered-command-requires, returns: the usual form
     (λ c κs. search needs)
-    (λ c. sym (c .before .is-plain-command .ensures (c .if1 .taken)))
+    (λ c. sym (c .before .is-ordered-command .ensures (c .if1 .taken)))
     -- nesting-requires, scan-requires, enum-known-x
     (λ c κs. search needs)
     (λ c κs. search needs)

@@ -5,8 +5,8 @@ use native.Mathlib.Omega.{arith}
 use mathlib.Core.Path.{sym, _∙_}
 use borrow.Author.Needs.{needs}
 use Rattle.wire.proofs.read_short_varint.Reads as read-short-varint-reads
-use Rattle.wire_ordered.specs.Plain.{NumberIs}
-use Rattle.wire_ordered.proofs.PlainLaws.{number-field}
+use Rattle.wire_ordered.specs.Ordered.{NumberIs}
+use Rattle.wire_ordered.proofs.OrderedLaws.{number-field}
 use Rattle.wire_ordered.proofs.number_at.Statement.{statement}
 use Rattle.wire_ordered.proofs.number_at.Tie as tie
 use Rattle.wire_ordered.proofs.number_at.Reads as reads

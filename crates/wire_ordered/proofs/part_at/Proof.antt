@@ -5,8 +5,8 @@ use native.Mathlib.Omega.{arith}
 use mathlib.Core.Path.{sym, _∙_}
 use borrow.Author.Needs.{needs}
 use Rattle.wire.proofs.read_body.Reads as read-body-reads
-use Rattle.wire_ordered.specs.Plain.{PartField}
-use Rattle.wire_ordered.proofs.PlainLaws.{part-field}
+use Rattle.wire_ordered.specs.Ordered.{PartField}
+use Rattle.wire_ordered.proofs.OrderedLaws.{part-field}
 use Rattle.wire_ordered.proofs.part_at.Statement.{statement}
 use Rattle.wire_ordered.proofs.part_at.Tie as tie
 use Rattle.wire_ordered.proofs.part_at.Reads as reads

@@ -3,8 +3,8 @@ use native.Mathlib.Omega.{arith}
 use mathlib.Core.Path.{sym, subst, _∙_}
 use borrow.Author.Needs.{needs}
 use Rattle.utf8.proofs.is_utf8.Reads as is-utf8-reads
-use Rattle.wire_ordered.specs.Plain.{PartField, PartSays}
-use Rattle.wire_ordered.proofs.PlainLaws.{segment-start, none-above}
+use Rattle.wire_ordered.specs.Ordered.{PartField, PartIs}
+use Rattle.wire_ordered.proofs.OrderedLaws.{segment-start, none-above}
 use Rattle.wire_ordered.proofs.number_end.Reads as number-end-reads
 use Rattle.wire_ordered.proofs.part_at.Reads as part-at-reads
 use Rattle.wire_ordered.proofs.segment_end.Statement.{statement}
@@ -26,7 +26,7 @@ Found = lts.After-known-told (
 found : (c : Found)
     → PartField 4 (c .before .before .before .before .before .before .before .before .before .before .before .args .s .now)
     (c .before .before .before .before .before .number-end3 .result) (c .before .from .given .0 .0) (c .before .from .given .0 .1 .0)
-found c = subst (PartSays 4 _ _) (c .before .from .given .1) (c .before .before .before .part-at .ensures)
+found c = subst (PartIs 4 _ _) (c .before .from .given .1) (c .before .before .before .part-at .ensures)
 
 returns-5 : tie.Need-returns-5
 returns-5 c = λ h.

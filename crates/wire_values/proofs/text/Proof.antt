@@ -13,10 +13,10 @@ use Rattle.wire_values.proofs.text.Lts as lts
 use Rattle.wire_values.proofs.last_part.Reads as last-part-reads
 
 -- the place that `last_part` tells
-abbrev Told : Type 0
-Told = lts.After-last-part (last-part-reads.Asked, last-part-reads.Learnt) reads.Pre reads.Post
+abbrev Answered : Type 0
+Answered = lts.After-last-part (last-part-reads.Asked, last-part-reads.Learnt) reads.Pre reads.Post
 
-there : (c : Told) → let a = c .before .before .before .args in let p = c .last-part .result in
+there : (c : Answered) → let a = c .before .before .before .args in let p = c .last-part .result in
     PartIs (a .message .now) (lastPart (partsOf (a .n) (fieldsOf (a .message .now)))) (p .start) (p .length)
 there c = text-there _ _ _ _ (c .last-part .ensures)
 
