@@ -4,7 +4,7 @@
 use Prim.Native.Nat.{ℕ, _+_, _-_, _≤_, _<_}
 use native.Mathlib.Omega.{arith}
 use mathlib.Core.Path.{_≡_, refl, sym, ap, _∙_}
-use mathlib.Core.List.{List, [], _∷_, _++_}
+use mathlib.Core.List.{List, _++_}
 use lib.ListN.{length, take, drop, getD, set, length-drop, take-append-drop}
 use lib.Seq.{drop-cons, drop-drop, take-add, take-take, take-append-le, length-take-le}
 use Rattle.slice.proofs.PartLaws.{drop-take, Bytes, Bytes-drop}
@@ -172,6 +172,12 @@ module _ (o : List ℕ) (from to z : ℕ) where
               ∙ ap (put o (j + z)) more;
         }
 
+    -- one element more
+    pub up-one : from < i → to + z ≤ length o → Raised o from to z (set b (i - 1 + z) (getD b (i - 1) 0)) (i - 1)
+    up-one h l =
+        let m : i ≤ to = v .below in
+        rw (one-byte b (i - 1) (i - 1 + z) (omega (arith, v .long)) (omega (arith, v .long))) (up-turn (i - 1) 1 (omega arith) (omega arith) l)
+
     pub up-end : i ≤ from → b ≡ put o (from + z) (take (to - from) (drop from o))
     up-end h =
         let e : i ≡ from = omega (arith, v .above) in
@@ -179,14 +185,3 @@ module _ (o : List ℕ) (from to z : ℕ) where
 
     pub up-rest : to + z ≤ length o → put b (from + z) (take (i - from) (drop from b)) ≡ put o (from + z) (take (to - from) (drop from o))
     up-rest l = let k : from ≤ i = v .above in up-turn from (i - from) (omega arith) (omega arith) l .bytes
-
--- one place further up: v takes the place that is free
-module _ (o : List ℕ) (from to : ℕ) (b : List ℕ) (i : ℕ) (r : Raised o from to 1 b i) where
-  pub up-put : (v : ℕ) → i ≤ from → to < length o → set b from v ≡ put o from (v ∷ take (to - from) (drop from o))
-  up-put v e h =
-      let W : List ℕ = take (to - from) (drop from o) in
-      let m : from ≤ to = omega (arith, r .above, r .below) in
-      let l : length W ≡ to - from = length-take-le (to - from) (drop from o) (rw length-drop (omega arith)) in
-      put-one b from v (omega (arith, r .long))
-      ∙ ap (λ (x : List ℕ). put x from (v ∷ [])) (up-end o from to 1 b i r e)
-      ∙ put-before o from (from + 1) (v ∷ []) W refl (omega arith)

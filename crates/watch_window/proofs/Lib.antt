@@ -1,5 +1,5 @@
 mod PositionLaws
-mod PlacedLaws
+mod SpanLaws
 pub mod LowestLaws
 pub mod WindowLaws
 mod InsertLaws

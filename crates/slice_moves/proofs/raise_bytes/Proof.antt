@@ -1,9 +1,8 @@
 -- `moves::raise_bytes` meets its contract. The invariant is `Raised` of specs/Moved; the measure is the place that is reached.
 -- Assumes nothing.
-use Prim.Native.Nat.{_+_, _-_}
 use native.Mathlib.Omega.{arith}
 use Rattle.slice_moves.specs.Moved.{Raised}
-use Rattle.slice_moves.proofs.MoveLaws.{up-start, up-turn, up-end, one-byte}
+use Rattle.slice_moves.proofs.MoveLaws.{up-start, up-one, up-end}
 use Rattle.slice_moves.proofs.raise_bytes.Statement.{statement}
 use Rattle.slice_moves.proofs.raise_bytes.Tie as tie
 
@@ -20,10 +19,7 @@ loop-again : tie.Need-loop-again Inv-loop μ-loop
 loop-again c =
     let l = c .before .before in
     let a = l .before .args in
-    let b = l .loop .b in
-    let i = l .loop .i in
-    rw (one-byte b (i - 1) (i - 1 + a .z) (omega arith) (omega arith))
-    (up-turn (a .b .now) (a .from) (a .to) (a .z) b i (l .loop .inv) (i - 1) 1 (omega arith) (omega arith) (omega arith))
+    up-one (a .b .now) (a .from) (a .to) (a .z) (l .loop .b) (l .loop .i) (l .loop .inv) (omega arith) (omega arith)
 
 same-length : tie.Need-same-length Inv-loop μ-loop
 same-length c = c .before .loop .inv .long
