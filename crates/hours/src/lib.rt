@@ -53,20 +53,6 @@ pub enum Shape {
     Malformed,
 }
 
-// The smaller of two numbers.
-fn lesser(a: u64, b: u64) -> u64
-    ensures { λ r. ⌜ r ≡ Prim.Native.Nat.min a b ⌝ }
-{
-    if a < b { a } else { b }
-}
-
-// The larger of two seconds.
-fn later(a: u64, b: u64) -> u64
-    ensures { λ r. ⌜ r ≡ Prim.Native.Nat.max a b ⌝ }
-{
-    if a < b { b } else { a }
-}
-
 // The span in the 16 bytes from a place on.
 fn span_at(s: &[u8], at: usize) -> Span
     requires { ⌜ at + 16 ≤ length (now s) ⌝ }
@@ -192,7 +178,7 @@ fn least_wait(s: &[u8], at: usize, n: usize, moment: u64) -> u64
     let mut p = at;
     let mut left = n;
     while 0 < left {
-        least = lesser(least, wait_for(span_at(s, p), moment));
+        least = slice_int::min_u64(least, wait_for(span_at(s, p), moment));
         p = p + SPAN;
         left = left - 1;
     }
@@ -204,7 +190,7 @@ fn first_in(s: &[u8], at: usize, n: usize, term: Span, second: u64) -> u64
     requires { ⌜ (at + 16 * n ≤ length (now s)) × (okSpans 604800 (spansOf n (drop at (now s))) ≡ true) ⌝ }
     ensures { λ r. ⌜ r ≡ firstIn term (spansOf n (drop at (now (s .entry)))) second ⌝ }
 {
-    let low = later(term.start, second);
+    let low = slice_int::max_u64(term.start, second);
     if term.end <= low {
         return LARGEST;
     }
@@ -228,7 +214,7 @@ fn first_of(s: &[u8], terms: usize, windows: usize, second: u64) -> u64
     let mut p = HEAD;
     let mut left = terms;
     while 0 < left {
-        first = lesser(first, first_in(s, at, windows, span_at(s, p), second));
+        first = slice_int::min_u64(first, first_in(s, at, windows, span_at(s, p), second));
         p = p + SPAN;
         left = left - 1;
     }

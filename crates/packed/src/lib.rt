@@ -3,7 +3,7 @@
 // `read_front` tests the one at the front of a slot, `read_whole` one that is lent alone. Both are linear. Buckets that rise are told in one pass; others are
 // compared pairwise where they are few, and marked where they are many.
 ghost use mathlib.Core.Path.{_≡_};
-ghost use Prim.Native.Nat.{_+_, _*_, _%_, _≤_, _<_, min};
+ghost use Prim.Native.Nat.{_+_, _*_, _%_, _≤_, _<_};
 ghost use mathlib.Core.Bool.{true, not, _&&_};
 ghost use lib.ListN.{length, drop};
 ghost use Rattle.topic_types.specs.KeyRanges.{keyRange};
@@ -223,12 +223,6 @@ pub fn record_at(s: &[u8], at: usize, end: usize) -> RecordRead
     }
 }
 
-fn least(a: usize, b: usize) -> usize
-    ensures { λ r. ⌜ r ≡ min a b ⌝ }
-{
-    if a < b { a } else { b }
-}
-
 // The place behind the n records from a place on, which have to end by the place end; 0 where they are not valid. `stop` is where they end if no further one has
 // buckets: one comparison tells both that none is left and that the next one has room.
 fn records_end(s: &[u8], at: usize, n: usize, end: usize) -> usize
@@ -269,7 +263,7 @@ fn records_end(s: &[u8], at: usize, n: usize, end: usize) -> usize
 pub fn front_size(s: &[u8]) -> usize
     ensures { λ r. ⌜ r ≡ frontSize (now (s .entry)) ⌝ }
 {
-    let end = least(s.len(), SLOT);
+    let end = slice_int::min_usize(s.len(), SLOT);
     if end < ASSIGNMENT_HEAD {
         return 0;
     }

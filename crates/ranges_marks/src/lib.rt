@@ -1,6 +1,6 @@
 // Values of the key space marked in a row of 1,024 words, a place each, so that a range that shares a value with an earlier one is told at once.
 ghost use mathlib.Core.Path.{_≡_};
-ghost use Prim.Native.Nat.{_+_, _≤_, _<_, min};
+ghost use Prim.Native.Nat.{_+_, _≤_, _<_};
 ghost use lib.ListN.{length, take};
 ghost use Rattle.ranges_marks.specs.Bits.{ones};
 ghost use Rattle.ranges_marks.specs.Marks.{words, rowSize, Marking, RowMarking};
@@ -20,12 +20,6 @@ fn mask(low: u64, count: u64) -> u64
     (0xffff_ffff_ffff_ffff >> (64 - count)) << low
 }
 
-fn least(a: u64, b: u64) -> u64
-    ensures { λ r. ⌜ r ≡ min a b ⌝ }
-{
-    if a < b { a } else { b }
-}
-
 // Marks the values of the range, up to the first word in which one of them is marked already; says whether there is one.
 pub fn mark(marks: &mut [u64], range: KeyRange) -> bool
     requires { ⌜ length (now marks) ≡ words ⌝ }
@@ -35,7 +29,7 @@ pub fn mark(marks: &mut [u64], range: KeyRange) -> bool
     let mut at = (range.start as u64) % 65536;
     while at < stop {
         let low = at % 64;
-        let count = least(64 - low, stop - at);
+        let count = slice_int::min_u64(64 - low, stop - at);
         let places = mask(low, count);
         let i = (at / 64) as usize;
         let word = marks[i];

@@ -1,9 +1,9 @@
-// Numbers of 2, 4 and 8 bytes in a slice, most significant byte first, and bytes written at a place.
+// Numbers of 2, 4 and 8 bytes in a slice, most significant byte first, and bytes written at a place; and the smaller or larger of two numbers.
 //
-// All functions are helpers: the caller shows that the bytes lie inside the slice. A number is one of fewer bytes and another behind it, so one law,
+// The caller shows that the bytes lie inside the slice. A number is one of fewer bytes and another behind it, so one law,
 // over the two widths, serves each of them (proofs/BeLaws).
 ghost use mathlib.Core.Path.{_≡_};
-ghost use Prim.Native.Nat.{_+_, _≤_};
+ghost use Prim.Native.Nat.{_+_, _≤_, min, max};
 ghost use lib.ListN.{length};
 ghost use Rattle.slice_int.specs.Be.{beAt, bytesOf};
 ghost use Rattle.slice_int.specs.Put.{put};
@@ -72,4 +72,25 @@ pub fn put_bytes(out: &mut [u8], at: usize, src: &[u8])
         out[at + i] = src[i];
         i = i + 1;
     }
+}
+
+// The smaller of two lengths or places.
+pub fn min_usize(m: usize, n: usize) -> usize
+    ensures { λ r. ⌜ r ≡ min m n ⌝ }
+{
+    if m < n { m } else { n }
+}
+
+// The smaller of two numbers.
+pub fn min_u64(a: u64, b: u64) -> u64
+    ensures { λ r. ⌜ r ≡ min a b ⌝ }
+{
+    if a < b { a } else { b }
+}
+
+// The larger of two numbers.
+pub fn max_u64(a: u64, b: u64) -> u64
+    ensures { λ r. ⌜ r ≡ max a b ⌝ }
+{
+    if a < b { b } else { a }
 }

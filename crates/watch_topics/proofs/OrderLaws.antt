@@ -2,14 +2,14 @@
 -- (`order-trans`, `before-trans`); what a loop over both lists asks at the index i, by bytes and by words (`order-word`,
 -- `order-word-less`, `end-..`), and how a word is read (`word-..`).
 -- Assumes nothing.
-use Prim.Native.Nat.{ℕ, suc, _+_, _-_, _*_, _^_, _≤_, _<_}
+use Prim.Native.Nat.{ℕ, suc, _+_, _-_, _*_, _^_, _≤_, _<_, min}
 use native.Mathlib.Nat.{mul-le-mul-right, suc-mul}
 use native.Mathlib.Decide.{decLe}
 use native.Mathlib.Numerals.{add-one}
 use native.Mathlib.Omega.{arith}
 use mathlib.Core.Path.{_≡_, refl, sym, ap, ap₂, _∙_}
 use mathlib.Core.Bool.{Bool, true, false, cond, false≢true}
-use mathlib.Core.Logic.{_⊎_, inl, inr, ⊎-elim}
+use mathlib.Core.Logic.{_⊎_, inl, inr}
 use mathlib.Core.List.{List, [], _∷_, _++_}
 use lib.ListN.{length, take, drop, getD, length-take, length-drop, take-append-drop, drop-of-length-le}
 use lib.Seq.{drop-cons, drop-drop, length-take-le, take-add, take-take}
@@ -23,7 +23,6 @@ use Rattle.slice_int.proofs.BeLaws.{be-nil, be-append, be-snoc, be-at-one, be-a
 use Rattle.watch_topics.specs.declared.Order.{Order}
 use Rattle.watch_topics.specs.declared.Order.the-variants.{Less, Equal, Greater}
 use Rattle.watch_topics.specs.Topics.{order, byOrder, before}
-use Rattle.watch_topics.specs.Alike.{Shorter}
 
 -- ---- the three answers
 
@@ -286,7 +285,7 @@ order-word-less w a b i ba bb h k e =
 
 -- ---- the last word of the shorter one, whose n bytes before it are alike
 
-module _ (a b : List ℕ) (n : ℕ) (h : 8 ≤ n) (s : Shorter (length a) (length b) n) (e : take (n - 8) a ≡ take (n - 8) b) (ba : Bytes a) (bb : Bytes b)
+module _ (a b : List ℕ) (n : ℕ) (h : 8 ≤ n) (s : n ≡ min (length a) (length b)) (e : take (n - 8) a ≡ take (n - 8) b) (ba : Bytes a) (bb : Bytes b)
     (x y : ℕ) (f : x ≡ beAt 8 a (n - 8)) (g : y ≡ beAt 8 b (n - 8)) where
   at-end : n - 8 + 8 ≡ n
   at-end = omega arith
@@ -294,32 +293,32 @@ module _ (a b : List ℕ) (n : ℕ) (h : 8 ≤ n) (s : Shorter (length a) (lengt
   pub end-less : x < y → order a b ≡ Less
   end-less l =
       order-behind a b (n - 8) e
-      ∙ order-word-less 8 a b (n - 8) ba bb (omega (arith, s .first)) (omega (arith, s .second)) (omega (arith, f, g))
+      ∙ order-word-less 8 a b (n - 8) ba bb (omega (arith, s)) (omega (arith, s)) (omega (arith, f, g))
 
   pub end-greater : y < x → order a b ≡ Greater
   end-greater l =
       order-behind a b (n - 8) e
       ∙ less-flip (drop (n - 8) b) (drop (n - 8) a)
-      (order-word-less 8 b a (n - 8) bb ba (omega (arith, s .second)) (omega (arith, s .first)) (omega (arith, f, g)))
+      (order-word-less 8 b a (n - 8) bb ba (omega (arith, s)) (omega (arith, s)) (omega (arith, f, g)))
 
   module _ (l : x ≤ y) (m : y ≤ x) where
     behind-end : order a b ≡ order (drop n a) (drop n b)
     behind-end =
         order-behind a b (n - 8) e
-        ∙ order-word 8 a b (n - 8) ba bb (omega (arith, s .first)) (omega (arith, s .second)) (omega (arith, f, g))
+        ∙ order-word 8 a b (n - 8) ba bb (omega (arith, s)) (omega (arith, s)) (omega (arith, f, g))
         ∙ ap (λ (k : ℕ). order (drop k a) (drop k b)) at-end
 
     first-ends : length a ≤ length b → length a ≤ n
-    first-ends q = ⊎-elim (λ z. omega arith) (λ z. omega arith) (s .is-one)
+    first-ends q = omega (arith, s)
 
     second-ends : length b ≤ length a → length b ≤ n
-    second-ends q = ⊎-elim (λ z. omega arith) (λ z. omega arith) (s .is-one)
+    second-ends q = omega (arith, s)
 
     pub end-shorter : length a < length b → order a b ≡ Less
-    end-shorter q = let d = first-ends (omega arith) in behind-end ∙ order-shorter a b n d (omega (arith, s .first, d))
+    end-shorter q = let d = first-ends (omega arith) in behind-end ∙ order-shorter a b n d (omega (arith, s, d))
 
     pub end-longer : length b < length a → order a b ≡ Greater
-    end-longer q = let d = second-ends (omega arith) in behind-end ∙ order-longer a b n (omega (arith, s .second, d)) d
+    end-longer q = let d = second-ends (omega arith) in behind-end ∙ order-longer a b n (omega (arith, s, d)) d
 
     pub end-equal : length a ≤ length b → length b ≤ length a → order a b ≡ Equal
     end-equal q r = behind-end ∙ order-end a b n (first-ends q) (second-ends r)

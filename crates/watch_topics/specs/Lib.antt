@@ -1,4 +1,3 @@
 pub mod Topics
-pub mod Alike
 pub mod Packed
 pub mod Skipped

@@ -1,10 +1,9 @@
 // Topics in byte order, and a packed set of them: each topic a length of 16 bits and its bytes.
 ghost use mathlib.Core.Path.{_≡_};
 ghost use mathlib.Core.Bool.{true, _&&_};
-ghost use Prim.Native.Nat.{_+_, _-_, _≤_};
+ghost use Prim.Native.Nat.{_+_, _-_, _≤_, min};
 ghost use lib.ListN.{length, take, drop};
 ghost use Rattle.watch_topics.specs.Topics.{order, before, rising};
-ghost use Rattle.watch_topics.specs.Alike.{Shorter};
 ghost use Rattle.watch_topics.specs.Skipped.{Skipped};
 ghost use Rattle.watch_topics.specs.declared.Order.the-variants.{Less};
 ghost use Rattle.watch_topics.specs.Packed.{decodeTopics, isWhole, allUtf8, isSet, topicPlace};
@@ -48,16 +47,9 @@ fn compare_bytes(a: &[u8], b: &[u8]) -> Order
     }
 }
 
-// The shorter of two lengths.
-fn shorter(a: usize, b: usize) -> usize
-    ensures { λ r. ⌜ Shorter a b r ⌝ }
-{
-    if a < b { a } else { b }
-}
-
 // How a stands to b in byte order, by the last word of the shorter one, whose n bytes are alike before it, and by the lengths.
 fn compare_end(a: &[u8], b: &[u8], n: usize) -> Order
-    requires { ⌜ (8 ≤ n) × Shorter (length (now a)) (length (now b)) n ⌝ }
+    requires { ⌜ (8 ≤ n) × (n ≡ min (length (now a)) (length (now b))) ⌝ }
     requires { ⌜ take (n - 8) (now a) ≡ take (n - 8) (now b) ⌝ }
     ensures { λ r. ⌜ r ≡ order (now (a .entry)) (now (b .entry)) ⌝ }
 {
@@ -100,7 +92,7 @@ fn alike(a: &[u8], b: &[u8], last: usize) -> usize
 pub fn compare(a: &[u8], b: &[u8]) -> Order
     ensures { λ r. ⌜ r ≡ order (now (a .entry)) (now (b .entry)) ⌝ }
 {
-    let n = shorter(a.len(), b.len());
+    let n = slice_int::min_usize(a.len(), b.len());
     if n < 8 {
         return compare_bytes(a, b);
     }
@@ -134,7 +126,7 @@ pub fn is_before(a: &[u8], b: &[u8]) -> bool
 fn is_before_by_word(a: &[u8], b: &[u8]) -> bool
     ensures { λ r. ⌜ (r ≡ true → order (now (a .entry)) (now (b .entry)) ≡ Less) ⌝ }
 {
-    let n = shorter(a.len(), b.len());
+    let n = slice_int::min_usize(a.len(), b.len());
     if n < 8 {
         return false;
     }

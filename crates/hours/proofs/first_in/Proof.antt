@@ -12,8 +12,8 @@ returns : tie.Need-returns
 returns c = let r = c .before .before in
     let a = r .before .before .args in
     let ws = spansOf (a .n) (drop (a .at) (a .s .now)) in
-    first-late (r .later .result) (a .term .end) ws (c .if1 .taken)
-    ∙ first-in (a .term) ws (a .second) (r .later .result) (r .later .ensures)
+    first-late (r .max-u64 .result) (a .term .end) ws (c .if1 .taken)
+    ∙ first-in (a .term) ws (a .second) (r .max-u64 .result) (r .max-u64 .ensures)
 
 returns-2 : tie.Need-returns-2
 returns-2 c = let w = c .before .before in
@@ -21,9 +21,9 @@ returns-2 c = let w = c .before .before in
     let r = e .before .before in
     let a = r .before .before .args in
     let ws = spansOf (a .n) (drop (a .at) (a .s .now)) in
-    first-there (r .later .result) (a .term .end) ws (e .if1 .left) (w .least-wait .result) (w .least-wait .ensures)
+    first-there (r .max-u64 .result) (a .term .end) ws (e .if1 .left) (w .least-wait .result) (w .least-wait .ensures)
     (c .if2 .taken)
-    ∙ first-in (a .term) ws (a .second) (r .later .result) (r .later .ensures)
+    ∙ first-in (a .term) ws (a .second) (r .max-u64 .result) (r .max-u64 .ensures)
 
 returns-3 : tie.Need-returns-3
 returns-3 c = let w = c .before .before in
@@ -31,9 +31,9 @@ returns-3 c = let w = c .before .before in
     let r = e .before .before in
     let a = r .before .before .args in
     let ws = spansOf (a .n) (drop (a .at) (a .s .now)) in
-    first-not (r .later .result) (a .term .end) ws (e .if1 .left) (w .least-wait .result) (w .least-wait .ensures)
+    first-not (r .max-u64 .result) (a .term .end) ws (e .if1 .left) (w .least-wait .result) (w .least-wait .ensures)
     (c .if2 .left)
-    ∙ first-in (a .term) ws (a .second) (r .later .result) (r .later .ensures)
+    ∙ first-in (a .term) ws (a .second) (r .max-u64 .result) (r .max-u64 .ensures)
 
 pub first-in-spec : {M : Type 1} → statement M
 first-in-spec =

@@ -58,8 +58,8 @@ loop-again c = let f = c .before in
     ≡ min (firstIn (r .span-at .result) ws (a .second)) (firstOf xs ws (a .second)) =
     ap (λ (ys : List Span). firstOf ys ws (a .second)) (turn r) ∙ of-first (r .span-at .result) xs (a .second) ws in (
       omega arith,
-      omega (arith, l .loop .inv .1, c .lesser .ensures, f .first-in .ensures),
-      omega (arith, c .lesser .ensures),
+      omega (arith, l .loop .inv .1, c .min-u64 .ensures, f .first-in .ensures),
+      omega (arith, c .min-u64 .ensures),
     )
 
 returns : tie.Need-returns Inv-loop μ-loop

@@ -65,8 +65,8 @@ loop-again c = let w = c .before in
     ap (λ (ys : List Span). leastWait ys (a .moment)) (turn r) ∙ wait-first (r .span-at .result) xs (a .moment) in (
       omega arith,
       first r .1,
-      omega (arith, l .loop .inv .2, c .lesser .ensures, w .wait-for .ensures),
-      omega (arith, c .lesser .ensures),
+      omega (arith, l .loop .inv .2, c .min-u64 .ensures, w .wait-for .ensures),
+      omega (arith, c .min-u64 .ensures),
     )
 
 returns : tie.Need-returns Inv-loop μ-loop

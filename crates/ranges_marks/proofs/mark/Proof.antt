@@ -17,7 +17,7 @@ loop-holds : tie.Need-loop-holds Inv-loop μ-loop
 loop-holds c = let a = c .before .before .before in turn-start (a .args .marks .now) _ _ (a .pre) (omega arith)
 
 mask-requires : tie.Need-mask-requires Inv-loop μ-loop
-mask-requires c κs = let l = c .before .before in let k = counted (l .loop .inv) (c .before .loop-test .taken) _ (c .least .ensures) in (k .0, k .1)
+mask-requires c κs = let l = c .before .before in let k = counted (l .loop .inv) (c .before .loop-test .taken) _ (c .min-u64 .ensures) in (k .0, k .1)
 
 slice-read-word : tie.Need-slice-read-word Inv-loop μ-loop
 slice-read-word c = omega (arith, c .before .before .before .before .loop .inv .long, c .before .before .before .before .loop .inv .few)
@@ -32,7 +32,7 @@ returns c =
     let k = c .before .before .before in
     let l = k .before .before in
     let a = l .before .before .before .before in
-    marking-found {r = a .args .range} (l .loop .inv) (a .pre) (turn-found (l .loop .inv) (k .before .loop-test .taken) _ (k .least .ensures)
+    marking-found {r = a .args .range} (l .loop .inv) (a .pre) (turn-found (l .loop .inv) (k .before .loop-test .taken) _ (k .min-u64 .ensures)
     (rw (c .before .before .mask .ensures) at (c .if1 .taken)))
 
 slice-write-marks : tie.Need-slice-write-marks Inv-loop μ-loop
@@ -42,7 +42,7 @@ loop-again : tie.Need-loop-again Inv-loop μ-loop
 loop-again c =
     let k = c .before .before .before in
     let l = k .before .before in
-    rw (c .before .before .mask .ensures) (turn-next (l .loop .inv) (k .before .loop-test .taken) _ (k .least .ensures)
+    rw (c .before .before .mask .ensures) (turn-next (l .loop .inv) (k .before .loop-test .taken) _ (k .min-u64 .ensures)
     (rw (c .before .before .mask .ensures) at (c .if1 .left)))
 
 returns-2 : tie.Need-returns-2 Inv-loop μ-loop

@@ -22,8 +22,8 @@ returns c = c .compare-bytes .ensures
 
 alike-requires : tie.Need-alike-requires Inv-loop μ-loop
 alike-requires c κs =
-    let m = c .before .shorter .ensures in
-    (omega (arith, c .if1 .left, m .first), omega (arith, c .if1 .left, m .second))
+    let m = c .before .min-usize .ensures in
+    (omega (arith, c .if1 .left, m), omega (arith, c .if1 .left, m))
 
 loop-holds : tie.Need-loop-holds Inv-loop μ-loop
 loop-holds c = (omega (arith, c .alike .ensures .0), c .alike .ensures .1)
@@ -32,10 +32,10 @@ sub-loop : tie.Need-sub-loop Inv-loop μ-loop
 sub-loop c = omega (arith, c .loop .inv .0)
 
 read-u64-requires : tie.Need-read-u64-requires Inv-loop μ-loop
-read-u64-requires c κs = omega (arith, c .before .loop .inv .0, c .before .before .before .before .shorter .ensures .first)
+read-u64-requires c κs = omega (arith, c .before .loop .inv .0, c .before .before .before .before .min-usize .ensures)
 
 read-u64-requires-2 : tie.Need-read-u64-requires-2 Inv-loop μ-loop
-read-u64-requires-2 c κs = omega (arith, c .before .before .loop .inv .0, c .before .before .before .before .before .shorter .ensures .second)
+read-u64-requires-2 c κs = omega (arith, c .before .before .loop .inv .0, c .before .before .before .before .before .min-usize .ensures)
 
 returns-2 : tie.Need-returns-2 Inv-loop μ-loop
 returns-2 c =
@@ -45,13 +45,13 @@ returns-2 c =
     let k = h .before in
     let a = k .before .before .args in
     let i = l .loop .i in
-    let m = h .shorter .ensures in
+    let m = h .min-usize .ensures in
     let x = r .before .read-u64 .ensures in
     let y = r .read-u642 .ensures in
     sym
     (order-behind (a .a .now) (a .b .now) i (l .loop .inv .1)
     ∙ order-word-less 8 (a .a .now) (a .b .now) i (λ j. k .before .shared-slice-known .given j .fits)
-    (λ j. k .shared-slice-known2 .given j .fits) (omega (arith, l .loop .inv .0, m .first)) (omega (arith, l .loop .inv .0, m .second))
+    (λ j. k .shared-slice-known2 .given j .fits) (omega (arith, l .loop .inv .0, m)) (omega (arith, l .loop .inv .0, m))
     (omega (arith, x, y)))
 
 returns-3 : tie.Need-returns-3 Inv-loop μ-loop
@@ -62,14 +62,14 @@ returns-3 c =
     let k = h .before in
     let a = k .before .before .args in
     let i = l .loop .i in
-    let m = h .shorter .ensures in
+    let m = h .min-usize .ensures in
     let x = r .before .read-u64 .ensures in
     let y = r .read-u642 .ensures in
     sym
     (order-behind (a .a .now) (a .b .now) i (l .loop .inv .1)
     ∙ less-flip (drop i (a .b .now)) (drop i (a .a .now))
     (order-word-less 8 (a .b .now) (a .a .now) i (λ j. k .shared-slice-known2 .given j .fits)
-    (λ j. k .before .shared-slice-known .given j .fits) (omega (arith, l .loop .inv .0, m .second)) (omega (arith, l .loop .inv .0, m .first))
+    (λ j. k .before .shared-slice-known .given j .fits) (omega (arith, l .loop .inv .0, m)) (omega (arith, l .loop .inv .0, m))
     (omega (arith, x, y))))
 
 add-i : tie.Need-add-i Inv-loop μ-loop
@@ -86,13 +86,13 @@ loop-again c =
     let k = h .before in
     let a = k .before .before .args in
     let i = l .loop .i in
-    let m = h .shorter .ensures in
+    let m = h .min-usize .ensures in
     let x = r .before .read-u64 .ensures in
     let y = r .read-u642 .ensures in
     let e : beAt 8 (a .a .now) i ≡ beAt 8 (a .b .now) i = omega (arith, x, y) in (
       omega (arith, l .loop .inv .0),
       front-word 8 (a .a .now) (a .b .now) i (λ j. k .before .shared-slice-known .given j .fits)
-          (λ j. k .shared-slice-known2 .given j .fits) (omega (arith, l .loop .inv .0, m .first)) (omega (arith, l .loop .inv .0, m .second))
+          (λ j. k .shared-slice-known2 .given j .fits) (omega (arith, l .loop .inv .0, m)) (omega (arith, l .loop .inv .0, m))
           (l .loop .inv .1) e,
     )
 
@@ -101,9 +101,9 @@ compare-end-requires c κs =
     let l = c .before in
     let h = l .before .before .before in
     let a = h .before .before .before .args in
-    let n = h .shorter .result in
+    let n = h .min-usize .result in
     let w = l .before .before .if1 .left in (
-      ((omega (arith, w)), h .shorter .ensures),
+      ((omega (arith, w)), h .min-usize .ensures),
       front-part (a .a .now) (a .b .now) (l .loop .i) (n - 8) (omega (arith, l .loop .inv .0))
           (l .loop .inv .1),
     )

@@ -20,12 +20,12 @@ returns-2 c =
     let h = c .before .before .before .before in
     let k = h .before in
     let a = k .before .before .args in
-    let m = h .shorter .ensures in
+    let m = h .min-usize .ensures in
     λ e.
     (order-behind (a .a .now) (a .b .now) (i .result) (i .ensures .1)
     ∙ order-word-less 8 (a .a .now) (a .b .now) (i .result) (λ j. k .before .shared-slice-known .given j .fits)
-    (λ j. k .shared-slice-known2 .given j .fits) (omega (arith, i .ensures .0, m .first, c .before .before .before .if1 .left))
-    (omega (arith, i .ensures .0, m .second, c .before .before .before .if1 .left))
+    (λ j. k .shared-slice-known2 .given j .fits) (omega (arith, i .ensures .0, m, c .before .before .before .if1 .left))
+    (omega (arith, i .ensures .0, m, c .before .before .before .if1 .left))
     (omega (arith, ltb-true (x .result) (y .result) e, x .ensures, y .ensures)))
 
 pub is-before-by-word-spec : {M : Type 1} → statement M
