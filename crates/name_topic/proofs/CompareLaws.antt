@@ -23,7 +23,7 @@ use Rattle.slice.proofs.PartLaws.{Bytes, drop-take}
 use Rattle.slice.proofs.SameLaws.{same-refl, same-eq, same-length, same-append, same-part}
 use Rattle.slice_int.specs.Be.{be, beFrom, beAt, bytesOf}
 use Rattle.slice_int.proofs.BeLaws.{bytesOf-be}
-use Rattle.name_parents.proofs.WordLaws.{word-same, word-other}
+use Rattle.slice_int.proofs.WordLaws.{word-same, word-other}
 use Rattle.name_topic.specs.Names.{segmentScheme, hexDigit, hex4, decimalWithin, decimal, descriptor, segmentTopic}
 use Rattle.name_topic.proofs.NameLaws.{hex4-length, decimal-nonempty, descriptor-length, segmentTopic-length, decimal-next, decimal-end, digits-fewer}
 

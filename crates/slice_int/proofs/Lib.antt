@@ -1,3 +1,4 @@
 pub mod BeLaws
 pub mod PutLaws
 pub mod WidthLaws
+pub mod WordLaws

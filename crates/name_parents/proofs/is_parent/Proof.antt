@@ -7,8 +7,8 @@ use borrow.Author.Needs.{needs}
 use Rattle.slice.specs.Same.{startsWith}
 use Rattle.slice.proofs.SameLaws.{starts-short}
 use Rattle.slice_int.specs.Be.{be, beFrom, bytesOf}
+use Rattle.slice_int.proofs.WordLaws.{word-same, word-other}
 use Rattle.name_parents.specs.Parents.{topicScheme}
-use Rattle.name_parents.proofs.WordLaws.{word-same, word-other}
 use Rattle.name_parents.proofs.PathLaws.{parent-is, parent-not}
 use Rattle.name_parents.proofs.is_parent.Statement.{statement}
 use Rattle.name_parents.proofs.is_parent.Tie as tie
