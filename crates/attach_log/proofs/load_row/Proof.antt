@@ -9,10 +9,6 @@ use Rattle.attach_log.specs.Steps.{sizeFirst, Loading}
 use Rattle.attach_log.proofs.PartLaws.{size-least-first, load-start, load-inside, load-turn}
 use Rattle.attach_log.proofs.load_row.Statement.{statement}
 use Rattle.attach_log.proofs.load_row.Tie as tie
-use Rattle.attach_log.proofs.load_row.Reads as reads
-use Rattle.attach_log.proofs.load_row.Lts as lts
-use Rattle.attach_log.proofs.size_first.Reads as size-first-reads
-use Rattle.slice_int.proofs.read_u64.Reads as read-u64-reads
 
 abbrev Inv-loop : tie.InvT-loop
 Inv-loop s at n attach ids₀ next₀ count₀ ids next count = Loading attach s at n next count ids × (length ids ≡ length ids₀)
@@ -20,14 +16,8 @@ Inv-loop s at n attach ids₀ next₀ count₀ ids next count = Loading attach s
 abbrev μ-loop : tie.MeasureT-loop
 μ-loop s at n attach ids₀ next₀ count₀ ids next count = n - count
 
-abbrev claims : lts.Claims
-claims = (read-u64-reads.Asked, read-u64-reads.Learnt, size-first-reads.Asked, size-first-reads.Learnt)
-
 -- the place where an id is left
-abbrev Else : Type 0
-Else = lts.Else1 claims reads.Pre reads.Post Inv-loop μ-loop
-
-inside : (c : Else) → let l = c .before .before in
+inside : (c : tie.Else1 Inv-loop μ-loop) → let l = c .before .before in
     let a = l .before .before .before .args in
     l .loop .next + sizeFirst (a .attach) (drop (l .loop .next) (a .s .now)) ≤ length (a .s .now)
 inside c =

@@ -9,10 +9,6 @@ use borrow.Author.Tests.{not-true, not-false}
 use Rattle.attach_log.proofs.PartLaws.{Left, left-start, left-none, row-sorted, row-missing, row-further}
 use Rattle.attach_log.proofs.rows_in.Statement.{statement}
 use Rattle.attach_log.proofs.rows_in.Tie as tie
-use Rattle.attach_log.proofs.rows_in.Reads as reads
-use Rattle.attach_log.proofs.rows_in.Lts as lts
-use Rattle.attach_log.proofs.load_row.Reads as load-row-reads
-use Rattle.attach_rows.proofs.row_in.Reads as row-in-reads
 
 abbrev Inv-loop : tie.InvT-loop
 Inv-loop s at n attach log q m ids₀ p₀ left₀ ids p left = (length ids ≡ 4096) × Left attach s at n log q m p left
@@ -20,14 +16,11 @@ Inv-loop s at n attach log q m ids₀ p₀ left₀ ids p left = (length ids ≡ 
 abbrev μ-loop : tie.MeasureT-loop
 μ-loop s at n attach log q m ids₀ p₀ left₀ ids p left = left
 
-abbrev claims : lts.Claims
-claims = (load-row-reads.Asked, load-row-reads.Learnt, row-in-reads.Asked, row-in-reads.Learnt)
-
 -- the place where a row is loaded
 abbrev Loaded : Type 0
-Loaded = lts.After-load-row claims reads.Pre reads.Post Inv-loop μ-loop
+Loaded = tie.After-load-row Inv-loop μ-loop
 
-abbrev turn : Loaded → lts.At-loop claims reads.Pre reads.Post Inv-loop μ-loop
+abbrev turn : Loaded → tie.At-loop Inv-loop μ-loop
 turn c = c .before .before .before
 
 -- the row has as many places as before

@@ -11,16 +11,9 @@ use Rattle.attach_rows.specs.Rows.{entryFor}
 use Rattle.attach_rows.proofs.MarkLaws.{marked-all}
 use Rattle.attach_rows.proofs.row_in.Statement.{statement}
 use Rattle.attach_rows.proofs.row_in.Tie as tie
-use Rattle.attach_rows.proofs.row_in.Reads as reads
-use Rattle.attach_rows.proofs.row_in.Lts as lts
-use Rattle.attach_rows.proofs.all_set.Reads as all-set-reads
-use Rattle.attach_rows.proofs.mark_entries.Reads as mark-entries-reads
-
-abbrev claims : lts.Claims
-claims = (mark-entries-reads.Asked, mark-entries-reads.Learnt, all-set-reads.Asked, all-set-reads.Learnt)
 
 -- there is a mark for each id
-fits : (k : lts.After-mark-entries claims reads.Pre reads.Post)
+fits : (k : tie.After-mark-entries)
     → length (k .before .before .before .before .args .ids .now) ≤ length (k .mark-entries .last .1 .1 .1 .1 .1 .0)
 fits k =
     let e : length (k .mark-entries .last .1 .1 .1 .1 .1 .0) ≡ 4096 = k .mark-entries .kept .1 .1 .1 .1 .1 .0 in

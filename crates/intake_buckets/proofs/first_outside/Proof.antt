@@ -9,11 +9,6 @@ use Rattle.wire_values.specs.Places.{NextPart}
 use Rattle.intake_buckets.proofs.RowLaws.{Within, within-start, within-end, within-low, within-high, within-next}
 use Rattle.intake_buckets.proofs.first_outside.Statement.{statement}
 use Rattle.intake_buckets.proofs.first_outside.Tie as tie
-use Rattle.intake_buckets.proofs.first_outside.Reads as reads
-use Rattle.intake_buckets.proofs.first_outside.Lts as lts
-use Rattle.intake_scan.proofs.read_bucket.Reads as range-reads
-use Rattle.intake_scan.proofs.key_range_of.Reads as key-range-reads
-use Rattle.wire_values.proofs.next_part.Reads as next-part-reads
 
 abbrev Inv-loop : tie.InvT-loop
 Inv-loop p range index₀ at₀ index at = Within p range index at
@@ -24,10 +19,7 @@ abbrev μ-loop : tie.MeasureT-loop
 -- the place where the next part is looked for
 abbrev Read : Type 0
 Read =
-    lts.After-next-part
-    (next-part-reads.Asked, next-part-reads.Learnt, range-reads.Asked, range-reads.Learnt, key-range-reads.Asked, key-range-reads.Learnt)
-    reads.Pre
-    reads.Post
+    tie.After-next-part
     Inv-loop
     μ-loop
 

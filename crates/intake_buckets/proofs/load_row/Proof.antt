@@ -8,11 +8,6 @@ use Rattle.wire_values.specs.Places.{NextPart}
 use Rattle.intake_buckets.proofs.RowLaws.{Loading, loading-start, loading-next, loaded-none, loaded-full}
 use Rattle.intake_buckets.proofs.load_row.Statement.{statement}
 use Rattle.intake_buckets.proofs.load_row.Tie as tie
-use Rattle.intake_buckets.proofs.load_row.Reads as reads
-use Rattle.intake_buckets.proofs.load_row.Lts as lts
-use Rattle.intake_scan.proofs.read_bucket.Reads as range-reads
-use Rattle.intake_scan.proofs.key_range_of.Reads as key-range-reads
-use Rattle.wire_values.proofs.next_part.Reads as next-part-reads
 
 abbrev Inv-loop : tie.InvT-loop
 Inv-loop p at row₀ count₀ next₀ row count next = Loading p at row count next
@@ -23,10 +18,7 @@ abbrev μ-loop : tie.MeasureT-loop
 -- the place where the next part is looked for
 abbrev Read : Type 0
 Read =
-    lts.After-next-part
-    (next-part-reads.Asked, next-part-reads.Learnt, range-reads.Asked, range-reads.Learnt, key-range-reads.Asked, key-range-reads.Learnt)
-    reads.Pre
-    reads.Post
+    tie.After-next-part
     Inv-loop
     μ-loop
 

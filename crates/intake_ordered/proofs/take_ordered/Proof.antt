@@ -10,31 +10,10 @@ use Rattle.intake_ordered.proofs.TakeLaws.{segments-few, segments-ready
 use borrow.Author.Needs.{needs}
 use Rattle.intake_ordered.proofs.take_ordered.Statement.{statement}
 use Rattle.intake_ordered.proofs.take_ordered.Tie as tie
-use Rattle.intake_ordered.proofs.take_ordered.Reads as reads
-use Rattle.intake_ordered.proofs.take_ordered.Lts as lts
-use Rattle.slice_int.proofs.write_u16.Reads as write-u16-reads
-use Rattle.slice_int.proofs.write_u64.Reads as write-u64-reads
-use Rattle.name_parents.proofs.is_parent.Reads as is-parent-reads
-use Rattle.wire_ordered.proofs.number_at.Reads as number-at-reads
-use Rattle.intake_ordered.proofs.take_segments.Reads as take-segments-reads
-use Rattle.packed_sort.proofs.order_records.Reads as order-records-reads
 
 -- all segments are taken
 abbrev Taken : Type 0
-Taken = lts.After-known-told2 (
-  is-parent-reads.Asked,
-  is-parent-reads.Learnt,
-  number-at-reads.Asked,
-  number-at-reads.Learnt,
-  take-segments-reads.Asked,
-  take-segments-reads.Learnt,
-  order-records-reads.Asked,
-  order-records-reads.Learnt,
-  write-u16-reads.Asked,
-  write-u16-reads.Learnt,
-  write-u64-reads.Asked,
-  write-u64-reads.Learnt,
-) reads.Pre reads.Post
+Taken = tie.After-known-told2
 
 abbrev start : Taken → tie.Start
 start c = c .before .before .before .before .before .before .before .before .before .before .before .before .before .before .before .before

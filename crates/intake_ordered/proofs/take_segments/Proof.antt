@@ -13,11 +13,6 @@ use Rattle.intake_ordered.specs.Walk.{SegmentTaken, SegmentIs, SegmentsF
 use Rattle.intake_ordered.proofs.TakeLaws.{segment-long, segment-kept, segments-count, segments-end, segments-next}
 use Rattle.intake_ordered.proofs.take_segments.Statement.{statement}
 use Rattle.intake_ordered.proofs.take_segments.Tie as tie
-use Rattle.intake_ordered.proofs.take_segments.Reads as reads
-use Rattle.intake_ordered.proofs.take_segments.Lts as lts
-use Rattle.wire_ordered.proofs.part_at.Reads as part-at-reads
-use Rattle.intake_ordered.proofs.take_segment.Reads as take-segment-reads
-use Rattle.intake_ordered.proofs.and.Reads as and-reads
 
 abbrev Inv-loop : tie.InvT-loop
 Inv-loop s first parent b₀ at₀ low₀ used₀ count₀ rising₀ b at low used count rising =
@@ -29,33 +24,13 @@ abbrev μ-loop : tie.MeasureT-loop
 μ-loop s first parent b₀ at₀ low₀ used₀ count₀ rising₀ b at low used count rising = length s - at
 
 -- field 2 is there
-abbrev Found : Type 0
-Found = lts.After-known-told (
-  part-at-reads.Asked,
-  part-at-reads.Learnt,
-  take-segment-reads.Asked,
-  take-segment-reads.Learnt,
-  and-reads.Asked,
-  and-reads.Learnt,
-) reads.Pre reads.Post Inv-loop μ-loop
-
-found : (c : Found)
+found : (c : tie.After-known-told Inv-loop μ-loop)
     → let loop = c .before .before .before .before .before in
     PartField 2 (loop .before .before .before .before .args .s .now) (loop .loop .at) (c .before .from .given .0 .0) (c .before .from .given .0 .1 .0)
 found c = subst (PartIs 2 _ _) (c .before .from .given .1) (c .before .before .before .part-at .ensures)
 
 -- and a segment in it
-abbrev Taken : Type 0
-Taken = lts.After-known-told2 (
-  part-at-reads.Asked,
-  part-at-reads.Learnt,
-  take-segment-reads.Asked,
-  take-segment-reads.Learnt,
-  and-reads.Asked,
-  and-reads.Learnt,
-) reads.Pre reads.Post Inv-loop μ-loop
-
-taken : (c : Taken)
+taken : (c : tie.After-known-told2 Inv-loop μ-loop)
     → let part = c .before .before .before .before .before .before .before .before .before in
     let from = part .from .given .0 .0 in
     let loop = part .before .before .before .before in

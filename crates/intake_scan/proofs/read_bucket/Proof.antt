@@ -10,24 +10,11 @@ use mir.Val.{toZ, ofZ}
 use Rattle.intake_scan.proofs.RangeLaws.{VarintAt, varint-at, usual-range}
 use Rattle.intake_scan.proofs.read_bucket.Statement.{statement}
 use Rattle.intake_scan.proofs.read_bucket.Tie as tie
-use Rattle.intake_scan.proofs.read_bucket.Reads as reads
-use Rattle.intake_scan.proofs.read_bucket.Lts as lts
-use Rattle.wire_readers.proofs.read_range.Reads as read-range-reads
-use Rattle.wire_values.proofs.int32.Reads as int32-reads
-use Rattle.wire.proofs.read_short_varint.Reads as read-short-varint-reads
 
 -- the place where the start is read
 abbrev One : Type 0
 One =
-    lts.After-known-told (
-      read-range-reads.Asked,
-      read-range-reads.Learnt,
-      read-short-varint-reads.Asked,
-      read-short-varint-reads.Learnt,
-      int32-reads.Asked,
-      int32-reads.Learnt,
-    )
-    reads.Pre reads.Post
+    tie.After-known-told
 
 abbrev part : One → List ℕ
 part c = c .before .before .before .before .before .before .before .before .before .args .p .now
@@ -41,15 +28,7 @@ first c = varint-at _ _ _ _ (sym (c .before .before .before .read-short-varint .
 -- the place where the end is read
 abbrev Two : Type 0
 Two =
-    lts.After-known-told2 (
-      read-range-reads.Asked,
-      read-range-reads.Learnt,
-      read-short-varint-reads.Asked,
-      read-short-varint-reads.Learnt,
-      int32-reads.Asked,
-      int32-reads.Learnt,
-    )
-    reads.Pre reads.Post
+    tie.After-known-told2
 
 abbrev one : Two → One
 one c = c .before .before .before .before .before .before .before .before

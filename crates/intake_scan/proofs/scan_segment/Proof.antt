@@ -16,13 +16,6 @@ use Rattle.intake_scan.proofs.ScanLaws.{rangesFrom, rangesIn, ranges-ne
 use Rattle.intake_scan.proofs.ScanLaws.{Scanned, scanned-start, scanned-stays, scanned-next, scanned-done}
 use Rattle.intake_scan.proofs.scan_segment.Statement.{statement}
 use Rattle.intake_scan.proofs.scan_segment.Tie as tie
-use Rattle.intake_scan.proofs.scan_segment.Reads as reads
-use Rattle.intake_scan.proofs.scan_segment.Lts as lts
-use Rattle.intake_scan.proofs.next_bucket.Reads as next-bucket-reads
-use Rattle.intake_scan.proofs.no_buckets.Reads as no-buckets-reads
-use Rattle.intake_scan.proofs.read_bucket.Reads as read-bucket-reads
-use Rattle.intake_scan.proofs.segment_scan.Reads as segment-scan-reads
-use Rattle.wire_values.proofs.read_front.Reads as read-front-reads
 
 abbrev Inv-loop : tie.InvT-loop
 Inv-loop p b₀ at room numbers₀ topic-start₀ topic-len₀ run₀ from₀ b numbers topic-start topic-len run from =
@@ -34,19 +27,7 @@ abbrev μ-loop : tie.MeasureT-loop
 -- the place where the front is read
 abbrev Read : Type 0
 Read =
-    lts.After-read-front (
-      no-buckets-reads.Asked,
-      no-buckets-reads.Learnt,
-      read-front-reads.Asked,
-      read-front-reads.Learnt,
-      segment-scan-reads.Asked,
-      segment-scan-reads.Learnt,
-      read-bucket-reads.Asked,
-      read-bucket-reads.Learnt,
-      next-bucket-reads.Asked,
-      next-bucket-reads.Learnt,
-    )
-    reads.Pre reads.Post Inv-loop μ-loop
+    tie.After-read-front Inv-loop μ-loop
 
 abbrev segment : Read → List ℕ
 segment c = c .before .before .before .before .before .before .before .args .p .now
@@ -60,19 +41,7 @@ front c q e = front-at _ _ (c .before .before .loop-test .taken) q (sym (c .read
 -- the place where it is a part
 abbrev Part : Type 0
 Part =
-    lts.After-known-told2 (
-      no-buckets-reads.Asked,
-      no-buckets-reads.Learnt,
-      read-front-reads.Asked,
-      read-front-reads.Learnt,
-      segment-scan-reads.Asked,
-      segment-scan-reads.Learnt,
-      read-bucket-reads.Asked,
-      read-bucket-reads.Learnt,
-      next-bucket-reads.Asked,
-      next-bucket-reads.Learnt,
-    )
-    reads.Pre reads.Post Inv-loop μ-loop
+    tie.After-known-told2 Inv-loop μ-loop
 
 abbrev read : Part → Read
 read c = c .before .before .before

@@ -8,15 +8,12 @@ use borrow.Author.Tests.{not-true, not-false}
 use borrow.Author.Needs.{needs}
 use Rattle.name_parents.specs.Parents.{isParent}
 use Rattle.name_parents.proofs.PathLaws.{parent-long}
-use Rattle.name_topic.proofs.is_segment_topic.Reads as is-segment-topic-reads
-use Rattle.intake_segment.proofs.check_name.Reads as reads
-use Rattle.intake_segment.proofs.check_name.Lts as lts
 use Rattle.intake_segment.proofs.CheckLaws.{name-no-parent, name-valid, name-other}
 use Rattle.intake_segment.proofs.check_name.Statement.{statement}
 use Rattle.intake_segment.proofs.check_name.Tie as tie
 
 abbrev Past : Type 0
-Past = lts.Else1 (is-segment-topic-reads.Asked, is-segment-topic-reads.Learnt) reads.Pre reads.Post
+Past = tie.Else1
 
 -- past the first test, the parent is one
 is-parent : (c : Past) → isParent (c .before .before .before .args .parent .now) ≡ true

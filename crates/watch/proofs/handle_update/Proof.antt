@@ -10,30 +10,15 @@ use Rattle.watch_topics.specs.Packed.{isSet}
 use Rattle.watch.proofs.UpdateLaws.{set-over, set-bad, checked, told-by}
 use Rattle.watch.proofs.handle_update.Statement.{statement}
 use Rattle.watch.proofs.handle_update.Tie as tie
-use Rattle.watch.proofs.handle_update.Reads as reads
-use Rattle.watch.proofs.handle_update.Lts as lts
-use Rattle.watch.proofs.update.Reads as update-reads
-use Rattle.wire_messages.proofs.first_fault.Reads as first-fault-reads
-use Rattle.watch_topics.proofs.is_set.Reads as is-set-reads
 
 returns : tie.Need-returns
 returns c = sym (set-over _ _ _ _ _ (c .if1 .taken))
 
-abbrev claims : lts.Claims
-claims = (
-  is-set-reads.Asked,
-  is-set-reads.Learnt,
-  first-fault-reads.Asked,
-  first-fault-reads.Learnt,
-  update-reads.Asked,
-  update-reads.Learnt,
-)
-
 -- where the set was found well formed
 abbrev Formed : Type 0
-Formed = lts.Else2 claims reads.Pre reads.Post
+Formed = tie.Else2
 
-abbrev start : Formed → lts.Start claims reads.Pre reads.Post
+abbrev start : Formed → tie.Start
 start c = c .before .before .before .before .before .before .before
 
 valid : (c : Formed) → let a = start c .args in isSet (take (a .used) (a .buffer .now)) ≡ true

@@ -10,39 +10,24 @@ use Rattle.watch.proofs.SettleLaws.{set-whole, gone-least, room-none, r
 use Rattle.watch.proofs.ListLaws.{list-added, list-removed}
 use Rattle.watch.proofs.room_for.Statement.{statement}
 use Rattle.watch.proofs.room_for.Tie as tie
-use Rattle.watch.proofs.room_for.Reads as reads
-use Rattle.watch.proofs.room_for.Lts as lts
-use Rattle.watch.proofs.fits.Reads as fits-reads
-use Rattle.watch.proofs.fits_lists.Reads as fits-lists-reads
-use Rattle.watch_lists.proofs.measure.Reads as measure-reads
-
-abbrev claims : lts.Claims
-claims = (
-  fits-lists-reads.Asked,
-  fits-lists-reads.Learnt,
-  measure-reads.Asked,
-  measure-reads.Learnt,
-  fits-reads.Asked,
-  fits-reads.Learnt,
-)
 
 -- where the plain test was made, and where both lists were measured
 abbrev Tested : Type 0
-Tested = lts.After-fits-lists claims reads.Pre reads.Post
+Tested = tie.After-fits-lists
 
-abbrev begun : Tested → lts.Start claims reads.Pre reads.Post
+abbrev begun : Tested → tie.Start
 begun c = c .before .before .before
 
 bytes : (c : Tested) → Bytes (begun c .args .set .now)
 bytes c i = c .before .before .shared-slice-known .given i .fits
 
 abbrev Measured : Type 0
-Measured = lts.After-measure2 claims reads.Pre reads.Post
+Measured = tie.After-measure2
 
 abbrev tested : Measured → Tested
 tested c = c .before .before .before
 
-abbrev start : Measured → lts.Start claims reads.Pre reads.Post
+abbrev start : Measured → tie.Start
 start c = begun (tested c)
 
 gone : (c : Measured) → let a = start c .args in c .before .measure .result ≡ sizeTopics (removedIn (decodeTopics (a .set .now)) (a .p .now))

@@ -11,19 +11,12 @@ use Rattle.watch_topics.specs.Packed.{decodeTopics}
 use Rattle.watch.proofs.DiffLaws.{Written, diff-lists, diff-rises, diff-apart, diff-room, diff-written}
 use Rattle.watch.proofs.write_diff.Statement.{statement}
 use Rattle.watch.proofs.write_diff.Tie as tie
-use Rattle.watch.proofs.write_diff.Reads as reads
-use Rattle.watch.proofs.write_diff.Lts as lts
-use Rattle.watch.proofs.write_lists.Reads as write-lists-reads
-use Rattle.watch.proofs.write_set.Reads as write-set-reads
-
-abbrev claims : lts.Claims
-claims = (write-lists-reads.Asked, write-lists-reads.Learnt, write-set-reads.Asked, write-set-reads.Learnt)
 
 -- where the output was written
 abbrev Wrote : Type 0
-Wrote = lts.After-write-lists claims reads.Pre reads.Post
+Wrote = tie.After-write-lists
 
-abbrev start : Wrote → lts.Start claims reads.Pre reads.Post
+abbrev start : Wrote → tie.Start
 start c = c .before .before .before .before .before .before
 
 bytes : (c : Wrote) → Bytes (start c .args .buffer .now)

@@ -8,19 +8,12 @@ use Rattle.slice.proofs.PartLaws.{Bytes}
 use Rattle.watch.proofs.DiffLaws.{set-rises, taken-long, taken-rises, taken-apart, merged}
 use Rattle.watch.proofs.write_set.Statement.{statement}
 use Rattle.watch.proofs.write_set.Tie as tie
-use Rattle.watch.proofs.write_set.Reads as reads
-use Rattle.watch.proofs.write_set.Lts as lts
-use Rattle.watch_merge.proofs.merge.Reads as merge-reads
-use Rattle.watch_merge.proofs.take_out.Reads as take-out-reads
-
-abbrev claims : lts.Claims
-claims = (take-out-reads.Asked, take-out-reads.Learnt, merge-reads.Asked, merge-reads.Learnt)
 
 -- where the removed topics were taken out
 abbrev Taken : Type 0
-Taken = lts.After-take-out claims reads.Pre reads.Post
+Taken = tie.After-take-out
 
-abbrev start : Taken → lts.Start claims reads.Pre reads.Post
+abbrev start : Taken → tie.Start
 start c = c .before .before .before .before .before
 
 bytes : (c : Taken) → Bytes (start c .args .buffer .now)

@@ -8,13 +8,10 @@ use Rattle.wire.specs.Field.{typedKey, keyOf}
 use Rattle.wire.proofs.FieldLaws.{key-broken, key-large, key-zero, key-typed, typed-other}
 use Rattle.wire.proofs.read_key.Statement.{statement}
 use Rattle.wire.proofs.read_key.Tie as tie
-use Rattle.wire.proofs.read_key.Reads as reads
-use Rattle.wire.proofs.read_key.Lts as lts
-use Rattle.wire.proofs.varint.read_varint.Reads as read-varint-reads
 
 -- the place where the number is known not to be 0
 abbrev Numbered : Type 0
-Numbered = lts.Else2 (read-varint-reads.Asked, read-varint-reads.Learnt) reads.Pre reads.Post
+Numbered = tie.Else2
 
 abbrev varintAt : Numbered → ℕ
 varintAt c = c .before .before .before .v .given .0 .0

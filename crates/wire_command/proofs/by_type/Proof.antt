@@ -11,11 +11,6 @@ use Rattle.wire_command.proofs.CommandLaws.{by-response, by-update, by-
 use borrow.Author.Needs.{needs}
 use Rattle.wire_command.proofs.by_type.Statement.{statement}
 use Rattle.wire_command.proofs.by_type.Tie as tie
-use Rattle.wire_command.proofs.by_type.Reads as reads
-use Rattle.wire_command.proofs.by_type.Lts as lts
-use Rattle.wire_command.proofs.response.Reads as response-reads
-use Rattle.wire_command.proofs.update.Reads as update-reads
-use Rattle.wire_command.proofs.watch_update.Reads as watch-update-reads
 
 -- equal bits are equal integers
 same : {a b : ℤ} → SFits w32 a → ofZ w32 a ≡ ofZ w32 b → toZ w32 (ofZ w32 b) ≡ b → a ≡ b

@@ -10,9 +10,6 @@ use Rattle.wire_command.specs.Shell.{shellFields}
 use Rattle.wire_command.proofs.ShellLaws.{StepAt, step-at, shell-end}
 use Rattle.wire_command.proofs.check_fields.Statement.{statement}
 use Rattle.wire_command.proofs.check_fields.Tie as tie
-use Rattle.wire_command.proofs.check_fields.Reads as reads
-use Rattle.wire_command.proofs.check_fields.Lts as lts
-use Rattle.wire_command.proofs.read_step.Reads as read-step-reads
 
 abbrev Inv-loop : tie.InvT-loop
 Inv-loop s at₀ at = shellFields (fieldsOf s) ≡ shellFields (fieldsOf (drop at s))
@@ -21,10 +18,7 @@ abbrev μ-loop : tie.MeasureT-loop
 μ-loop s at₀ at = length s - at
 
 -- the place where the field is read
-abbrev Read : Type 0
-Read = lts.After-read-step (read-step-reads.Asked, read-step-reads.Learnt) reads.Pre reads.Post Inv-loop μ-loop
-
-step : (c : Read) (q : Step) → c .read-step .result ≡ q
+step : (c : tie.After-read-step Inv-loop μ-loop) (q : Step) → c .read-step .result ≡ q
     → StepAt (c .before .before .before .before .before .args .s .now) (c .before .before .before .loop .at) q
 step c q e = step-at _ _ (c .before .before .loop-test .taken) q (sym (c .read-step .ensures) ∙ e)
 

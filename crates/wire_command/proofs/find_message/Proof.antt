@@ -5,16 +5,9 @@ use Rattle.wire_command.proofs.CommandLaws.{One, one-part, one-message,
 use borrow.Author.Needs.{needs}
 use Rattle.wire_command.proofs.find_message.Statement.{statement}
 use Rattle.wire_command.proofs.find_message.Tie as tie
-use Rattle.wire_command.proofs.find_message.Reads as reads
-use Rattle.wire_command.proofs.find_message.Lts as lts
-use Rattle.wire_command.proofs.find_parts.Reads as find-parts-reads
-use Rattle.wire_values.proofs.number.Reads as number-reads
 
 -- there is one part
-abbrev Then : Type 0
-Then = lts.Then1 (find-parts-reads.Asked, find-parts-reads.Learnt, number-reads.Asked, number-reads.Learnt) reads.Pre reads.Post
-
-one : (c : Then) → let p = c .before .before in
+one : (c : tie.Then1) → let p = c .before .before in
     One (p .before .before .args .s .now) (p .find-parts .result) (placesOf (p .before .before .args .n) (p .before .before .args .s .now))
 one c = one-part _ _ _ (c .before .before .find-parts .ensures) (c .if1 .taken)
 

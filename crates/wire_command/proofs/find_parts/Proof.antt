@@ -12,9 +12,6 @@ use Rattle.wire_values.proofs.FrontLaws.{FrontAt, front-at}
 use Rattle.wire_command.proofs.PlaceLaws.{Held, held-start, held-end, held-on, held-broken, held-part, held-other}
 use Rattle.wire_command.proofs.find_parts.Statement.{statement}
 use Rattle.wire_command.proofs.find_parts.Tie as tie
-use Rattle.wire_command.proofs.find_parts.Reads as reads
-use Rattle.wire_command.proofs.find_parts.Lts as lts
-use Rattle.wire_values.proofs.read_front.Reads as read-front-reads
 
 abbrev Inv-loop : tie.InvT-loop
 Inv-loop s n count₀ start₀ length₀ at₀ count start length at = Held n s at count start length
@@ -23,10 +20,7 @@ abbrev μ-loop : tie.MeasureT-loop
 μ-loop s n count₀ start₀ length₀ at₀ count start length at = list.length s - at
 
 -- the place where the front is read
-abbrev Read : Type 0
-Read = lts.After-read-front (read-front-reads.Asked, read-front-reads.Learnt) reads.Pre reads.Post Inv-loop μ-loop
-
-front : (c : Read) (q : Front) → c .read-front .result ≡ q
+front : (c : tie.After-read-front Inv-loop μ-loop) (q : Front) → c .read-front .result ≡ q
     → FrontAt (c .before .before .before .before .before .args .s .now) (c .before .before .before .loop .at) q
 front c q e = front-at _ _ (c .before .before .loop-test .taken) q (sym (c .read-front .ensures) ∙ e)
 

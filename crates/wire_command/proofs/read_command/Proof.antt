@@ -6,12 +6,6 @@ use Rattle.wire_command.proofs.CommandLaws.{command-broken, command-typ
 use borrow.Author.Needs.{needs}
 use Rattle.wire_command.proofs.read_command.Statement.{statement}
 use Rattle.wire_command.proofs.read_command.Tie as tie
-use Rattle.wire_command.proofs.read_command.Reads as reads
-use Rattle.wire_command.proofs.read_command.Lts as lts
-use Rattle.wire_command.proofs.by_type.Reads as by-type-reads
-use Rattle.wire_command.proofs.check_fields.Reads as check-fields-reads
-use Rattle.wire_values.proofs.int32.Reads as int32-reads
-use Rattle.wire_values.proofs.last_number.Reads as last-number-reads
 
 returns : tie.Need-returns
 returns c = command-broken _ _ (sym (c .before .before .before .check-fields .ensures) ∙ c .before .x .given .1)

@@ -16,28 +16,10 @@ use Rattle.wire_command.specs.Steps.{stepAfter, stepBy}
 use Rattle.wire_command.proofs.ShellLaws.{step-misfit, step-fits, body-room}
 use Rattle.wire_command.proofs.read_step.Statement.{statement}
 use Rattle.wire_command.proofs.read_step.Tie as tie
-use Rattle.wire_command.proofs.read_step.Reads as reads
-use Rattle.wire_command.proofs.read_step.Lts as lts
-use Rattle.wire_command.proofs.shell_value.Reads as shell-value-reads
-use Rattle.wire_schema.proofs.fits_wire.Reads as fits-wire-reads
-use Rattle.wire.proofs.read_body.Reads as read-body-reads
-use Rattle.wire.proofs.read_key.Reads as read-key-reads
-
-abbrev callees : lts.Claims
-callees = (
-  read-key-reads.Asked,
-  read-key-reads.Learnt,
-  shell-value-reads.Asked,
-  shell-value-reads.Learnt,
-  fits-wire-reads.Asked,
-  fits-wire-reads.Learnt,
-  read-body-reads.Asked,
-  read-body-reads.Learnt,
-)
 
 -- the type fits
 abbrev Fit : Type 0
-Fit = lts.Else1 callees reads.Pre reads.Post
+Fit = tie.Else1
 
 key : (c : Fit) → let g = c .before .before .before .before .f .given .0 in
     keyOf (c .before .before .before .before .before .before .before .before .args .s .now) ≡ key-of.Found (g .0) (g .1 .0) (g .1 .1 .0)
@@ -51,7 +33,7 @@ sized c = key-size _ _ _ _ (key c) .1
 
 -- what stands behind the key
 abbrev Read : Type 0
-Read = lts.After-read-body callees reads.Pre reads.Post
+Read = tie.After-read-body
 
 room : (c : Read) (b : Body) → c .read-body .result ≡ b
     → let a = c .before .before .before .before .before .before in

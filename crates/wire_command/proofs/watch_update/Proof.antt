@@ -3,9 +3,6 @@ use mathlib.Core.Path.{sym, _∙_}
 use borrow.Author.Needs.{needs}
 use Rattle.wire_command.proofs.watch_update.Statement.{statement}
 use Rattle.wire_command.proofs.watch_update.Tie as tie
-use Rattle.wire_command.proofs.watch_update.Reads as reads
-use Rattle.wire_command.proofs.watch_update.Lts as lts
-use Rattle.wire_command.proofs.find_message.Reads as find-message-reads
 
 returns : tie.Need-returns
 returns c = let e = sym (c .before .before .before .find-message .ensures) ∙ c .before .start .given .1 in rw e

@@ -6,24 +6,9 @@ use borrow.Author.Needs.{needs}
 use Rattle.wire_field_step.proofs.StepLaws.{head-size, field-behind}
 use Rattle.wire_field_step.proofs.read_field.Statement.{statement}
 use Rattle.wire_field_step.proofs.read_field.Tie as tie
-use Rattle.wire_field_step.proofs.read_field.Reads as reads
-use Rattle.wire_field_step.proofs.read_field.Lts as lts
-use Rattle.wire_field_step.proofs.read_head.Reads as read-head-reads
-use Rattle.wire_field_step.proofs.refused.Reads as refused-reads
-use Rattle.wire_field_step.proofs.value_step.Reads as value-step-reads
 
 -- the key is found
-abbrev Found : Type 0
-Found = lts.After-known-told2 (
-  read-head-reads.Asked,
-  read-head-reads.Learnt,
-  refused-reads.Asked,
-  refused-reads.Learnt,
-  value-step-reads.Asked,
-  value-step-reads.Learnt,
-) reads.Pre reads.Post
-
-sized : (c : Found) → c .before .n .given .0 .0 ≤ length (c .before .before .before .before .before .args .s .now)
+sized : (c : tie.After-known-told2) → c .before .n .given .0 .0 ≤ length (c .before .before .before .before .before .args .s .now)
 sized c = head-size _ _ _ _ _ (sym (c .before .before .before .read-head .ensures) ∙ c .before .n .given .1)
 
 returns : tie.Need-returns

@@ -4,16 +4,13 @@ use Prim.Native.Nat.{_+_}
 use native.Mathlib.Omega.{arith}
 use mathlib.Core.Path.{sym, _∙_}
 use borrow.Author.Needs.{needs}
-use Rattle.wire.proofs.read_short_varint.Reads as read-short-varint-reads
 use Rattle.wire_ordered.specs.Ordered.{NumberIs}
 use Rattle.wire_ordered.proofs.OrderedLaws.{number-field}
 use Rattle.wire_ordered.proofs.number_at.Statement.{statement}
 use Rattle.wire_ordered.proofs.number_at.Tie as tie
-use Rattle.wire_ordered.proofs.number_at.Reads as reads
-use Rattle.wire_ordered.proofs.number_at.Lts as lts
 
 -- the varint is there
-found : (c : lts.After-known-told (read-short-varint-reads.Asked, read-short-varint-reads.Learnt) reads.Pre reads.Post)
+found : (c : tie.After-known-told)
     → NumberIs (c .before .before .before .before .before .before .before .before .before .args .f)
     (c .before .before .before .before .before .before .before .before .before .args .s .now)
     (c .before .before .before .before .before .before .before .before .before .args .at)

@@ -11,13 +11,8 @@ use Rattle.wire_schema.specs.declared.MessageKind.the-variants.{ScalableConsume
 use Rattle.wire_schema.specs.Schema.{valueFor}
 use Rattle.wire_ordered.specs.Ordered.{PartField, PartIs, Passed}
 use Rattle.wire_ordered.proofs.OrderedLaws.{assignment-start, passed-message, passed-end}
-use Rattle.wire_ordered.proofs.number_end.Reads as number-end-reads
-use Rattle.wire_ordered.proofs.part_at.Reads as part-at-reads
-use Rattle.wire_ordered.proofs.ordered_segment.Reads as ordered-segment-reads
 use Rattle.wire_ordered.proofs.ordered_assignment.Statement.{statement}
 use Rattle.wire_ordered.proofs.ordered_assignment.Tie as tie
-use Rattle.wire_ordered.proofs.ordered_assignment.Reads as reads
-use Rattle.wire_ordered.proofs.ordered_assignment.Lts as lts
 
 abbrev Inv-loop : tie.InvT-loop
 Inv-loop s at₀ at = Passed ScalableConsumerAssignment ScalableAssignedSegment 2 s at
@@ -26,17 +21,7 @@ abbrev μ-loop : tie.MeasureT-loop
 μ-loop s at₀ at = length s - at
 
 -- field 2 is there
-abbrev Found : Type 0
-Found = lts.After-known-told (
-  number-end-reads.Asked,
-  number-end-reads.Learnt,
-  part-at-reads.Asked,
-  part-at-reads.Learnt,
-  ordered-segment-reads.Asked,
-  ordered-segment-reads.Learnt,
-) reads.Pre reads.Post Inv-loop μ-loop
-
-found : (c : Found)
+found : (c : tie.After-known-told Inv-loop μ-loop)
     → PartField 2 (c .before .before .before .before .before .before .before .before .before .args .s .now)
     (c .before .before .before .before .before .loop .at) (c .before .from .given .0 .0) (c .before .from .given .0 .1 .0)
 found c = subst (PartIs 2 _ _) (c .before .from .given .1) (c .before .before .before .part-at .ensures)

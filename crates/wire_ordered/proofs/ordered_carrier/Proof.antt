@@ -5,26 +5,11 @@ use mathlib.Core.Bool.{false≢true}
 use borrow.Author.Needs.{needs}
 use Rattle.wire_ordered.specs.Ordered.{PartField, PartIs}
 use Rattle.wire_ordered.proofs.OrderedLaws.{carrier-ordered}
-use Rattle.wire_ordered.proofs.number_end.Reads as number-end-reads
-use Rattle.wire_ordered.proofs.part_at.Reads as part-at-reads
-use Rattle.wire_ordered.proofs.ordered_assignment.Reads as ordered-assignment-reads
 use Rattle.wire_ordered.proofs.ordered_carrier.Statement.{statement}
 use Rattle.wire_ordered.proofs.ordered_carrier.Tie as tie
-use Rattle.wire_ordered.proofs.ordered_carrier.Reads as reads
-use Rattle.wire_ordered.proofs.ordered_carrier.Lts as lts
 
 -- field n is there
-abbrev Found : Type 0
-Found = lts.After-known-told (
-  number-end-reads.Asked,
-  number-end-reads.Learnt,
-  part-at-reads.Asked,
-  part-at-reads.Learnt,
-  ordered-assignment-reads.Asked,
-  ordered-assignment-reads.Learnt,
-) reads.Pre reads.Post
-
-found : (c : Found)
+found : (c : tie.After-known-told)
     → PartField (c .before .before .before .before .before .before .before .args .n)
     (c .before .before .before .before .before .before .before .args .s .now)
     (c .before .before .before .before .before .number-end .result) (c .before .from .given .0 .0) (c .before .from .given .0 .1 .0)

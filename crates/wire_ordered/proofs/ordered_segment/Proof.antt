@@ -11,13 +11,8 @@ use Rattle.wire_schema.specs.declared.MessageKind.the-variants.{ScalableAssigne
 use Rattle.wire_schema.specs.Schema.{valueFor}
 use Rattle.wire_ordered.specs.Ordered.{PartField, PartIs, Passed}
 use Rattle.wire_ordered.proofs.OrderedLaws.{passed-message, passed-end}
-use Rattle.wire_ordered.proofs.part_at.Reads as part-at-reads
-use Rattle.wire_ordered.proofs.ordered_range.Reads as ordered-range-reads
-use Rattle.wire_ordered.proofs.segment_end.Reads as segment-end-reads
 use Rattle.wire_ordered.proofs.ordered_segment.Statement.{statement}
 use Rattle.wire_ordered.proofs.ordered_segment.Tie as tie
-use Rattle.wire_ordered.proofs.ordered_segment.Reads as reads
-use Rattle.wire_ordered.proofs.ordered_segment.Lts as lts
 
 abbrev Inv-loop : tie.InvT-loop
 Inv-loop s at₀ at = Passed ScalableAssignedSegment IntRange 5 s at
@@ -26,17 +21,7 @@ abbrev μ-loop : tie.MeasureT-loop
 μ-loop s at₀ at = length s - at
 
 -- field 5 is there
-abbrev Found : Type 0
-Found = lts.After-known-told (
-  segment-end-reads.Asked,
-  segment-end-reads.Learnt,
-  part-at-reads.Asked,
-  part-at-reads.Learnt,
-  ordered-range-reads.Asked,
-  ordered-range-reads.Learnt,
-) reads.Pre reads.Post Inv-loop μ-loop
-
-found : (c : Found)
+found : (c : tie.After-known-told Inv-loop μ-loop)
     → PartField 5 (c .before .before .before .before .before .before .before .before .before .args .s .now)
     (c .before .before .before .before .before .loop .at) (c .before .from .given .0 .0) (c .before .from .given .0 .1 .0)
 found c = subst (PartIs 5 _ _) (c .before .from .given .1) (c .before .before .before .part-at .ensures)

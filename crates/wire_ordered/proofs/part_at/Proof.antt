@@ -4,16 +4,13 @@ use Prim.Native.Nat.{_+_}
 use native.Mathlib.Omega.{arith}
 use mathlib.Core.Path.{sym, _∙_}
 use borrow.Author.Needs.{needs}
-use Rattle.wire.proofs.read_body.Reads as read-body-reads
 use Rattle.wire_ordered.specs.Ordered.{PartField}
 use Rattle.wire_ordered.proofs.OrderedLaws.{part-field}
 use Rattle.wire_ordered.proofs.part_at.Statement.{statement}
 use Rattle.wire_ordered.proofs.part_at.Tie as tie
-use Rattle.wire_ordered.proofs.part_at.Reads as reads
-use Rattle.wire_ordered.proofs.part_at.Lts as lts
 
 -- the part is there
-found : (c : lts.After-known-told (read-body-reads.Asked, read-body-reads.Learnt) reads.Pre reads.Post)
+found : (c : tie.After-known-told)
     → PartField (c .before .before .before .before .before .before .before .before .before .args .f)
     (c .before .before .before .before .before .before .before .before .before .args .s .now)
     (c .before .before .before .before .before .before .before .before .before .args .at)

@@ -2,28 +2,13 @@
 use native.Mathlib.Omega.{arith}
 use mathlib.Core.Path.{sym, subst, _∙_}
 use borrow.Author.Needs.{needs}
-use Rattle.utf8.proofs.is_utf8.Reads as is-utf8-reads
 use Rattle.wire_ordered.specs.Ordered.{PartField, PartIs}
 use Rattle.wire_ordered.proofs.OrderedLaws.{segment-start, none-above}
-use Rattle.wire_ordered.proofs.number_end.Reads as number-end-reads
-use Rattle.wire_ordered.proofs.part_at.Reads as part-at-reads
 use Rattle.wire_ordered.proofs.segment_end.Statement.{statement}
 use Rattle.wire_ordered.proofs.segment_end.Tie as tie
-use Rattle.wire_ordered.proofs.segment_end.Reads as reads
-use Rattle.wire_ordered.proofs.segment_end.Lts as lts
 
 -- the text's field is there
-abbrev Found : Type 0
-Found = lts.After-known-told (
-  number-end-reads.Asked,
-  number-end-reads.Learnt,
-  part-at-reads.Asked,
-  part-at-reads.Learnt,
-  is-utf8-reads.Asked,
-  is-utf8-reads.Learnt,
-) reads.Pre reads.Post
-
-found : (c : Found)
+found : (c : tie.After-known-told)
     → PartField 4 (c .before .before .before .before .before .before .before .before .before .before .before .args .s .now)
     (c .before .before .before .before .before .number-end3 .result) (c .before .from .given .0 .0) (c .before .from .given .0 .1 .0)
 found c = subst (PartIs 4 _ _) (c .before .from .given .1) (c .before .before .before .part-at .ensures)

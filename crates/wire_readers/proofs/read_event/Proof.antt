@@ -13,11 +13,6 @@ use Rattle.wire_readers.proofs.EventLaws.{EventKept, event-start, event
 use Rattle.wire_readers.proofs.EventLaws.{event-diff, event-broken, event-done}
 use Rattle.wire_readers.proofs.read_event.Statement.{statement}
 use Rattle.wire_readers.proofs.read_event.Tie as tie
-use Rattle.wire_readers.proofs.read_event.Reads as reads
-use Rattle.wire_readers.proofs.read_event.Lts as lts
-use Rattle.wire_values.proofs.read_front.Reads as read-front-reads
-use Rattle.wire_readers.proofs.snapshot_from.Reads as snapshot-from-reads
-use Rattle.wire_readers.proofs.diff_from.Reads as diff-from-reads
 
 abbrev Inv-loop : tie.InvT-loop
 Inv-loop m event₀ at₀ event at = EventKept m at event
@@ -25,21 +20,11 @@ Inv-loop m event₀ at₀ event at = EventKept m at event
 abbrev μ-loop : tie.MeasureT-loop
 μ-loop m event₀ at₀ event at = length m - at
 
-abbrev claims : lts.Claims
-claims = (
-  read-front-reads.Asked,
-  read-front-reads.Learnt,
-  snapshot-from-reads.Asked,
-  snapshot-from-reads.Learnt,
-  diff-from-reads.Asked,
-  diff-from-reads.Learnt,
-)
-
 -- the place where the front is read
 abbrev Read : Type 0
-Read = lts.After-read-front claims reads.Pre reads.Post Inv-loop μ-loop
+Read = tie.After-read-front Inv-loop μ-loop
 
-abbrev read : lts.After-diff-from claims reads.Pre reads.Post Inv-loop μ-loop → Read
+abbrev read : tie.After-diff-from Inv-loop μ-loop → Read
 read c = c .before .before .before .before .before
 
 front : (c : Read) (q : Front) → c .read-front .result ≡ q
@@ -66,7 +51,7 @@ loop-again c =
     event-number (c .before .before .before .before .before .before .loop .inv) q
 
 -- the place behind the two events that may be
-part : (c : lts.After-diff-from claims reads.Pre reads.Post Inv-loop μ-loop)
+part : (c : tie.After-diff-from Inv-loop μ-loop)
     → let m = read c .before .before .before .before .before .args .m .now in let g = c .before .before .before .f .given .0 in
     FrontAt m (read c .before .before .before .loop .at) (Part (g .0) (g .1 .0) (g .1 .1 .0))
 part c = front (read c) _ (c .before .before .before .f .given .1)

@@ -7,14 +7,9 @@ use lib.ListN.{length}
 use borrow.Author.Needs.{needs}
 use Rattle.wire_values.specs.declared.PartStep.{PartStep}
 use Rattle.wire_values.specs.Places.{NextPart}
-use Rattle.wire_values.proofs.next_part.Reads as next-part-reads
 use Rattle.wire_required.proofs.LookLaws.{PartsLeft, parts-start, parts-next, parts-done}
-use Rattle.wire_required.proofs.both.Reads as both-reads
-use Rattle.wire_required.proofs.look.Reads as look-reads
 use Rattle.wire_required.proofs.assignment_complete.Statement.{statement}
 use Rattle.wire_required.proofs.assignment_complete.Tie as tie
-use Rattle.wire_required.proofs.assignment_complete.Reads as reads
-use Rattle.wire_required.proofs.assignment_complete.Lts as lts
 
 abbrev Inv-loop : tie.InvT-loop
 Inv-loop m n found₀ at₀ found at = PartsLeft n m at (found .epoch) (found .segments)
@@ -23,19 +18,7 @@ abbrev μ-loop : tie.MeasureT-loop
 μ-loop m n found₀ at₀ found at = length m - at
 
 -- the place where the next part is looked for
-abbrev Read : Type 0
-Read =
-    lts.After-next-part (
-      next-part-reads.Asked,
-      next-part-reads.Learnt,
-      both-reads.Asked,
-      both-reads.Learnt,
-      look-reads.Asked,
-      look-reads.Learnt,
-    )
-    reads.Pre reads.Post Inv-loop μ-loop
-
-step : (c : Read) (q : PartStep) → c .next-part .result ≡ q
+step : (c : tie.After-next-part Inv-loop μ-loop) (q : PartStep) → c .next-part .result ≡ q
     → let a = c .before .before .before .args in NextPart (a .n) (a .m .now) (c .before .loop .at) q
 step c q e = subst (NextPart _ _ _) e (c .next-part .ensures)
 

@@ -10,15 +10,9 @@ use lib.ListN.{length}
 use borrow.Author.Needs.{needs}
 use Rattle.wire_values.specs.declared.Front.{Front}
 use Rattle.wire_values.proofs.FrontLaws.{PartAt, FrontAt, front-at, numbers-end, parts-end}
-use Rattle.wire_values.proofs.read_front.Reads as read-front-reads
 use Rattle.wire_required.proofs.LookLaws.{PartLeft, part-start, part-number, part-fixed, part-segment, part-done}
-use Rattle.wire_required.proofs.both.Reads as both-reads
-use Rattle.wire_required.proofs.either.Reads as either-reads
-use Rattle.wire_required.proofs.part_complete.Reads as part-complete-reads
 use Rattle.wire_required.proofs.look.Statement.{statement}
 use Rattle.wire_required.proofs.look.Tie as tie
-use Rattle.wire_required.proofs.look.Reads as reads
-use Rattle.wire_required.proofs.look.Lts as lts
 
 abbrev Inv-loop : tie.InvT-loop
 Inv-loop s epoch₀ segments₀ at₀ epoch segments at = PartLeft s at epoch₀ segments₀ epoch segments
@@ -26,21 +20,9 @@ Inv-loop s epoch₀ segments₀ at₀ epoch segments at = PartLeft s at epoch₀
 abbrev μ-loop : tie.MeasureT-loop
 μ-loop s epoch₀ segments₀ at₀ epoch segments at = length s - at
 
-abbrev claims : lts.Claims
-claims = (
-  read-front-reads.Asked,
-  read-front-reads.Learnt,
-  either-reads.Asked,
-  either-reads.Learnt,
-  part-complete-reads.Asked,
-  part-complete-reads.Learnt,
-  both-reads.Asked,
-  both-reads.Learnt,
-)
-
 -- the place where the front is read
 abbrev Read : Type 0
-Read = lts.After-read-front claims reads.Pre reads.Post Inv-loop μ-loop
+Read = tie.After-read-front Inv-loop μ-loop
 
 abbrev whole : Read → List ℕ
 whole c = c .before .before .before .before .before .args .s .now
@@ -53,7 +35,7 @@ front c q e = front-at _ _ (c .before .before .loop-test .taken) q (sym (c .read
 
 -- the place where it is a part
 abbrev Part : Type 0
-Part = lts.After-known-told2 claims reads.Pre reads.Post Inv-loop μ-loop
+Part = tie.After-known-told2 Inv-loop μ-loop
 
 abbrev read : Part → Read
 read c = c .before .before .before

@@ -13,18 +13,12 @@ use borrow.Author.Tests.{not-false, not-true}
 use Rattle.wire.specs.Fields.{fieldsOf}
 use Rattle.wire_values.specs.declared.Front.{Front}
 use Rattle.wire_values.proofs.FrontLaws.{PartAt, FrontAt, front-at, numbers-end, parts-end}
-use Rattle.wire_values.proofs.read_front.Reads as read-front-reads
 use Rattle.wire_schema.specs.declared.MessageKind.the-variants.{IntRange}
 use Rattle.wire_schema.specs.Required.{completeWithin}
 use Rattle.wire_required.proofs.LookLaws.{SegmentLeft, segment-start, segment-number, segment-fixed, segment-part}
 use Rattle.wire_required.proofs.LookLaws.{segment-missing, segment-done}
-use Rattle.wire_required.proofs.all_four.Reads as all-four-reads
-use Rattle.wire_required.proofs.bucket_complete.Reads as bucket-complete-reads
-use Rattle.wire_required.proofs.either.Reads as either-reads
 use Rattle.wire_required.proofs.segment_complete.Statement.{statement}
 use Rattle.wire_required.proofs.segment_complete.Tie as tie
-use Rattle.wire_required.proofs.segment_complete.Reads as reads
-use Rattle.wire_required.proofs.segment_complete.Lts as lts
 
 abbrev Inv-loop : tie.InvT-loop
 Inv-loop s id₀ start₀ end₀ topic₀ at₀ id start end topic at = SegmentLeft s at id start end topic
@@ -32,21 +26,9 @@ Inv-loop s id₀ start₀ end₀ topic₀ at₀ id start end topic at = SegmentL
 abbrev μ-loop : tie.MeasureT-loop
 μ-loop s id₀ start₀ end₀ topic₀ at₀ id start end topic at = length s - at
 
-abbrev claims : lts.Claims
-claims = (
-  read-front-reads.Asked,
-  read-front-reads.Learnt,
-  all-four-reads.Asked,
-  all-four-reads.Learnt,
-  either-reads.Asked,
-  either-reads.Learnt,
-  bucket-complete-reads.Asked,
-  bucket-complete-reads.Learnt,
-)
-
 -- the place where the front is read
 abbrev Read : Type 0
-Read = lts.After-read-front claims reads.Pre reads.Post Inv-loop μ-loop
+Read = tie.After-read-front Inv-loop μ-loop
 
 abbrev segment : Read → List ℕ
 segment c = c .before .before .before .before .before .args .s .now
@@ -59,7 +41,7 @@ front c q e = front-at _ _ (c .before .before .loop-test .taken) q (sym (c .read
 
 -- the place where it is a part
 abbrev Part : Type 0
-Part = lts.After-known-told2 claims reads.Pre reads.Post Inv-loop μ-loop
+Part = tie.After-known-told2 Inv-loop μ-loop
 
 abbrev read : Part → Read
 read c = c .before .before .before
@@ -69,10 +51,7 @@ part : (c : Part)
 part c = front (read c) _ (c .before .f2 .given .1)
 
 -- the place where the part is looked at
-abbrev Looked : Type 0
-Looked = lts.After-bucket-complete claims reads.Pre reads.Post Inv-loop μ-loop
-
-whole : (c : Looked) (b : Bool) → c .bucket-complete .result ≡ b
+whole : (c : tie.After-bucket-complete Inv-loop μ-loop) (b : Bool) → c .bucket-complete .result ≡ b
     → let k = c .before .before in let g = k .before .f2 .given .0 in
     cond (eqb (g .0) 5)
     (completeWithin 1 IntRange (fieldsOf (take (g .1 .1 .0) (drop (place (read k) + g .1 .0) (segment (read k)))))) true

@@ -10,11 +10,6 @@ use Rattle.wire_values.specs.Places.{NextPart}
 use Rattle.wire_values.proofs.PlaceLaws.{InnerKept, inner-start, inner-next, inner-done}
 use Rattle.wire_values.proofs.inner_number.Statement.{statement}
 use Rattle.wire_values.proofs.inner_number.Tie as tie
-use Rattle.wire_values.proofs.inner_number.Reads as reads
-use Rattle.wire_values.proofs.inner_number.Lts as lts
-use Rattle.wire_values.proofs.last_after.Reads as last-after-reads
-use Rattle.wire_values.proofs.next_part.Reads as next-part-reads
-use Rattle.wire_values.proofs.or_zero.Reads as or-zero-reads
 
 abbrev Inv-loop : tie.InvT-loop
 Inv-loop m n k last₀ at₀ last at = InnerKept n k m at last
@@ -23,19 +18,7 @@ abbrev μ-loop : tie.MeasureT-loop
 μ-loop m n k last₀ at₀ last at = length m - at
 
 -- the place where the next part is looked for
-abbrev Read : Type 0
-Read =
-    lts.After-next-part (
-      next-part-reads.Asked,
-      next-part-reads.Learnt,
-      or-zero-reads.Asked,
-      or-zero-reads.Learnt,
-      last-after-reads.Asked,
-      last-after-reads.Learnt,
-    )
-    reads.Pre reads.Post Inv-loop μ-loop
-
-step : (c : Read) (q : PartStep) → c .next-part .result ≡ q
+step : (c : tie.After-next-part Inv-loop μ-loop) (q : PartStep) → c .next-part .result ≡ q
     → let a = c .before .before .before .args in NextPart (a .n) (a .m .now) (c .before .loop .at) q
 step c q e = subst (NextPart _ _ _) e (c .next-part .ensures)
 

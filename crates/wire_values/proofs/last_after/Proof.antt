@@ -13,9 +13,6 @@ use Rattle.wire_values.proofs.FrontLaws.{numbersFrom, FrontAt, front-at
 use Rattle.wire_values.proofs.WalkLaws.{Kept, kept-done, kept-next, kept-stays, found, last-start}
 use Rattle.wire_values.proofs.last_after.Statement.{statement}
 use Rattle.wire_values.proofs.last_after.Tie as tie
-use Rattle.wire_values.proofs.last_after.Reads as reads
-use Rattle.wire_values.proofs.last_after.Lts as lts
-use Rattle.wire_values.proofs.read_front.Reads as read-front-reads
 
 abbrev Inv-loop : tie.InvT-loop
 Inv-loop s n last₀ at₀ last at = Kept found (lastAfter last₀ (numbersOf n (fieldsOf s))) last (numbersFrom n s at)
@@ -24,10 +21,7 @@ abbrev μ-loop : tie.MeasureT-loop
 μ-loop s n last₀ at₀ last at = length s - at
 
 -- the place where the front is read
-abbrev Read : Type 0
-Read = lts.After-read-front (read-front-reads.Asked, read-front-reads.Learnt) reads.Pre reads.Post Inv-loop μ-loop
-
-front : (c : Read) (q : Front) → c .read-front .result ≡ q
+front : (c : tie.After-read-front Inv-loop μ-loop) (q : Front) → c .read-front .result ≡ q
     → FrontAt (c .before .before .before .before .before .args .s .now) (c .before .before .before .loop .at) q
 front c q e = front-at _ _ (c .before .before .loop-test .taken) q (sym (c .read-front .ensures) ∙ e)
 

@@ -10,9 +10,6 @@ use Rattle.wire_values.specs.Places.{NextPart}
 use Rattle.wire_values.proofs.TextLaws.{Sought, sought-start, sought-next, sought-done}
 use Rattle.wire_values.proofs.last_part.Statement.{statement}
 use Rattle.wire_values.proofs.last_part.Tie as tie
-use Rattle.wire_values.proofs.last_part.Reads as reads
-use Rattle.wire_values.proofs.last_part.Lts as lts
-use Rattle.wire_values.proofs.next_part.Reads as next-part-reads
 
 abbrev Inv-loop : tie.InvT-loop
 Inv-loop s n at₀ start₀ length₀ at start length = Sought n s at start length
@@ -21,10 +18,7 @@ abbrev μ-loop : tie.MeasureT-loop
 μ-loop s n at₀ start₀ length₀ at start length = list.length s - at
 
 -- the place where the next part is looked for
-abbrev Read : Type 0
-Read = lts.After-next-part (next-part-reads.Asked, next-part-reads.Learnt) reads.Pre reads.Post Inv-loop μ-loop
-
-step : (c : Read) (q : PartStep) → c .next-part .result ≡ q
+step : (c : tie.After-next-part Inv-loop μ-loop) (q : PartStep) → c .next-part .result ≡ q
     → let a = c .before .before .before .args in NextPart (a .n) (a .s .now) (c .before .loop .at) q
 step c q e = subst (NextPart _ _ _) e (c .next-part .ensures)
 

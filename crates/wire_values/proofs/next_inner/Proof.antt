@@ -12,9 +12,6 @@ use Rattle.wire_values.specs.Places.{NextPart, innerFrom, Inside}
 use Rattle.wire_values.proofs.PlaceLaws.{place, inside-later, inner-found, inner-none, inner-later}
 use Rattle.wire_values.proofs.next_inner.Statement.{statement}
 use Rattle.wire_values.proofs.next_inner.Tie as tie
-use Rattle.wire_values.proofs.next_inner.Reads as reads
-use Rattle.wire_values.proofs.next_inner.Lts as lts
-use Rattle.wire_values.proofs.next_part.Reads as next-part-reads
 
 abbrev Inv-loop : tie.InvT-loop
 Inv-loop m n k outer₀ at₀ end₀ outer at end =
@@ -25,13 +22,13 @@ abbrev μ-loop : tie.MeasureT-loop
 
 -- a turn's start; the place where this part is looked through; that where it has no more, and the next part of field n is looked for
 abbrev Turn : Type 0
-Turn = lts.At-loop (next-part-reads.Asked, next-part-reads.Learnt) reads.Pre reads.Post Inv-loop μ-loop
+Turn = tie.At-loop Inv-loop μ-loop
 
 abbrev Within : Type 0
-Within = lts.After-next-part (next-part-reads.Asked, next-part-reads.Learnt) reads.Pre reads.Post Inv-loop μ-loop
+Within = tie.After-next-part Inv-loop μ-loop
 
 abbrev Behind : Type 0
-Behind = lts.After-next-part2 (next-part-reads.Asked, next-part-reads.Learnt) reads.Pre reads.Post Inv-loop μ-loop
+Behind = tie.After-next-part2 Inv-loop μ-loop
 
 abbrev messageAt : Turn → List ℕ
 messageAt c = c .before .before .args .m .now

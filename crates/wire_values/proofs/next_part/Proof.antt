@@ -11,9 +11,6 @@ use Rattle.wire_values.proofs.FrontLaws.{partsFrom, FrontAt, front-at, 
 use Rattle.wire_values.proofs.TextLaws.{places-at, place-same, place-other}
 use Rattle.wire_values.proofs.next_part.Statement.{statement}
 use Rattle.wire_values.proofs.next_part.Tie as tie
-use Rattle.wire_values.proofs.next_part.Reads as reads
-use Rattle.wire_values.proofs.next_part.Lts as lts
-use Rattle.wire_values.proofs.read_front.Reads as read-front-reads
 
 abbrev Inv-loop : tie.InvT-loop
 Inv-loop s from n at₀ at = (from ≤ at) × (partsFrom n s from ≡ partsFrom n s at) × (placesFrom n s from ≡ placesFrom n s at)
@@ -23,7 +20,7 @@ abbrev μ-loop : tie.MeasureT-loop
 
 -- the place where the front is read
 abbrev Read : Type 0
-Read = lts.After-read-front (read-front-reads.Asked, read-front-reads.Learnt) reads.Pre reads.Post Inv-loop μ-loop
+Read = tie.After-read-front Inv-loop μ-loop
 
 front : (c : Read) (q : Front) → c .read-front .result ≡ q
     → FrontAt (c .before .before .before .before .before .args .s .now) (c .before .before .before .loop .at) q

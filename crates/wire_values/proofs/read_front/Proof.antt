@@ -15,15 +15,11 @@ use Rattle.wire_values.specs.Places.{frontFrom, frontOf}
 use Rattle.wire_values.proofs.FrontLaws.{front-bad-key, front-of-body}
 use Rattle.wire_values.proofs.read_front.Statement.{statement}
 use Rattle.wire_values.proofs.read_front.Tie as tie
-use Rattle.wire_values.proofs.read_front.Reads as reads
-use Rattle.wire_values.proofs.read_front.Lts as lts
-use Rattle.wire.proofs.read_body.Reads as read-body-reads
-use Rattle.wire.proofs.read_key.Reads as read-key-reads
 
 -- the place where the body is read
 abbrev Read : Type 0
 Read =
-    lts.After-read-body (read-key-reads.Asked, read-key-reads.Learnt, read-body-reads.Asked, read-body-reads.Learnt) reads.Pre reads.Post
+    tie.After-read-body
 
 abbrev partAt : Read → List ℕ
 partAt c = c .before .before .before .before .before .before .before .args .s .now

@@ -16,10 +16,6 @@ use Rattle.wire_values.proofs.FrontLaws.{parts-end}
 use Rattle.wire_values.proofs.PlaceLaws.{place, inside-later, inner-later}
 use Rattle.wire_values.proofs.seek_inner.Statement.{statement}
 use Rattle.wire_values.proofs.seek_inner.Tie as tie
-use Rattle.wire_values.proofs.seek_inner.Reads as reads
-use Rattle.wire_values.proofs.seek_inner.Lts as lts
-use Rattle.wire_values.proofs.next_part.Reads as next-part-reads
-use Rattle.wire_values.proofs.seek_part.Reads as seek-part-reads
 
 abbrev Inv-loop : tie.InvT-loop
 Inv-loop m n k outer₀ at₀ end₀ outer at end =
@@ -28,18 +24,15 @@ Inv-loop m n k outer₀ at₀ end₀ outer at end =
 abbrev μ-loop : tie.MeasureT-loop
 μ-loop m n k outer₀ at₀ end₀ outer at end = length m - outer
 
-abbrev claims : lts.Claims
-claims = (seek-part-reads.Asked, seek-part-reads.Learnt, next-part-reads.Asked, next-part-reads.Learnt)
-
 -- a turn's start; the place where this part is looked through; that where it has no more, and the next part of field n is looked for
 abbrev Turn : Type 0
-Turn = lts.At-loop claims reads.Pre reads.Post Inv-loop μ-loop
+Turn = tie.At-loop Inv-loop μ-loop
 
 abbrev Sought : Type 0
-Sought = lts.After-seek-part claims reads.Pre reads.Post Inv-loop μ-loop
+Sought = tie.After-seek-part Inv-loop μ-loop
 
 abbrev Behind : Type 0
-Behind = lts.After-next-part claims reads.Pre reads.Post Inv-loop μ-loop
+Behind = tie.After-next-part Inv-loop μ-loop
 
 abbrev messageAt : Turn → List ℕ
 messageAt c = c .before .before .args .m .now

@@ -9,9 +9,6 @@ use Rattle.wire_values.specs.declared.Front.{Front}
 use Rattle.wire_values.proofs.FrontLaws.{partsFrom, FrontAt, front-at, part-other}
 use Rattle.wire_values.proofs.seek_part.Statement.{statement}
 use Rattle.wire_values.proofs.seek_part.Tie as tie
-use Rattle.wire_values.proofs.seek_part.Reads as reads
-use Rattle.wire_values.proofs.seek_part.Lts as lts
-use Rattle.wire_values.proofs.read_front.Reads as read-front-reads
 
 abbrev Inv-loop : tie.InvT-loop
 Inv-loop s from n at₀ at = partsFrom n s from ≡ partsFrom n s at
@@ -20,10 +17,7 @@ abbrev μ-loop : tie.MeasureT-loop
 μ-loop s from n at₀ at = length s - at
 
 -- the place where the front is read
-abbrev Read : Type 0
-Read = lts.After-read-front (read-front-reads.Asked, read-front-reads.Learnt) reads.Pre reads.Post Inv-loop μ-loop
-
-front : (c : Read) (q : Front) → c .read-front .result ≡ q
+front : (c : tie.After-read-front Inv-loop μ-loop) (q : Front) → c .read-front .result ≡ q
     → FrontAt (c .before .before .before .before .before .args .s .now) (c .before .before .before .loop .at) q
 front c q e = front-at _ _ (c .before .before .loop-test .taken) q (sym (c .read-front .ensures) ∙ e)
 

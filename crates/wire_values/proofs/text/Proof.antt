@@ -8,15 +8,9 @@ use Rattle.wire_values.specs.Places.{PartIs}
 use Rattle.wire_values.proofs.TextLaws.{text-there}
 use Rattle.wire_values.proofs.text.Statement.{statement}
 use Rattle.wire_values.proofs.text.Tie as tie
-use Rattle.wire_values.proofs.text.Reads as reads
-use Rattle.wire_values.proofs.text.Lts as lts
-use Rattle.wire_values.proofs.last_part.Reads as last-part-reads
 
 -- the place that `last_part` tells
-abbrev Answered : Type 0
-Answered = lts.After-last-part (last-part-reads.Asked, last-part-reads.Learnt) reads.Pre reads.Post
-
-there : (c : Answered) → let a = c .before .before .before .args in let p = c .last-part .result in
+there : (c : tie.After-last-part) → let a = c .before .before .before .args in let p = c .last-part .result in
     PartIs (a .message .now) (lastPart (partsOf (a .n) (fieldsOf (a .message .now)))) (p .start) (p .length)
 there c = text-there _ _ _ _ (c .last-part .ensures)
 
