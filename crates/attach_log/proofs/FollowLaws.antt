@@ -29,7 +29,7 @@ use Rattle.attach_entries.specs.Follows.{allIn, follows}
 use Rattle.attach_log.specs.Steps.{partIn, deltaIn}
 use Rattle.attach_log.proofs.PartLaws.{attach-ids}
 use Rattle.attach_log.proofs.WalkLaws.{lost-count, gained-count, fits, not-nil, nil-end}
-use Rattle.attach_rows.proofs.EntryLaws.{length-entries, take-entries, drop-entries}
+use Rattle.attach_rows.proofs.EntryLaws.{entries-row, drop-entries, length-row, take-row}
 use Rattle.attach_entries.proofs.PassLaws.{AllValid, follows-passes, passes-follows, not-both}
 
 -- ---- a delta's entries
@@ -114,7 +114,7 @@ module _ (s log : List ℕ) (p q left : ℕ) (w : Follow s log p q left) where
       sym (w .decides
       ∙ ap (λ (ds : List AssignmentDelta). follows ds (entriesIn left (drop q log)))
       (nil-most (w .count) (drop p s) (nil-end s p h))
-      ∙ ap (λ (n : ℕ). eqb n 0) (length-entries left (drop q log)))
+      ∙ ap (λ (n : ℕ). eqb n 0) (length-row entries-row left (drop q log)))
 
   module _ (h : p < length s) where
     here : Most (w .count) (drop p s)
@@ -140,19 +140,19 @@ module _ (s log : List ℕ) (p q left : ℕ) (w : Follow s log p q left) where
           ∙ ap (λ (ds : List AssignmentDelta). follows ds es) (here .deltas)
           ∙ follows-first d later es m n (lost-count f) (gained-count f)
           ∙ ap (λ (k : ℕ). leb (m + n) k && (parts d m n es && follows later (drop (m + n) es)))
-          (length-entries left (drop q log))
+          (length-row entries-row left (drop q log))
 
       pub follow-few : left < m + n → false ≡ follows (deltasOf s) (logEntries log)
       follow-few k = sym (turn ∙ simp (lt-leb (m + n) left k))
 
       module _ (k : m + n ≤ left) where
         lost-entries : take m es ≡ entriesIn m (drop q log)
-        lost-entries = take-entries m left (drop q log) (omega arith)
+        lost-entries = take-row entries-row m left (drop q log) (omega arith)
 
         gained-entries : take n (drop m es) ≡ entriesIn n (drop (9 * m) (drop q log))
         gained-entries =
             ap (take n) (drop-entries m left (drop q log) (omega arith))
-            ∙ take-entries n (left - m) (drop (9 * m) (drop q log)) (omega arith)
+            ∙ take-row entries-row n (left - m) (drop (9 * m) (drop q log)) (omega arith)
 
         other-entries : drop (m + n) es ≡ entriesIn (left - m - n) (drop (q + 9 * (m + n)) log)
         other-entries =

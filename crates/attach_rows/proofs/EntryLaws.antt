@@ -1,6 +1,6 @@
 -- Laws of entries read where they lie.
 --
--- In order: entries at a place (`entries-at`, `entries-none`, `length-entries`, `take-entries`, `drop-entries`); an
+-- In order: entries at a place (`entries-row`, `drop-entries`); an
 -- entry by its numbers (`entry-number`, `entry-low`, `entry-high`); two entries compared (`same-detaches` to
 -- `attach-detach`).
 -- Assumes nothing.
@@ -9,12 +9,13 @@ use native.Mathlib.Nat.{not-suc-le-zero}
 use native.Mathlib.Omega.{arith}
 use mathlib.Core.Path.{_≡_, refl, sym, ap, _∙_}
 use mathlib.Core.Bool.{false}
-use mathlib.Core.List.{List, [], _∷_}
-use lib.ListN.{length, take, drop, getD}
+use mathlib.Core.List.{List}
+use lib.ListN.{length, drop, getD}
 use lib.Seq.{drop-drop}
 use lib.Dec.{eqb}
 use Rattle.slice_int.specs.Be.{beAt}
 use Rattle.slice_int.proofs.BeLaws.{be-at-one, be-at-add}
+pub use Rattle.slice_int.proofs.RowLaws.{Row, row-none, row-at, length-row, take-row}
 use Rattle.attach_entries.specs.declared.Entry.{Entry}
 use Rattle.attach_entries.specs.declared.Entry.the-variants.{Detach, Attach}
 use Rattle.attach_entries.specs.Log.{entryWith, entryOf, entriesIn}
@@ -22,32 +23,9 @@ use Rattle.attach_entries.specs.Follows.{sameEntry}
 
 -- ---- entries at a place
 
-entries-step : (n : ℕ) (l : List ℕ) → 0 < n → entriesIn n l ≡ entryOf l ∷ entriesIn (n - 1) (drop 9 l)
+pub entries-row : Row (λ l. 9) entryOf entriesIn
 unfolding entriesIn
-entries-step zero l h = absurd (not-suc-le-zero h)
-entries-step (suc n) l h = let e : n ≡ suc n - 1 = omega arith in ap (λ (k : ℕ). entryOf l ∷ entriesIn k (drop 9 l)) e
-
-pub entries-at : (s : List ℕ) (p n : ℕ) (x : Entry) → 0 < n → x ≡ entryOf (drop p s)
-    → entriesIn n (drop p s) ≡ x ∷ entriesIn (n - 1) (drop (p + 9) s)
-entries-at s p n x h e =
-    entries-step n (drop p s) h
-    ∙ ap (λ (l : List ℕ). entryOf (drop p s) ∷ entriesIn (n - 1) l) (drop-drop 9 p s)
-    ∙ ap (λ (y : Entry). y ∷ entriesIn (n - 1) (drop (p + 9) s)) (sym e)
-
-pub entries-none : (n : ℕ) (l : List ℕ) → n ≤ 0 → entriesIn n l ≡ []
-unfolding entriesIn
-entries-none n l h = let e : n ≡ 0 = omega arith in ap (λ (k : ℕ). entriesIn k l) e
-
-pub length-entries : (n : ℕ) (l : List ℕ) → length (entriesIn n l) ≡ n
-unfolding entriesIn
-length-entries zero l = refl
-length-entries (suc n) l = ap suc (length-entries n (drop 9 l))
-
-pub take-entries : (k n : ℕ) (l : List ℕ) → k ≤ n → take k (entriesIn n l) ≡ entriesIn k l
-unfolding entriesIn
-take-entries zero n l h = refl
-take-entries (suc k) zero l h = absurd (not-suc-le-zero h)
-take-entries (suc k) (suc n) l h = ap (λ (t : List Entry). entryOf l ∷ t) (take-entries k n (drop 9 l) (omega arith))
+entries-row = record { none = λ l. refl; more = λ n l. refl }
 
 pub drop-entries : (k n : ℕ) (l : List ℕ) → k ≤ n → drop k (entriesIn n l) ≡ entriesIn (n - k) (drop (9 * k) l)
 unfolding entriesIn

@@ -24,7 +24,7 @@ use Rattle.attach_entries.specs.Log.{entryOf, entriesIn}
 use Rattle.attach_entries.specs.Follows.{sameEntry, hasEntry, allIn}
 use Rattle.attach_entries.proofs.PassLaws.{has-none, not-both}
 use Rattle.attach_rows.specs.Rows.{entryFor, Lacks, Marks, allSet}
-use Rattle.attach_rows.proofs.EntryLaws.{entries-at, entries-none}
+use Rattle.attach_rows.proofs.EntryLaws.{entries-row, row-none, row-at}
 
 -- ---- the place of a number
 
@@ -140,7 +140,7 @@ module _ (attach : Bool) (log : List ℕ) (at n : ℕ) (ids : List ℕ) (m : Lis
       let y : Entry = entryFor attach (getD ids i 0) in
       let r : List Entry = entriesIn (left - 1) (drop (p + 9) log) in
       w i l
-      ∙ ap (λ (es : List Entry). hasEntry y es || getD now i false) (entries-at log p left x h e)
+      ∙ ap (λ (es : List Entry). hasEntry y es || getD now i false) (row-at entries-row log p left x 9 h e refl)
       ∙ or-turn (sameEntry x y) (hasEntry y r) (getD now i false)
       ∙ ap (λ (t : Bool). hasEntry y r || t) (sym (k i l))
 
@@ -149,7 +149,7 @@ module _ (attach : Bool) (log : List ℕ) (at n : ℕ) (ids : List ℕ) (m : Lis
   marking-end p left now w h i l =
       let y : Entry = entryFor attach (getD ids i 0) in
       sym (w i l
-      ∙ ap (λ (es : List Entry). hasEntry y es || getD now i false) (entries-none left (drop p log) h)
+      ∙ ap (λ (es : List Entry). hasEntry y es || getD now i false) (row-none entries-row left (drop p log) h)
       ∙ ap (λ (t : Bool). t || getD now i false) (has-none y))
 
 -- ---- all marks

@@ -23,7 +23,7 @@ use Rattle.churn.specs.declared.ChurnAnswer.the-variants.{Counted, Refus
 use Rattle.churn.specs.Window.{places, countsIn, markOf, rowOf, isWindow, heldIn, countsOf, nextMark, pushed, cleared}
 use Rattle.churn.specs.Churn.{sumOf, largestOf, totalsOf, churnOutcome, push, clear, current}
 use Rattle.churn.specs.Fresh.{latest}
-use Rattle.churn.proofs.CountLaws.{length-counts, take-counts, behind-drop, front-first, front-drop, set-counts}
+use Rattle.churn.proofs.CountLaws.{counts-row, length-row, take-row, behind-drop, front-first, front-drop, set-counts}
 use Rattle.churn.proofs.CountLaws.{totals-turned, held-few, held-all, held-next, next-below}
 
 -- a window's length and mark
@@ -56,9 +56,9 @@ module _ (w : List ℕ) where
   unfolding isWindow
   window-beyond h = simp (le-ltb (markOf w) 512 h, and-false)
 
-  length-row : length (rowOf w) ≡ 256
+  length-places : length (rowOf w) ≡ 256
   unfolding rowOf
-  length-row = length-counts 256 (drop 2 w)
+  length-places = length-row counts-row 256 (drop 2 w)
 
 -- ---- a mark written
 
@@ -130,7 +130,7 @@ module _ (w : List ℕ) (g : Window w) (c : ℕ) (h : c < 65536) where
   pushed-counts =
       ap (λ (m : ℕ). heldIn m (rowOf (pushed w c))) pushed-mark
       ∙ ap (heldIn (nextMark (markOf w))) pushed-row
-      ∙ held-next (rowOf w) c (length-row w) (markOf w) (g .mark-below)
+      ∙ held-next (rowOf w) c (length-places w) (markOf w) (g .mark-below)
 
 -- ---- cleared
 
@@ -162,7 +162,7 @@ reckoned w = go (ltb (markOf w) 256) refl
         let h : markOf w < 256 = ltb-true (markOf w) 256 e in
         let n : min (markOf w) 256 ≡ markOf w = omega arith in
         ap (λ (k : ℕ). totalsOf (countsIn k (drop 2 w))) n
-        ∙ ap totalsOf (sym (take-counts (markOf w) 256 (drop 2 w) (omega arith)))
+        ∙ ap totalsOf (sym (take-row counts-row (markOf w) 256 (drop 2 w) (omega arith)))
         ∙ ap totalsOf (sym (held-few (markOf w) (countsIn 256 (drop 2 w)) h))
     go false e =
         let h : 256 ≤ markOf w = ltb-false (markOf w) 256 e in

@@ -1,12 +1,11 @@
 -- Laws of spans read where they lie, and of what bytes are as a contract.
 --
--- In order: spans at a place (`span-read`, `spans-at`, `spans-none`); a walk that asks each (`Turn`, `turn-end`,
+-- In order: spans at a place (`span-read`, `spans-row`); a walk that asks each (`Turn`, `turn-end`,
 -- `turn-first`, `turn-next`); the tests of the first of a row (`ok-first`,
 -- `holds-found`, ..); the cases of `shapeOf` (`shape-short` to `shape-valid`) and what it says (`Shaped`, `shaped`,
 -- `not-shaped`).
 -- Assumes nothing.
-use Prim.Native.Nat.{ℕ, zero, suc, _+_, _-_, _*_, _%_, _≤_, _<_, min, max}
-use native.Mathlib.Nat.{not-suc-le-zero}
+use Prim.Native.Nat.{ℕ, _+_, _-_, _*_, _%_, _≤_, _<_, min, max}
 use native.Mathlib.Omega.{arith}
 use mathlib.Core.Path.{_≡_, refl, sym, ap, _∙_}
 use mathlib.Core.Bool.{Bool, true, false, _&&_, _||_, and-false}
@@ -17,6 +16,7 @@ use lib.Dec.{leb, ltb, eqb}
 use borrow.Author.Tests.{le-leb, lt-leb, leb-true, lt-ltb, le-ltb, ltb-true, eq-eqb, ne-eqb, eqb-true}
 use Rattle.slice.specs.BoolLaws.{both-true}
 use Rattle.slice_int.specs.Be.{beAt}
+pub use Rattle.slice_int.proofs.RowLaws.{Row, row-none, row-at}
 use Rattle.hours.specs.declared.Span.{Span}
 use Rattle.hours.specs.declared.Shape.the-variants.{Counts, Malformed}
 use Rattle.hours.specs.Contract.{week, largest, spanOf, spansOf, termCount, windowCount, termsOf, windowsOf}
@@ -31,21 +31,9 @@ pub span-read : (s : List ℕ) (at a b : ℕ) → a ≡ beAt 8 s at → b ≡ be
 unfolding spanOf beAt
 span-read s at a b ea eb = cc (drop-drop 8 at s)
 
-spans-step : (n : ℕ) (l : List ℕ) → 0 < n → spansOf n l ≡ spanOf l ∷ spansOf (n - 1) (drop 16 l)
+pub spans-row : Row (λ l. 16) spanOf spansOf
 unfolding spansOf
-spans-step zero l h = absurd (not-suc-le-zero h)
-spans-step (suc n) l h = let e : n ≡ suc n - 1 = omega arith in ap (λ (k : ℕ). spanOf l ∷ spansOf k (drop 16 l)) e
-
-pub spans-at : (s : List ℕ) (p n : ℕ) (x : Span) → 0 < n → x ≡ spanOf (drop p s)
-    → spansOf n (drop p s) ≡ x ∷ spansOf (n - 1) (drop (p + 16) s)
-spans-at s p n x h e =
-    spans-step n (drop p s) h
-    ∙ ap (λ (l : List ℕ). spanOf (drop p s) ∷ spansOf (n - 1) l) (drop-drop 16 p s)
-    ∙ ap (λ (y : Span). y ∷ spansOf (n - 1) (drop (p + 16) s)) (sym e)
-
-pub spans-none : (n : ℕ) (l : List ℕ) → n ≤ 0 → spansOf n l ≡ []
-unfolding spansOf
-spans-none n l h = let e : n ≡ 0 = omega arith in ap (λ (k : ℕ). spansOf k l) e
+spans-row = record { none = λ l. refl; more = λ n l. refl }
 
 -- ---- a walk over a row: the spans that are left, from the place p on, decide what f says of them all
 
@@ -55,14 +43,14 @@ pub record Turn (f : List Span → Bool) (s : List ℕ) (at n p left : ℕ) : Ty
 
 module _ {f : List Span → Bool} {s : List ℕ} {at n p left : ℕ} (v : Turn f s at n p left) where
   pub turn-end : left ≤ 0 → f [] ≡ f (spansOf n (drop at s))
-  turn-end h = sym (v .decides ∙ ap f (spans-none left (drop p s) h))
+  turn-end h = sym (v .decides ∙ ap f (row-none spans-row left (drop p s) h))
 
   module _ (x : Span) (h : 0 < left) (e : x ≡ spanOf (drop p s)) where
     abbrev xs : List Span
     xs = spansOf (left - 1) (drop (p + 16) s)
 
     pub turn-first : f (x ∷ xs) ≡ f (spansOf n (drop at s))
-    turn-first = sym (v .decides ∙ ap f (spans-at s p left x h e))
+    turn-first = sym (v .decides ∙ ap f (row-at spans-row s p left x 16 h e refl))
 
     pub turn-next : f (x ∷ xs) ≡ f xs → Turn f s at n (p + 16) (left - 1)
     turn-next g = record { place = omega (arith, v .place); decides = sym turn-first ∙ g }

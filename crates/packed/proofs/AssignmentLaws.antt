@@ -8,8 +8,7 @@
 --
 -- A caller that walks over a packed assignment needs `segments-at` and `Rest`; the rest serves the readers of src/.
 -- Assumes nothing.
-use Prim.Native.Nat.{ℕ, zero, suc, _+_, _-_, _*_, _≤_, _<_, min}
-use native.Mathlib.Nat.{not-suc-le-zero}
+use Prim.Native.Nat.{ℕ, suc, _+_, _-_, _*_, _≤_, _<_, min}
 use native.Mathlib.Numerals.{add-one}
 use native.Mathlib.Omega.{arith}
 use mathlib.Core.Path.{_≡_, refl, sym, ap, _∙_, subst}
@@ -25,6 +24,7 @@ use Rattle.topic_types.specs.KeyRanges.{keyRange}
 use Rattle.ranges.specs.Overlap.{overlap, overlapsAny, anyOverlap, startsFrom, risingFrom}
 use Rattle.ranges.proofs.OverlapLaws.{rising-apart}
 use Rattle.slice_int.specs.Be.{beAt}
+use Rattle.slice_int.proofs.RowLaws.{Row, row-none, row-at, length-row}
 use Rattle.packed.specs.Assignment.{AssignedSegment, slotSize, num, decodeRange, decodeRanges, decodeSegment, decodeSegments, decodeAssignment}
 use Rattle.packed.specs.Assignment.{sizeSegment, sizeSegments, sizeAssignment, inOrder, allInOrder, okBuckets, okSegment, okFrom}
 use Rattle.packed.specs.Assignment.{okAssignment, startsAssignment}
@@ -39,27 +39,19 @@ pub range-at : (s : List ℕ) (at a b : ℕ) → a ≡ beAt 2 s at → b ≡ beA
 unfolding decodeRange num beAt
 range-at s at a b ea eb = cc (drop-drop 2 at s)
 
--- n is not 0: the first, and the others
-ranges-step : (n : ℕ) (l : List ℕ) → 0 < n → decodeRanges n l ≡ decodeRange l ∷ decodeRanges (n - 1) (drop 4 l)
+ranges-row : Row (λ l. 4) decodeRange decodeRanges
 unfolding decodeRanges
-ranges-step zero l h = absurd (not-suc-le-zero h)
-ranges-step (suc n) l h = let e : n ≡ suc n - 1 = omega arith in ap (λ (k : ℕ). decodeRange l ∷ decodeRanges k (drop 4 l)) e
+ranges-row = record { none = λ l. refl; more = λ n l. refl }
 
 pub ranges-at : (s : List ℕ) (p n : ℕ) (r : KeyRange) → 0 < n → r ≡ decodeRange (drop p s)
     → decodeRanges n (drop p s) ≡ r ∷ decodeRanges (n - 1) (drop (p + 4) s)
-ranges-at s p n r h e =
-    ranges-step n (drop p s) h
-    ∙ ap (λ (l : List ℕ). decodeRange (drop p s) ∷ decodeRanges (n - 1) l) (drop-drop 4 p s)
-    ∙ ap (λ (x : KeyRange). x ∷ decodeRanges (n - 1) (drop (p + 4) s)) (sym e)
+ranges-at s p n r h e = row-at ranges-row s p n r 4 h e refl
 
 pub ranges-none : (n : ℕ) (l : List ℕ) → n ≤ 0 → decodeRanges n l ≡ []
-unfolding decodeRanges
-ranges-none n l h = let e : n ≡ 0 = omega arith in ap (λ (k : ℕ). decodeRanges k l) e
+ranges-none = row-none ranges-row
 
 pub length-rangesOf : (n : ℕ) (l : List ℕ) → length (decodeRanges n l) ≡ n
-unfolding decodeRanges
-length-rangesOf zero l = refl
-length-rangesOf (suc n) l = ap suc (length-rangesOf n (drop 4 l))
+length-rangesOf = length-row ranges-row
 
 -- ---- records at a place
 
@@ -73,24 +65,16 @@ pub size-least : (g : AssignedSegment) → 14 ≤ sizeSegment g
 unfolding sizeSegment
 size-least g = omega arith
 
-segments-step : (n : ℕ) (l : List ℕ) → 0 < n
-    → decodeSegments n l ≡ decodeSegment l ∷ decodeSegments (n - 1) (drop (sizeSegment (decodeSegment l)) l)
+segments-row : Row (λ l. sizeSegment (decodeSegment l)) decodeSegment decodeSegments
 unfolding decodeSegments
-segments-step zero l h = absurd (not-suc-le-zero h)
-segments-step (suc n) l h =
-    let e : n ≡ suc n - 1 = omega arith in ap (λ (k : ℕ). decodeSegment l ∷ decodeSegments k (drop (sizeSegment (decodeSegment l)) l)) e
+segments-row = record { none = λ l. refl; more = λ n l. refl }
 
 pub segments-at : (s : List ℕ) (p n z : ℕ) → 0 < n → z ≡ sizeSegment (decodeSegment (drop p s))
     → decodeSegments n (drop p s) ≡ decodeSegment (drop p s) ∷ decodeSegments (n - 1) (drop (p + z) s)
-segments-at s p n z h e =
-    segments-step n (drop p s) h
-    ∙ ap (λ (k : ℕ). decodeSegment (drop p s) ∷ decodeSegments (n - 1) (drop k (drop p s))) (sym e)
-    ∙ ap (λ (l : List ℕ). decodeSegment (drop p s) ∷ decodeSegments (n - 1) l) (drop-drop z p s)
+segments-at s p n z h e = row-at segments-row s p n (decodeSegment (drop p s)) z h refl e
 
 pub length-segmentsOf : (n : ℕ) (l : List ℕ) → length (decodeSegments n l) ≡ n
-unfolding decodeSegments
-length-segmentsOf zero l = refl
-length-segmentsOf (suc n) l = ap suc (length-segmentsOf n (drop (sizeSegment (decodeSegment l)) l))
+length-segmentsOf = length-row segments-row
 
 -- the segments of a packed assignment, by the count that was read
 pub first-segments : (s : List ℕ) (n : ℕ) → n ≡ beAt 2 s 8 → decodeAssignment s .segments ≡ decodeSegments n (drop 10 s)

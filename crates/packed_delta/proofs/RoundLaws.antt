@@ -8,7 +8,7 @@
 -- encoding of what it is read as (`write-delta`).
 -- Assumes nothing.
 use Prim.Native.Nat.{ℕ, zero, suc, _+_, _-_, _*_, _^_, _≤_, _<_}
-use native.Mathlib.Nat.{not-suc-le-zero, add-zero}
+use native.Mathlib.Nat.{add-zero}
 use native.Mathlib.Omega.{arith}
 use mathlib.Core.Path.{_≡_, refl, sym, ap, _∙_}
 use mathlib.Core.Bool.{Bool, true, false, _&&_}
@@ -21,6 +21,7 @@ use Rattle.slice.specs.BoolLaws.{both-true}
 use Rattle.slice.proofs.PartLaws.{Bytes, Bytes-take, Bytes-drop}
 use Rattle.slice_int.specs.Be.{be, bytesOf}
 use Rattle.slice_int.proofs.BeLaws.{length-bytesOf, be-below, be-front, drop-front, bytesOf-front}
+use Rattle.slice_int.proofs.RowLaws.{Row, row-none, row-at, length-row}
 use Rattle.packed.specs.Assignment.{encodeSegments, sizeSegments, num, decodeSegments, okFrom}
 use Rattle.packed.proofs.AssignmentLaws.{length-segmentsOf, Rest}
 use Rattle.packed.proofs.RoundLaws.{FitSegments, length-encodeSegments, read-segments, write-segments, fit-segments}
@@ -32,22 +33,18 @@ use Rattle.packed_delta.specs.declared.DeltaRead.the-variants.{Delta, Ma
 
 -- ---- ids at a place
 
-pub ids-none : (n : ℕ) (l : List ℕ) → n ≤ 0 → decodeIds n l ≡ []
+ids-row : Row (λ l. 8) (num 8) decodeIds
 unfolding decodeIds
-ids-none n l h = let e : n ≡ 0 = omega arith in ap (λ (k : ℕ). decodeIds k l) e
+ids-row = record { none = λ l. refl; more = λ n l. refl }
 
-ids-step : (n : ℕ) (l : List ℕ) → 0 < n → decodeIds n l ≡ num 8 l ∷ decodeIds (n - 1) (drop 8 l)
-unfolding decodeIds
-ids-step zero l h = absurd (not-suc-le-zero h)
-ids-step (suc n) l h = let e : n ≡ suc n - 1 = omega arith in ap (λ (k : ℕ). num 8 l ∷ decodeIds k (drop 8 l)) e
+pub ids-none : (n : ℕ) (l : List ℕ) → n ≤ 0 → decodeIds n l ≡ []
+ids-none = row-none ids-row
 
 pub ids-at : (s : List ℕ) (p n : ℕ) → 0 < n → decodeIds n (drop p s) ≡ num 8 (drop p s) ∷ decodeIds (n - 1) (drop (p + 8) s)
-ids-at s p n h = ids-step n (drop p s) h ∙ ap (λ (l : List ℕ). num 8 (drop p s) ∷ decodeIds (n - 1) l) (drop-drop 8 p s)
+ids-at s p n h = row-at ids-row s p n (num 8 (drop p s)) 8 h refl refl
 
 pub length-idsOf : (n : ℕ) (l : List ℕ) → length (decodeIds n l) ≡ n
-unfolding decodeIds
-length-idsOf zero l = refl
-length-idsOf (suc n) l = ap suc (length-idsOf n (drop 8 l))
+length-idsOf = length-row ids-row
 
 -- ---- the fields fit their widths
 

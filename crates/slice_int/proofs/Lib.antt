@@ -1,4 +1,5 @@
 pub mod BeLaws
 pub mod PutLaws
+pub mod RowLaws
 pub mod WidthLaws
 pub mod WordLaws

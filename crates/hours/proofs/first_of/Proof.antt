@@ -10,7 +10,7 @@ use borrow.Author.Needs.{needs}
 use Rattle.hours.specs.Steps.{firstIn, firstOf}
 use Rattle.hours.specs.Contract.{largest, spansOf}
 use Rattle.hours.specs.declared.Span.{Span}
-use Rattle.hours.proofs.SpanLaws.{spans-at, spans-none, of-first, of-none, first-largest}
+use Rattle.hours.proofs.SpanLaws.{spans-row, row-none, row-at, of-first, of-none, first-largest}
 use Rattle.hours.proofs.first_of.Statement.{statement}
 use Rattle.hours.proofs.first_of.Tie as tie
 
@@ -33,8 +33,8 @@ turn : (c : tie.After-span-at Inv-loop μ-loop)
 turn c =
     let l = c .before .before in
     let a = l .before .before .args in
-    spans-at (a .s .now) (l .loop .p) (l .loop .left) (c .span-at .result) (c .before .loop-test .taken)
-    (c .span-at .ensures)
+    row-at spans-row (a .s .now) (l .loop .p) (l .loop .left) (c .span-at .result) 16 (c .before .loop-test .taken)
+    (c .span-at .ensures) refl
 
 loop-holds : tie.Need-loop-holds Inv-loop μ-loop
 loop-holds c = let a = c .before .args in (
@@ -68,7 +68,7 @@ returns c = let l = c .before in
     let ws = spansOf (a .windows) (drop (4 + 16 * a .terms) (a .s .now)) in
     let e : firstOf (spansOf (l .loop .left) (drop (l .loop .p) (a .s .now))) ws (a .second) ≡ largest =
     ap (λ (xs : List Span). firstOf xs ws (a .second))
-    (spans-none (l .loop .left) (drop (l .loop .p) (a .s .now)) (c .loop-test .left)) ∙ of-none ws (a .second) in
+    (row-none spans-row (l .loop .left) (drop (l .loop .p) (a .s .now)) (c .loop-test .left)) ∙ of-none ws (a .second) in
     omega (arith, l .loop .inv .1, l .loop .inv .2)
 
 pub first-of-spec : {M : Type 1} → statement M

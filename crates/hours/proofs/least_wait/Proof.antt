@@ -11,7 +11,7 @@ use borrow.Author.Needs.{needs}
 use Rattle.hours.specs.Steps.{waitFor, leastWait}
 use Rattle.hours.specs.Contract.{largest, spansOf, okSpans}
 use Rattle.hours.specs.declared.Span.{Span}
-use Rattle.hours.proofs.SpanLaws.{Fine, spans-at, spans-none, ok-first, wait-first, wait-none, least-largest}
+use Rattle.hours.proofs.SpanLaws.{Fine, spans-row, row-none, row-at, ok-first, wait-first, wait-none, least-largest}
 use Rattle.hours.proofs.least_wait.Statement.{statement}
 use Rattle.hours.proofs.least_wait.Tie as tie
 
@@ -34,8 +34,8 @@ turn : (c : tie.After-span-at Inv-loop μ-loop)
 turn c =
     let l = c .before .before in
     let a = l .before .before .args in
-    spans-at (a .s .now) (l .loop .p) (l .loop .left) (c .span-at .result) (c .before .loop-test .taken)
-    (c .span-at .ensures)
+    row-at spans-row (a .s .now) (l .loop .p) (l .loop .left) (c .span-at .result) 16 (c .before .loop-test .taken)
+    (c .span-at .ensures) refl
 
 first : (c : tie.After-span-at Inv-loop μ-loop)
     → let l = c .before .before in
@@ -74,7 +74,7 @@ returns c = let l = c .before in
     let a = l .before .before .args in
     let e : leastWait (spansOf (l .loop .left) (drop (l .loop .p) (a .s .now))) (a .moment) ≡ largest =
     ap (λ (xs : List Span). leastWait xs (a .moment))
-    (spans-none (l .loop .left) (drop (l .loop .p) (a .s .now)) (c .loop-test .left)) ∙ wait-none (a .moment) in
+    (row-none spans-row (l .loop .left) (drop (l .loop .p) (a .s .now)) (c .loop-test .left)) ∙ wait-none (a .moment) in
     omega (arith, l .loop .inv .2)
 
 pub least-wait-spec : {M : Type 1} → statement M
