@@ -285,40 +285,53 @@ order-word-less w a b i ba bb h k e =
 
 -- ---- the last word of the shorter one, whose n bytes before it are alike
 
-module _ (a b : List ℕ) (n : ℕ) (h : 8 ≤ n) (s : n ≡ min (length a) (length b)) (e : take (n - 8) a ≡ take (n - 8) b) (ba : Bytes a) (bb : Bytes b)
-    (x y : ℕ) (f : x ≡ beAt 8 a (n - 8)) (g : y ≡ beAt 8 b (n - 8)) where
-  at-end : n - 8 + 8 ≡ n
-  at-end = omega arith
+-- x and y are those words
+pub record LastWords (a b : List ℕ) (n x y : ℕ) : Type 0 where
+  pub long : 8 ≤ n
+  pub ends : n ≡ min (length a) (length b)
+  pub alike : take (n - 8) a ≡ take (n - 8) b
+  pub bytes-a : Bytes a
+  pub bytes-b : Bytes b
+  pub word-a : x ≡ beAt 8 a (n - 8)
+  pub word-b : y ≡ beAt 8 b (n - 8)
+
+module _ {a b : List ℕ} {n x y : ℕ} (w : LastWords a b n x y) where
+  fits-a : n - 8 + 8 ≤ length a
+  fits-a = omega (arith, w .long, w .ends)
+
+  fits-b : n - 8 + 8 ≤ length b
+  fits-b = omega (arith, w .long, w .ends)
 
   pub end-less : x < y → order a b ≡ Less
   end-less l =
-      order-behind a b (n - 8) e
-      ∙ order-word-less 8 a b (n - 8) ba bb (omega (arith, s)) (omega (arith, s)) (omega (arith, f, g))
+      order-behind a b (n - 8) (w .alike)
+      ∙ order-word-less 8 a b (n - 8) (w .bytes-a) (w .bytes-b) fits-a fits-b (omega (arith, w .word-a, w .word-b))
 
   pub end-greater : y < x → order a b ≡ Greater
   end-greater l =
-      order-behind a b (n - 8) e
+      order-behind a b (n - 8) (w .alike)
       ∙ less-flip (drop (n - 8) b) (drop (n - 8) a)
-      (order-word-less 8 b a (n - 8) bb ba (omega (arith, s)) (omega (arith, s)) (omega (arith, f, g)))
+      (order-word-less 8 b a (n - 8) (w .bytes-b) (w .bytes-a) fits-b fits-a (omega (arith, w .word-a, w .word-b)))
 
   module _ (l : x ≤ y) (m : y ≤ x) where
     behind-end : order a b ≡ order (drop n a) (drop n b)
     behind-end =
-        order-behind a b (n - 8) e
-        ∙ order-word 8 a b (n - 8) ba bb (omega (arith, s)) (omega (arith, s)) (omega (arith, f, g))
-        ∙ ap (λ (k : ℕ). order (drop k a) (drop k b)) at-end
+        let e : n - 8 + 8 ≡ n = omega (arith, w .long) in
+        order-behind a b (n - 8) (w .alike)
+        ∙ order-word 8 a b (n - 8) (w .bytes-a) (w .bytes-b) fits-a fits-b (omega (arith, w .word-a, w .word-b))
+        ∙ ap (λ (k : ℕ). order (drop k a) (drop k b)) e
 
     first-ends : length a ≤ length b → length a ≤ n
-    first-ends q = omega (arith, s)
+    first-ends q = omega (arith, w .ends)
 
     second-ends : length b ≤ length a → length b ≤ n
-    second-ends q = omega (arith, s)
+    second-ends q = omega (arith, w .ends)
 
     pub end-shorter : length a < length b → order a b ≡ Less
-    end-shorter q = let d = first-ends (omega arith) in behind-end ∙ order-shorter a b n d (omega (arith, s, d))
+    end-shorter q = let d = first-ends (omega arith) in behind-end ∙ order-shorter a b n d (omega (arith, w .ends, d))
 
     pub end-longer : length b < length a → order a b ≡ Greater
-    end-longer q = let d = second-ends (omega arith) in behind-end ∙ order-longer a b n (omega (arith, s, d)) d
+    end-longer q = let d = second-ends (omega arith) in behind-end ∙ order-longer a b n (omega (arith, w .ends, d)) d
 
     pub end-equal : length a ≤ length b → length b ≤ length a → order a b ≡ Equal
     end-equal q r = behind-end ∙ order-end a b n (first-ends q) (second-ends r)

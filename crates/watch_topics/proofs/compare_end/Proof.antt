@@ -2,65 +2,40 @@
 use native.Mathlib.Omega.{arith}
 use borrow.Author.Needs.{needs}
 use mathlib.Core.Path.{sym}
-use Rattle.watch_topics.proofs.OrderLaws.{end-less, end-greater, end-shorter, end-longer, end-equal}
+use Rattle.watch_topics.proofs.OrderLaws.{LastWords, end-less, end-greater, end-shorter, end-longer, end-equal}
 use Rattle.watch_topics.proofs.compare_end.Statement.{statement}
 use Rattle.watch_topics.proofs.compare_end.Tie as tie
 
+-- both words are read
+words : (c : tie.After-read-u642) → let a = c .before .before .before .before .args in
+    LastWords (a .a .now) (a .b .now) (a .n) (c .before .read-u64 .result) (c .read-u642 .result)
+words c =
+    let k = c .before .before in
+    let p = k .before .before .pre in
+    record {
+      long = p .0 .0;
+      ends = p .0 .1;
+      alike = p .1;
+      bytes-a = λ j. k .before .shared-slice-known .given j .fits;
+      bytes-b = λ j. k .shared-slice-known2 .given j .fits;
+      word-a = c .before .read-u64 .ensures;
+      word-b = c .read-u642 .ensures;
+    }
+
 returns : tie.Need-returns
-returns c =
-    let r = c .before in
-    let k = r .before .before in
-    let s = k .before .before in
-    let x = r .before .read-u64 in
-    let y = r .read-u642 in
-    sym (end-less (s .args .a .now) (s .args .b .now) (s .args .n) (s .pre .0 .0) (s .pre .0 .1) (s .pre .1)
-    (λ j. k .before .shared-slice-known .given j .fits)
-    (λ j. k .shared-slice-known2 .given j .fits) (x .result) (y .result) (x .ensures) (y .ensures) (omega arith))
+returns c = sym (end-less (words (c .before)) (omega arith))
 
 returns-2 : tie.Need-returns-2
-returns-2 c =
-    let r = c .before .before in
-    let k = r .before .before in
-    let s = k .before .before in
-    let x = r .before .read-u64 in
-    let y = r .read-u642 in
-    sym (end-greater (s .args .a .now) (s .args .b .now) (s .args .n) (s .pre .0 .0) (s .pre .0 .1) (s .pre .1)
-    (λ j. k .before .shared-slice-known .given j .fits)
-    (λ j. k .shared-slice-known2 .given j .fits) (x .result) (y .result) (x .ensures) (y .ensures) (omega arith))
+returns-2 c = sym (end-greater (words (c .before .before)) (omega arith))
 
 returns-3 : tie.Need-returns-3
-returns-3 c =
-    let r = c .before .before .before in
-    let k = r .before .before in
-    let s = k .before .before in
-    let x = r .before .read-u64 in
-    let y = r .read-u642 in
-    sym (end-shorter (s .args .a .now) (s .args .b .now) (s .args .n) (s .pre .0 .0) (s .pre .0 .1) (s .pre .1)
-    (λ j. k .before .shared-slice-known .given j .fits)
-    (λ j. k .shared-slice-known2 .given j .fits) (x .result) (y .result) (x .ensures) (y .ensures) (omega arith) (omega arith) (omega arith))
+returns-3 c = sym (end-shorter (words (c .before .before .before)) (omega arith) (omega arith) (omega arith))
 
 returns-4 : tie.Need-returns-4
-returns-4 c =
-    let r = c .before .before .before .before in
-    let k = r .before .before in
-    let s = k .before .before in
-    let x = r .before .read-u64 in
-    let y = r .read-u642 in
-    sym (end-longer (s .args .a .now) (s .args .b .now) (s .args .n) (s .pre .0 .0) (s .pre .0 .1) (s .pre .1)
-    (λ j. k .before .shared-slice-known .given j .fits)
-    (λ j. k .shared-slice-known2 .given j .fits) (x .result) (y .result) (x .ensures) (y .ensures) (omega arith) (omega arith) (omega arith))
+returns-4 c = sym (end-longer (words (c .before .before .before .before)) (omega arith) (omega arith) (omega arith))
 
 returns-5 : tie.Need-returns-5
-returns-5 c =
-    let r = c .before .before .before .before in
-    let k = r .before .before in
-    let s = k .before .before in
-    let x = r .before .read-u64 in
-    let y = r .read-u642 in
-    sym (end-equal (s .args .a .now) (s .args .b .now) (s .args .n) (s .pre .0 .0) (s .pre .0 .1) (s .pre .1)
-    (λ j. k .before .shared-slice-known .given j .fits)
-    (λ j. k .shared-slice-known2 .given j .fits) (x .result) (y .result) (x .ensures) (y .ensures) (omega arith) (omega arith) (omega arith)
-    (omega arith))
+returns-5 c = sym (end-equal (words (c .before .before .before .before)) (omega arith) (omega arith) (omega arith) (omega arith))
 
 pub compare-end-spec : {M : Type 1} → statement M
 compare-end-spec =
