@@ -14,6 +14,7 @@ use lib.ListN.{length, drop}
 use lib.Dec.{leb, eqb}
 use borrow.Author.Tests.{le-leb, lt-leb, leb-true, eq-eqb, ne-eqb, eqb-true}
 use Rattle.slice.specs.BoolLaws.{both-true}
+use Rattle.slice.proofs.TestLaws.{cond-first, cond-second}
 use Rattle.topic_types.specs.declared.KeyRange.{KeyRange}
 use Rattle.refusal.specs.declared.Refusal.the-variants.{MalformedInput, ChargeTooLarge}
 use Rattle.ranges_calls.specs.Calls.{valuesIn}
@@ -41,19 +42,13 @@ module _ (n : ℕ) where
   -- what an answer says
   pub product-is : (m : ℕ) → Fits m ≡ productOf n → m ≡ n
   unfolding productOf
-  product-is m e = go (leb (2 ^ 64) n) refl
-    where
-      go : (t : Bool) → leb (2 ^ 64) n ≡ t → m ≡ n
-      go false h = let f : Fits m ≡ Fits n = e ∙ rw h in cc
-      go true h = let f : Fits m ≡ TooLarge = e ∙ rw h in let z : _≡_ {A = ℕ} 0 1 = cc in absurd (omega arith)
+  product-is m e =
+      let f = cond-second (leb (2 ^ 64) n) _ _ _ (λ q. let o : _≡_ {A = ℕ} 0 1 = cc in omega arith) (sym e) .1 in
+      cc
 
   pub product-not : TooLarge ≡ productOf n → 2 ^ 64 ≤ n
   unfolding productOf
-  product-not e = go (leb (2 ^ 64) n) refl
-    where
-      go : (t : Bool) → leb (2 ^ 64) n ≡ t → 2 ^ 64 ≤ n
-      go true h = leb-true (2 ^ 64) n h
-      go false h = let f : TooLarge ≡ Fits n = e ∙ rw h in let z : _≡_ {A = ℕ} 0 1 = cc in absurd (omega arith)
+  product-not e = leb-true (2 ^ 64) n (cond-first (leb (2 ^ 64) n) _ _ _ (λ q. let o : _≡_ {A = ℕ} 0 1 = cc in omega arith) (sym e) .0)
 
 -- the division tells whether a product fits
 module _ (a b : ℕ) (h : (a ≡ 0 → ⊥)) where
@@ -197,21 +192,14 @@ pub record Held (l : List ℕ) (v : ℕ) : Type 0 where
 
 pub held : (l : List ℕ) (v : ℕ) → Values v ≡ holdsOf l → Held l v
 unfolding holdsOf
-held l v e = go (isSegment l) refl
-  where
-    go : (t : Bool) → isSegment l ≡ t → Held l v
-    go true h = let f : Values v ≡ Values (valuesHeld (decodeSegment l)) = e ∙ rw h in record { valid = h; values-are = cc }
-    go false h = let f : Values v ≡ Malformed = e ∙ rw h in let z : _≡_ {A = ℕ} 0 1 = cc in absurd (omega arith)
+held l v e =
+    let p = cond-first (isSegment l) _ _ _ (λ q. let o : _≡_ {A = ℕ} 0 1 = cc in omega arith) (sym e) in
+    let f = p .1 in
+    record { valid = p .0; values-are = cc }
 
 not-held : (l : List ℕ) → Malformed ≡ holdsOf l → isSegment l ≡ false
 unfolding holdsOf
-not-held l e = go (isSegment l) refl
-  where
-    go : (t : Bool) → isSegment l ≡ t → isSegment l ≡ false
-    go false h = h
-    go true h =
-        let f : Malformed ≡ Values (valuesHeld (decodeSegment l)) = e ∙ rw h in
-        let z : _≡_ {A = ℕ} 0 1 = cc in absurd (omega arith)
+not-held l e = cond-second (isSegment l) _ _ _ (λ q. let o : _≡_ {A = ℕ} 0 1 = cc in omega arith) (sym e) .0
 
 module _ (l : List ℕ) (s r m : ℕ) where
   pub refused-malformed : Malformed ≡ holdsOf l → Refused MalformedInput ≡ chargeOf l s r m

@@ -15,6 +15,7 @@ use lib.Seq.{drop-drop}
 use lib.Dec.{leb, ltb, eqb}
 use borrow.Author.Tests.{le-leb, lt-leb, leb-true, lt-ltb, le-ltb, ltb-true, eq-eqb, ne-eqb, eqb-true}
 use Rattle.slice.specs.BoolLaws.{both-true}
+use Rattle.slice.proofs.TestLaws.{cond-first, cond-second}
 use Rattle.slice_int.specs.Be.{beAt}
 pub use Rattle.slice_int.proofs.RowLaws.{Row, row-none, row-at}
 use Rattle.hours.specs.declared.Span.{Span}
@@ -247,22 +248,13 @@ valid-shaped l h =
 
 pub shaped : (l : List ℕ) (m n : ℕ) → Counts m n ≡ shapeOf l → Shaped l m n
 unfolding shapeOf
-shaped l m n e = go (isContract l) refl
-  where
-    go : (t : Bool) → isContract l ≡ t → Shaped l m n
-    go true h =
-        let f : Counts m n ≡ Counts (termCount l) (windowCount l) = e ∙ rw h in
-        let fm : termCount l ≡ m = cc in
-        let fn : windowCount l ≡ n = cc in
-        rw fm at (rw fn at (valid-shaped l h))
-    go false h = let f : Counts m n ≡ Malformed = e ∙ rw h in let z : _≡_ {A = ℕ} 0 1 = cc in absurd (omega arith)
+shaped l m n e =
+    let p = cond-first (isContract l) _ _ _ (λ q. let o : _≡_ {A = ℕ} 0 1 = cc in omega arith) (sym e) in
+    let f = p .1 in
+    let fm : termCount l ≡ m = cc in
+    let fn : windowCount l ≡ n = cc in
+    rw fm at (rw fn at (valid-shaped l (p .0)))
 
 pub not-shaped : (l : List ℕ) → Malformed ≡ shapeOf l → isContract l ≡ false
 unfolding shapeOf
-not-shaped l e = go (isContract l) refl
-  where
-    go : (t : Bool) → isContract l ≡ t → isContract l ≡ false
-    go false h = h
-    go true h =
-        let f : Malformed ≡ Counts (termCount l) (windowCount l) = e ∙ rw h in
-        let z : _≡_ {A = ℕ} 0 1 = cc in absurd (omega arith)
+not-shaped l e = cond-second (isContract l) _ _ _ (λ q. let o : _≡_ {A = ℕ} 0 1 = cc in omega arith) (sym e) .0

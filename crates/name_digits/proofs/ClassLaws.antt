@@ -13,7 +13,7 @@ use borrow.Author.Tests.{leb-true, le-leb, lt-leb, eqb-true, ne-eqb}
 use Rattle.slice.specs.BoolLaws.{both-true}
 use Rattle.name_parents.specs.Classes.{between, classOf, isHexDigit}
 use Rattle.name_digits.specs.Digits.{hexDigitValue, hexDigitOf}
-use Rattle.name_digits.proofs.TestLaws.{cond-first, cond-second}
+use Rattle.slice.proofs.TestLaws.{cond-first, cond-second}
 
 -- ---- the bytes of a class
 

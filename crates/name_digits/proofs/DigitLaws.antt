@@ -22,7 +22,7 @@ use Rattle.name_parents.specs.Classes.{isDigit, isHexDigit}
 use Rattle.name_digits.specs.declared.Number.the-variants.{Is, None}
 use Rattle.name_digits.specs.Digits.{every, allDigits, allHexDigits, valueFrom, digitValue, hexDigitValue, decimalValue, hexValue}
 use Rattle.name_digits.specs.Digits.{isHexWord, isSegmentId, hexWord, segmentIdOf}
-use Rattle.name_digits.proofs.TestLaws.{cond-first, cond-second}
+use Rattle.slice.proofs.TestLaws.{cond-first, cond-second}
 use Rattle.name_digits.proofs.ClassLaws.{hex-value-bound}
 
 -- ---- a loop over digits

@@ -1,4 +1,3 @@
-pub mod TestLaws
 pub mod ClassLaws
 pub mod DigitLaws
 pub mod NumeralLaws

@@ -41,7 +41,7 @@ use Rattle.name_digits.specs.Digits.{decimalValue, hexValue, isSegmentId, hexWo
 use Rattle.name_source.specs.Parse.{hasSlash, beforeLast, lastSlash, startPart, endPart, idPart, isDescriptor}
 use Rattle.name_source.specs.Parse.{rangeStage, descriptorStage, parentStage, parseSegmentTopic, parseText}
 use Rattle.name_source.specs.Parse.{sourceStage, segmentSource, parentOutcome, parentTopic}
-use Rattle.name_digits.proofs.TestLaws.{cond-first}
+use Rattle.slice.proofs.TestLaws.{cond-first}
 use Rattle.name_digits.proofs.DigitLaws.{word-told, word-none, id-empty, id-told, id-none}
 use Rattle.name_source.proofs.SlashLaws.{slash-told, slash-none, before-last-inside, before-last-take}
 

@@ -14,7 +14,7 @@ use borrow.Author.Tests.{eq-eqb, ne-eqb}
 use Rattle.name_parents.specs.Classes.{classOf, isSlash}
 use Rattle.name_source.specs.declared.Slash.the-variants.{At, Nothing}
 use Rattle.name_source.specs.Parse.{hasSlash, beforeLast, lastSlash}
-use Rattle.name_digits.proofs.TestLaws.{cond-first, cond-second}
+use Rattle.slice.proofs.TestLaws.{cond-first, cond-second}
 
 slash-at : (s : List ℕ) (j : ℕ) → j < length s → hasSlash (drop j s) ≡ (isSlash (getD s j 0) || hasSlash (drop (suc j) s))
 unfolding hasSlash

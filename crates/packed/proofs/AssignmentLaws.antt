@@ -19,6 +19,7 @@ use lib.Seq.{drop-drop}
 use lib.Dec.{leb}
 use borrow.Author.Tests.{le-leb, lt-leb, leb-true, leb-false}
 use Rattle.slice.specs.BoolLaws.{both-true}
+use Rattle.slice.proofs.TestLaws.{cond-first, cond-second}
 use Rattle.topic_types.specs.declared.KeyRange.{KeyRange}
 use Rattle.topic_types.specs.KeyRanges.{keyRange}
 use Rattle.ranges.specs.Overlap.{overlap, overlapsAny, anyOverlap, startsFrom, risingFrom}
@@ -218,28 +219,15 @@ pub record RecordIs (s : List ℕ) (p end i z : ℕ) : Type 0 where
 
 pub record-is : (s : List ℕ) (p end i z : ℕ) → Record i z ≡ recordRead s p end → RecordIs s p end i z
 unfolding recordRead recordValid
-record-is s p end i z e = go (recordValid s p end) refl
-  where
-    go : (t : Bool) → recordValid s p end ≡ t → RecordIs s p end i z
-    go true h =
-        let f : Record i z ≡ Record (decodeSegment (drop p s) .segmentId) (sizeSegment (decodeSegment (drop p s))) = e ∙ rw h in
-        let b = both-true _ _ h in
-        record { id-is = cc; size-is = cc; fits = leb-true _ _ (b .0); ok = b .1 }
-    go false h =
-        let f : Record i z ≡ Malformed = e ∙ rw h in
-        let z : _≡_ {A = ℕ} 0 1 = cc in
-        absurd (omega arith)
+record-is s p end i z e =
+    let c = cond-first (recordValid s p end) _ _ _ (λ q. let o : _≡_ {A = ℕ} 0 1 = cc in omega arith) (sym e) in
+    let f = c .1 in
+    let b = both-true _ _ (c .0) in
+    record { id-is = cc; size-is = cc; fits = leb-true _ _ (b .0); ok = b .1 }
 
 not-valid : (s : List ℕ) (p end : ℕ) → Malformed ≡ recordRead s p end → recordValid s p end ≡ false
 unfolding recordRead
-not-valid s p end e = go (recordValid s p end) refl
-  where
-    go : (t : Bool) → recordValid s p end ≡ t → recordValid s p end ≡ false
-    go true h =
-        let f : Malformed ≡ Record (decodeSegment (drop p s) .segmentId) (sizeSegment (decodeSegment (drop p s))) = e ∙ rw h in
-        let z : _≡_ {A = ℕ} 0 1 = cc in
-        absurd (omega arith)
-    go false h = h
+not-valid s p end e = cond-second (recordValid s p end) _ _ _ (λ q. let o : _≡_ {A = ℕ} 0 1 = cc in omega arith) (sym e) .0
 
 -- ---- one turn of reading segments: what is left decides the whole
 

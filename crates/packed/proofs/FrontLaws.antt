@@ -14,6 +14,7 @@ use lib.ListN.{length, drop}
 use lib.Dec.{leb, eqb}
 use borrow.Author.Tests.{le-leb, lt-leb, leb-true, eq-eqb, ne-eqb}
 use Rattle.slice.specs.BoolLaws.{both-true}
+use Rattle.slice.proofs.TestLaws.{cond-first, cond-second}
 use Rattle.slice_int.specs.Be.{beAt}
 use Rattle.packed.specs.Assignment.{AssignedSegment, slotSize, decodeSegments, decodeAssignment, sizeSegments, sizeAssignment, okFrom}
 use Rattle.packed.specs.Assignment.{okAssignment, startsAssignment, isAssignment}
@@ -120,16 +121,10 @@ record Front (s : List ℕ) (z n : ℕ) : Type 0 where
 
 front : (s : List ℕ) (z n : ℕ) → Assignment z n ≡ frontRead s → Front s z n
 unfolding frontRead
-front s z n e = go (startsAssignment s) refl
-  where
-    go : (t : Bool) → startsAssignment s ≡ t → Front s z n
-    go true h =
-        let f : Assignment z n ≡ Assignment (sizeAssignment (decodeAssignment s)) (length (decodeAssignment s .segments)) = e ∙ rw h in
-        record { starts-is = h; size-is = cc; count-is = cc }
-    go false h =
-        let f : Assignment z n ≡ Malformed = e ∙ rw h in
-        let z : _≡_ {A = ℕ} 0 1 = cc in
-        absurd (omega arith)
+front s z n e =
+    let p = cond-first (startsAssignment s) _ _ _ (λ q. let o : _≡_ {A = ℕ} 0 1 = cc in omega arith) (sym e) in
+    let f = p .1 in
+    record { starts-is = p .0; size-is = cc; count-is = cc }
 
 module _ (s : List ℕ) (z n : ℕ) (e : Assignment z n ≡ frontRead s) where
   -- nothing is left over
@@ -143,11 +138,4 @@ module _ (s : List ℕ) (z n : ℕ) (e : Assignment z n ≡ frontRead s) where
 
 pub whole-refused : (s : List ℕ) → Malformed ≡ frontRead s → Malformed ≡ wholeRead s
 unfolding frontRead wholeRead isAssignment
-whole-refused s e = go (startsAssignment s) refl
-  where
-    go : (t : Bool) → startsAssignment s ≡ t → Malformed ≡ wholeRead s
-    go true h =
-        let f : Malformed ≡ Assignment (sizeAssignment (decodeAssignment s)) (length (decodeAssignment s .segments)) = e ∙ rw h in
-        let z : _≡_ {A = ℕ} 0 1 = cc in
-        absurd (omega arith)
-    go false h = simp h
+whole-refused s e = simp (cond-second (startsAssignment s) _ _ _ (λ q. let o : _≡_ {A = ℕ} 0 1 = cc in omega arith) (sym e) .0)

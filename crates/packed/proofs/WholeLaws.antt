@@ -2,13 +2,14 @@
 -- Assumes nothing.
 use Prim.Native.Nat.{ℕ}
 use native.Mathlib.Omega.{arith}
-use mathlib.Core.Path.{_≡_, refl, _∙_}
-use mathlib.Core.Bool.{Bool, true, false}
+use mathlib.Core.Path.{_≡_, sym, _∙_}
+use mathlib.Core.Bool.{true, false}
 use mathlib.Core.List.{List}
 use lib.ListN.{length, drop}
 use Rattle.slice.specs.BoolLaws.{both-true}
+use Rattle.slice.proofs.TestLaws.{cond-first, cond-second}
 use Rattle.slice_int.specs.Be.{beAt}
-use Rattle.packed.specs.Assignment.{sizeAssignment, num, decodeSegments, decodeAssignment, startsAssignment, isAssignment}
+use Rattle.packed.specs.Assignment.{num, decodeSegments, decodeAssignment, startsAssignment, isAssignment}
 use Rattle.packed.specs.Answers.{wholeRead}
 use Rattle.packed.specs.declared.Packed.the-variants.{Assignment, Malformed}
 use Rattle.packed.proofs.AssignmentLaws.{length-segmentsOf, first-segments, Rest, rest-start}
@@ -22,31 +23,18 @@ pub record Whole (s : List ℕ) (n : ℕ) : Type 0 where
 
 pub whole-read : (s : List ℕ) (z n : ℕ) → Assignment z n ≡ wholeRead s → Whole s n
 unfolding wholeRead isAssignment decodeAssignment num beAt
-whole-read s z n e = go (isAssignment s) refl
-  where
-    go : (t : Bool) → isAssignment s ≡ t → Whole s n
-    go true h =
-        let f : Assignment z n ≡ Assignment (sizeAssignment (decodeAssignment s)) (length (decodeAssignment s .segments)) = e ∙ rw h in
-        let a : n ≡ length (decodeAssignment s .segments) = cc in
-        let b : n ≡ beAt 2 s 8 = a ∙ length-segmentsOf _ _ in
-        record {
-          is-assignment = h;
-          count = a;
-          segments-are = first-segments s n b;
-          records = rest-start s n (both-true (startsAssignment s) _ h .0) b;
-        }
-    go false h =
-        let f : Assignment z n ≡ Malformed = e ∙ rw h in
-        let q : _≡_ {A = ℕ} 0 1 = cc in
-        absurd (omega arith)
+whole-read s z n e =
+    let p = cond-first (isAssignment s) _ _ _ (λ q. let o : _≡_ {A = ℕ} 0 1 = cc in omega arith) (sym e) in
+    let f = p .1 in
+    let a : n ≡ length (decodeAssignment s .segments) = cc in
+    let b : n ≡ beAt 2 s 8 = a ∙ length-segmentsOf _ _ in
+    record {
+      is-assignment = p .0;
+      count = a;
+      segments-are = first-segments s n b;
+      records = rest-start s n (both-true (startsAssignment s) _ (p .0) .0) b;
+    }
 
 pub not-assignment : (s : List ℕ) → Malformed ≡ wholeRead s → isAssignment s ≡ false
 unfolding wholeRead
-not-assignment s e = go (isAssignment s) refl
-  where
-    go : (t : Bool) → isAssignment s ≡ t → isAssignment s ≡ false
-    go true h =
-        let f : Malformed ≡ Assignment (sizeAssignment (decodeAssignment s)) (length (decodeAssignment s .segments)) = e ∙ rw h in
-        let q : _≡_ {A = ℕ} 0 1 = cc in
-        absurd (omega arith)
-    go false h = h
+not-assignment s e = cond-second (isAssignment s) _ _ _ (λ q. let o : _≡_ {A = ℕ} 0 1 = cc in omega arith) (sym e) .0

@@ -15,6 +15,7 @@ use lib.ListN.{length, drop}
 use lib.Dec.{leb}
 use borrow.Author.Tests.{not-true, not-false, le-leb, lt-leb, leb-true, eq-eqb, ne-eqb}
 use Rattle.slice.specs.BoolLaws.{both-true}
+use Rattle.slice.proofs.TestLaws.{cond-first, cond-second}
 use Rattle.slice_int.specs.Be.{beAt}
 use Rattle.packed.specs.Assignment.{sizeSegments, num, decodeSegments, okFrom}
 use Rattle.packed.specs.Answers.{recordRead}
@@ -123,24 +124,15 @@ module _ {s : List ℕ} {at n p left : ℕ} {first : Bool} {prev : ℕ} (I : Rec
 -- what the answer of `records_to` says
 pub records-to : (s : List ℕ) (at n z : ℕ) → to.End z ≡ recordsTo s at n → (Rest s at n) × (z ≡ at + sizeSegments (decodeSegments n (drop at s)))
 unfolding recordsTo
-records-to s at n z e = go (rest s (length s) at n 0) refl
-  where
-    go : (t : Bool) → rest s (length s) at n 0 ≡ t → (Rest s at n) × (z ≡ at + sizeSegments (decodeSegments n (drop at s)))
-    go true h =
-        let f : to.End z ≡ to.End (at + sizeSegments (decodeSegments n (drop at s))) = e ∙ simp h in
-        let b = both-true (leb (at + sizeSegments (decodeSegments n (drop at s))) (length s)) _ h in
-        (record { fits = leb-true _ _ (b .0); ok = b .1 }, cc)
-    go false h = let f : to.End z ≡ to.Malformed = e ∙ simp h in let y : _≡_ {A = ℕ} 0 1 = cc in absurd (omega arith)
+records-to s at n z e =
+    let p = cond-first (rest s (length s) at n 0) _ _ _ (λ q. let o : _≡_ {A = ℕ} 0 1 = cc in omega arith) (sym e) in
+    let f = p .1 in
+    let b = both-true (leb (at + sizeSegments (decodeSegments n (drop at s))) (length s)) _ (p .0) in
+    (record { fits = leb-true _ _ (b .0); ok = b .1 }, cc)
 
 pub no-records : (s : List ℕ) (at n : ℕ) → to.Malformed ≡ recordsTo s at n → rest s (length s) at n 0 ≡ false
 unfolding recordsTo
-no-records s at n e = go (rest s (length s) at n 0) refl
-  where
-    go : (t : Bool) → rest s (length s) at n 0 ≡ t → rest s (length s) at n 0 ≡ false
-    go false h = h
-    go true h =
-        let f : to.Malformed ≡ to.End (at + sizeSegments (decodeSegments n (drop at s))) = e ∙ simp h in
-        let y : _≡_ {A = ℕ} 0 1 = cc in absurd (omega arith)
+no-records s at n e = cond-second (rest s (length s) at n 0) _ _ _ (λ q. let o : _≡_ {A = ℕ} 0 1 = cc in omega arith) (sym e) .0
 
 -- ---- the cases of `frontRead`
 

@@ -11,13 +11,14 @@ use Prim.Native.Nat.{ℕ, zero, suc, _+_, _-_, _*_, _^_, _≤_, _<_}
 use native.Mathlib.Nat.{add-zero}
 use native.Mathlib.Omega.{arith}
 use mathlib.Core.Path.{_≡_, refl, sym, ap, _∙_}
-use mathlib.Core.Bool.{Bool, true, false, _&&_}
+use mathlib.Core.Bool.{true, false, _&&_}
 use mathlib.Core.List.{List, [], _∷_, _++_, append-assoc, append-nil}
 use lib.ListN.{length, take, drop, length-append, length-take, length-drop, take-append-drop}
 use lib.Seq.{drop-drop, drop-at, take-all}
 use lib.Dec.{leb, eqb}
 use borrow.Author.Tests.{le-leb, leb-true, eq-eqb, eqb-true}
 use Rattle.slice.specs.BoolLaws.{both-true}
+use Rattle.slice.proofs.TestLaws.{cond-first, cond-second}
 use Rattle.slice.proofs.PartLaws.{Bytes, Bytes-take, Bytes-drop}
 use Rattle.slice_int.specs.Be.{be, bytesOf}
 use Rattle.slice_int.proofs.BeLaws.{length-bytesOf, be-below, be-front, drop-front, bytesOf-front}
@@ -185,30 +186,17 @@ front l m n z em en ez e =
 -- what the answer of `read_front` says
 pub front-answer : (l : List ℕ) (m n z : ℕ) → front-read.Delta m n z ≡ frontRead l → Front l m n z
 unfolding frontRead decodeDelta
-front-answer l m n z e = go (startsDelta l) refl
-  where
-    go : (t : Bool) → startsDelta l ≡ t → Front l m n z
-    go true h =
-        let f : front-read.Delta m n z ≡ front-read.Delta (length (decodeDelta l .lost)) (length (decodeDelta l .gained)) (sizeDelta (decodeDelta l)) = e ∙ rw h in
-        let a : m ≡ length (decodeDelta l .lost) = cc in
-        let b : n ≡ length (decodeDelta l .gained) = cc in
-        let k : z ≡ sizeDelta (decodeDelta l) = cc in
-        front l m n z (a ∙ length-idsOf _ _) (b ∙ length-segmentsOf _ _) k h
-    go false h =
-        let f : front-read.Delta m n z ≡ front-read.Malformed = e ∙ rw h in
-        let q : _≡_ {A = ℕ} 0 1 = cc in
-        absurd (omega arith)
+front-answer l m n z e =
+    let p = cond-first (startsDelta l) _ _ _ (λ q. let o : _≡_ {A = ℕ} 0 1 = cc in omega arith) (sym e) in
+    let f = p .1 in
+    let a : m ≡ length (decodeDelta l .lost) = cc in
+    let b : n ≡ length (decodeDelta l .gained) = cc in
+    let k : z ≡ sizeDelta (decodeDelta l) = cc in
+    front l m n z (a ∙ length-idsOf _ _) (b ∙ length-segmentsOf _ _) k (p .0)
 
 pub not-front : (l : List ℕ) → front-read.Malformed ≡ frontRead l → startsDelta l ≡ false
 unfolding frontRead
-not-front l e = go (startsDelta l) refl
-  where
-    go : (t : Bool) → startsDelta l ≡ t → startsDelta l ≡ false
-    go true h =
-        let f : front-read.Malformed ≡ front-read.Delta (length (decodeDelta l .lost)) (length (decodeDelta l .gained)) (sizeDelta (decodeDelta l)) = e ∙ rw h in
-        let q : _≡_ {A = ℕ} 0 1 = cc in
-        absurd (omega arith)
-    go false h = h
+not-front l e = cond-second (startsDelta l) _ _ _ (λ q. let o : _≡_ {A = ℕ} 0 1 = cc in omega arith) (sym e) .0
 
 -- ---- a walk over a delta that is lent alone
 
@@ -248,29 +236,16 @@ walkable l m n em en e =
 -- what the answer of `read_delta` says
 pub walk-read : (l : List ℕ) (m n : ℕ) → Delta m n ≡ deltaRead l → Walkable l m n
 unfolding deltaRead decodeDelta
-walk-read l m n e = go (isDelta l) refl
-  where
-    go : (t : Bool) → isDelta l ≡ t → Walkable l m n
-    go true h =
-        let f : Delta m n ≡ Delta (length (decodeDelta l .lost)) (length (decodeDelta l .gained)) = e ∙ rw h in
-        let a : m ≡ length (decodeDelta l .lost) = cc in
-        let b : n ≡ length (decodeDelta l .gained) = cc in
-        walkable l m n (a ∙ length-idsOf _ _) (b ∙ length-segmentsOf _ _) h
-    go false h =
-        let f : Delta m n ≡ Malformed = e ∙ rw h in
-        let z : _≡_ {A = ℕ} 0 1 = cc in
-        absurd (omega arith)
+walk-read l m n e =
+    let p = cond-first (isDelta l) _ _ _ (λ q. let o : _≡_ {A = ℕ} 0 1 = cc in omega arith) (sym e) in
+    let f = p .1 in
+    let a : m ≡ length (decodeDelta l .lost) = cc in
+    let b : n ≡ length (decodeDelta l .gained) = cc in
+    walkable l m n (a ∙ length-idsOf _ _) (b ∙ length-segmentsOf _ _) (p .0)
 
 pub not-delta : (l : List ℕ) → Malformed ≡ deltaRead l → isDelta l ≡ false
 unfolding deltaRead
-not-delta l e = go (isDelta l) refl
-  where
-    go : (t : Bool) → isDelta l ≡ t → isDelta l ≡ false
-    go true h =
-        let f : Malformed ≡ Delta (length (decodeDelta l .lost)) (length (decodeDelta l .gained)) = e ∙ rw h in
-        let z : _≡_ {A = ℕ} 0 1 = cc in
-        absurd (omega arith)
-    go false h = h
+not-delta l e = cond-second (isDelta l) _ _ _ (λ q. let o : _≡_ {A = ℕ} 0 1 = cc in omega arith) (sym e) .0
 
 -- ---- read, then encoded
 

@@ -15,6 +15,7 @@ use lib.Seq.{drop-drop, length-take-le}
 use lib.Dec.{leb}
 use borrow.Author.Tests.{le-leb, lt-leb, leb-true, eqb-true}
 use Rattle.slice.specs.BoolLaws.{both-true}
+use Rattle.slice.proofs.TestLaws.{cond-first, cond-second}
 use Rattle.slice_int.specs.Be.{beAt}
 use Rattle.packed.specs.Assignment.{num, decodeAssignment, sizeAssignment, startsAssignment, isAssignment}
 use Rattle.packed_queue.specs.declared.Entries.the-variants as entries
@@ -149,25 +150,14 @@ module _ (s : List ℕ) (n at left : ℕ) (w : Walk s n at left) where
 
 pub read-there : (n : ℕ) (l : List ℕ) (size : ℕ) → entries.End size ≡ entriesRead n l → (startEntries n l ≡ true) × (size ≡ entriesEnd n l)
 unfolding entriesRead
-read-there n l size e = go (startEntries n l) refl
-  where
-    go : (t : Bool) → startEntries n l ≡ t → (startEntries n l ≡ true) × (size ≡ entriesEnd n l)
-    go true h = let f : entries.End size ≡ entries.End (entriesEnd n l) = e ∙ rw h in (h, cc)
-    go false h =
-        let f : entries.End size ≡ entries.Malformed = e ∙ rw h in
-        let z : _≡_ {A = ℕ} 0 1 = cc in
-        absurd (omega arith)
+read-there n l size e =
+    let p = cond-first (startEntries n l) _ _ _ (λ q. let o : _≡_ {A = ℕ} 0 1 = cc in omega arith) (sym e) in
+    let f = p .1 in
+    (p .0, cc)
 
 pub read-not : (n : ℕ) (l : List ℕ) → entries.Malformed ≡ entriesRead n l → startEntries n l ≡ false
 unfolding entriesRead
-read-not n l e = go (startEntries n l) refl
-  where
-    go : (t : Bool) → startEntries n l ≡ t → startEntries n l ≡ false
-    go false h = h
-    go true h =
-        let f : entries.Malformed ≡ entries.End (entriesEnd n l) = e ∙ rw h in
-        let z : _≡_ {A = ℕ} 0 1 = cc in
-        absurd (omega arith)
+read-not n l e = cond-second (startEntries n l) _ _ _ (λ q. let o : _≡_ {A = ℕ} 0 1 = cc in omega arith) (sym e) .0
 
 -- ---- where entries end
 

@@ -8,12 +8,13 @@ use Prim.Native.Nat.{ℕ, _+_, _-_, _≤_, _<_}
 use native.Mathlib.Nat.{not-suc-le-zero}
 use native.Mathlib.Omega.{arith}
 use mathlib.Core.Path.{_≡_, refl, sym, ap, _∙_}
-use mathlib.Core.Bool.{Bool, true, false, cond}
+use mathlib.Core.Bool.{true, false, cond}
 use mathlib.Core.List.{List, [], _∷_, _++_}
 use mathlib.Core.Option.{Option, some, none}
 use lib.ListN.{length, drop, length-append}
 use lib.Dec.{leb}
 use borrow.Author.Tests.{le-leb, lt-leb, leb-true, leb-false}
+use Rattle.slice.proofs.TestLaws.{cond-first, cond-second}
 use Rattle.refusal.specs.declared.Refusal.{Refusal}
 use Rattle.refusal.specs.declared.Refusal.the-variants.{MalformedInput, InvalidUtf8, InvalidParent, ResultTooLong}
 use Rattle.utf8.specs.Table.{isUtf8}
@@ -77,31 +78,19 @@ module _ (path : List ℕ) (gs : List AssignedSegment) (epoch o : List ℕ) wher
   module _ (head : ℕ) (e : head ≡ length epoch) (h : head ≤ length o) where
     pub message-beyond : Beyond ≡ roomOf (length o - head) path gs → refuse ResultTooLong o ≡ written (epoch ++ segmentFields path gs) o
     unfolding roomOf
-    message-beyond r = go (leb (length (segmentFields path gs)) (length o - head)) refl
-      where
-        go : (t : Bool) → leb (length (segmentFields path gs)) (length o - head) ≡ t
-            → refuse ResultTooLong o ≡ written (epoch ++ segmentFields path gs) o
-        go true k =
-            let f : Beyond ≡ Size (length (segmentFields path gs)) = r ∙ rw k in
-            let z : _≡_ {A = ℕ} 0 1 = cc in
-            absurd (omega arith)
-        go false k = too-long (omega (arith, leb-false (length (segmentFields path gs)) (length o - head) k))
+    message-beyond r =
+        let p = cond-second (leb (length (segmentFields path gs)) (length o - head)) _ _ _ (λ q. let o : _≡_ {A = ℕ} 0 1 = cc in omega arith) (sym r) in
+        too-long (omega (arith, leb-false (length (segmentFields path gs)) (length o - head) (p .0)))
 
     pub message-room : (n : ℕ) → Size n ≡ roomOf (length o - head) path gs → Fits path gs epoch o head n
     unfolding roomOf
-    message-room n r = go (leb (length (segmentFields path gs)) (length o - head)) refl
-      where
-        go : (t : Bool) → leb (length (segmentFields path gs)) (length o - head) ≡ t → Fits path gs epoch o head n
-        go true k =
-            let f : Size n ≡ Size (length (segmentFields path gs)) = r ∙ rw k in
-            let g : n ≡ length (segmentFields path gs) = cc in
-            let m = leb-true (length (segmentFields path gs)) (length o - head) k in
-            let l = length-append epoch (segmentFields path gs) in
-            record { whole = omega arith; size = omega arith; room = omega arith }
-        go false k =
-            let f : Size n ≡ Beyond = r ∙ rw k in
-            let z : _≡_ {A = ℕ} 0 1 = cc in
-            absurd (omega arith)
+    message-room n r =
+        let p = cond-first (leb (length (segmentFields path gs)) (length o - head)) _ _ _ (λ q. let o : _≡_ {A = ℕ} 0 1 = cc in omega arith) (sym r) in
+        let f = p .1 in
+        let g : n ≡ length (segmentFields path gs) = cc in
+        let m = leb-true (length (segmentFields path gs)) (length o - head) (p .0) in
+        let l = length-append epoch (segmentFields path gs) in
+        record { whole = omega arith; size = omega arith; room = omega arith }
 
   pub message-written : (head n : ℕ) → Fits path gs epoch o head n → (q : List ℕ) → q ≡ put o 0 (epoch ++ segmentFields path gs)
       → outcome (Written (head + n)) q ≡ written (epoch ++ segmentFields path gs) o
