@@ -1,6 +1,6 @@
 -- Laws of byte order: it turns around (`order-flip`), is equal for equal lists alone (`order-refl`, `order-equal`, `same-order`), and goes on
--- (`order-trans`, `before-trans`); what a loop over both lists asks at the index i, by bytes and by words (`order-word`,
--- `order-word-less`, `end-..`), and how a word is read (`word-..`).
+-- (`order-trans`, `before-trans`); what a loop over both lists asks at the index i, by bytes and by words (`Words`,
+-- `words-..`, `end-..`), and how a word is read (`word-..`).
 -- Assumes nothing.
 use Prim.Native.Nat.{ℕ, suc, _+_, _-_, _*_, _^_, _≤_, _<_, min}
 use native.Mathlib.Nat.{mul-le-mul-right, suc-mul}
@@ -12,7 +12,7 @@ use mathlib.Core.Bool.{Bool, true, false, cond, false≢true}
 use mathlib.Core.Logic.{_⊎_, inl, inr}
 use mathlib.Core.List.{List, [], _∷_, _++_}
 use lib.ListN.{length, take, drop, getD, length-take, length-drop, take-append-drop, drop-of-length-le}
-use lib.Seq.{drop-cons, drop-drop, length-take-le, take-add, take-take}
+use lib.Seq.{drop-cons, length-take-le, take-add, take-take}
 use lib.Dec.{ltb}
 use borrow.Author.Tests.{lt-ltb, le-ltb, ltb-true, ltb-false}
 use Rattle.slice.specs.Same.{sameBytes}
@@ -211,28 +211,13 @@ same-word w a b i ba bb h k e =
     ∙ ap (bytesOf w) e
     ∙ bytesOf-front w (drop i b) (rw length-drop (omega arith)) (Bytes-drop i b bb)
 
--- a front that both have, and a word behind it
-pub front-word : (w : ℕ) (a b : List ℕ) (i : ℕ) → Bytes a → Bytes b → i + w ≤ length a → i + w ≤ length b → take i a ≡ take i b
-    → beAt w a i ≡ beAt w b i → take (i + w) a ≡ take (i + w) b
-front-word w a b i ba bb h k e f =
-    take-add i w a ∙ ap₂ (λ (x y : List ℕ). x ++ y) e (same-word w a b i ba bb h k f) ∙ sym (take-add i w b)
-
--- and w bytes behind it, as they lie
-pub front-same : (w : ℕ) (a b : List ℕ) (i : ℕ) → take i a ≡ take i b → take w (drop i a) ≡ take w (drop i b) → take (i + w) a ≡ take (i + w) b
+-- a front that both have, and w bytes behind it
+front-same : (w : ℕ) (a b : List ℕ) (i : ℕ) → take i a ≡ take i b → take w (drop i a) ≡ take w (drop i b) → take (i + w) a ≡ take (i + w) b
 front-same w a b i e f = take-add i w a ∙ ap₂ (λ (x y : List ℕ). x ++ y) e f ∙ sym (take-add i w b)
 
 -- a part of such a front
 pub front-part : (a b : List ℕ) (i j : ℕ) → j ≤ i → take i a ≡ take i b → take j a ≡ take j b
 front-part a b i j h e = sym (take-take j i a h) ∙ ap (take j) e ∙ take-take j i b h
-
-pub order-word : (w : ℕ) (a b : List ℕ) (i : ℕ) → Bytes a → Bytes b → i + w ≤ length a → i + w ≤ length b → beAt w a i ≡ beAt w b i
-    → order (drop i a) (drop i b) ≡ order (drop (i + w) a) (drop (i + w) b)
-order-word w a b i ba bb h k e =
-    let p : List ℕ = take w (drop i a) in
-    let f : drop i a ≡ p ++ drop (i + w) a = sym (take-append-drop w (drop i a)) ∙ ap (λ (l : List ℕ). p ++ l) (drop-drop w i a) in
-    let g : drop i b ≡ p ++ drop (i + w) b =
-    sym (take-append-drop w (drop i b)) ∙ ap₂ (λ (x y : List ℕ). x ++ y) (sym (same-word w a b i ba bb h k e)) (drop-drop w i b) in
-    ap₂ order f g ∙ order-append p (drop (i + w) a) (drop (i + w) b)
 
 -- the first byte counts most
 be-cons : (x : ℕ) (xs : List ℕ) → be (x ∷ xs) ≡ x * 256 ^ length xs + be xs
@@ -271,7 +256,7 @@ word-less (x ∷ xs) (y ∷ ys) s t e bx by h =
         let n : x * p ≡ y * p = ap (λ (j : ℕ). j * p) m in
         first-alike x y (xs ++ s) (ys ++ t) m ∙ f (omega (arith, front, other))
 
-pub order-word-less : (w : ℕ) (a b : List ℕ) (i : ℕ) → Bytes a → Bytes b → i + w ≤ length a → i + w ≤ length b → beAt w a i < beAt w b i
+order-word-less : (w : ℕ) (a b : List ℕ) (i : ℕ) → Bytes a → Bytes b → i + w ≤ length a → i + w ≤ length b → beAt w a i < beAt w b i
     → order (drop i a) (drop i b) ≡ Less
 unfolding beAt
 order-word-less w a b i ba bb h k e =
@@ -283,58 +268,54 @@ order-word-less w a b i ba bb h k e =
     ∙ word-less x y (drop w (drop i a)) (drop w (drop i b)) (lx ∙ sym ly) (Bytes-take w (drop i a) (Bytes-drop i a ba))
     (Bytes-take w (drop i b) (Bytes-drop i b bb)) e
 
--- ---- the last word of the shorter one, whose n bytes before it are alike
+-- ---- two words read at a place, the bytes before it alike
 
--- x and y are those words
-pub record LastWords (a b : List ℕ) (n x y : ℕ) : Type 0 where
-  pub long : 8 ≤ n
-  pub ends : n ≡ min (length a) (length b)
-  pub alike : take (n - 8) a ≡ take (n - 8) b
+pub record Words (a b : List ℕ) (i x y : ℕ) : Type 0 where
+  pub alike : take i a ≡ take i b
   pub bytes-a : Bytes a
   pub bytes-b : Bytes b
-  pub word-a : x ≡ beAt 8 a (n - 8)
-  pub word-b : y ≡ beAt 8 b (n - 8)
+  pub fits-a : i + 8 ≤ length a
+  pub fits-b : i + 8 ≤ length b
+  pub word-a : x ≡ beAt 8 a i
+  pub word-b : y ≡ beAt 8 b i
 
-module _ {a b : List ℕ} {n x y : ℕ} (w : LastWords a b n x y) where
-  fits-a : n - 8 + 8 ≤ length a
-  fits-a = omega (arith, w .long, w .ends)
+module _ {a b : List ℕ} {i x y : ℕ} (w : Words a b i x y) where
+  pub words-less : x < y → order a b ≡ Less
+  words-less l =
+      order-behind a b i (w .alike)
+      ∙ order-word-less 8 a b i (w .bytes-a) (w .bytes-b) (w .fits-a) (w .fits-b) (omega (arith, w .word-a, w .word-b))
 
-  fits-b : n - 8 + 8 ≤ length b
-  fits-b = omega (arith, w .long, w .ends)
+  pub words-greater : y < x → order a b ≡ Greater
+  words-greater l =
+      order-behind a b i (w .alike)
+      ∙ less-flip (drop i b) (drop i a)
+      (order-word-less 8 b a i (w .bytes-b) (w .bytes-a) (w .fits-b) (w .fits-a) (omega (arith, w .word-a, w .word-b)))
 
-  pub end-less : x < y → order a b ≡ Less
-  end-less l =
-      order-behind a b (n - 8) (w .alike)
-      ∙ order-word-less 8 a b (n - 8) (w .bytes-a) (w .bytes-b) fits-a fits-b (omega (arith, w .word-a, w .word-b))
+  pub words-alike : x ≤ y → y ≤ x → take (i + 8) a ≡ take (i + 8) b
+  words-alike l m =
+      front-same 8 a b i (w .alike) (same-word 8 a b i (w .bytes-a) (w .bytes-b) (w .fits-a) (w .fits-b) (omega (arith, w .word-a, w .word-b)))
 
-  pub end-greater : y < x → order a b ≡ Greater
-  end-greater l =
-      order-behind a b (n - 8) (w .alike)
-      ∙ less-flip (drop (n - 8) b) (drop (n - 8) a)
-      (order-word-less 8 b a (n - 8) (w .bytes-b) (w .bytes-a) fits-b fits-a (omega (arith, w .word-a, w .word-b)))
+-- they are the last ones of the shorter list, which has n bytes, and alike
+module _ {a b : List ℕ} {n x y : ℕ} (w : Words a b (n - 8) x y) (h : 8 ≤ n) (s : n ≡ min (length a) (length b)) (l : x ≤ y) (m : y ≤ x) where
+  behind-end : order a b ≡ order (drop n a) (drop n b)
+  behind-end =
+      let e : n - 8 + 8 ≡ n = omega arith in
+      order-behind a b (n - 8 + 8) (words-alike w l m) ∙ ap (λ (k : ℕ). order (drop k a) (drop k b)) e
 
-  module _ (l : x ≤ y) (m : y ≤ x) where
-    behind-end : order a b ≡ order (drop n a) (drop n b)
-    behind-end =
-        let e : n - 8 + 8 ≡ n = omega (arith, w .long) in
-        order-behind a b (n - 8) (w .alike)
-        ∙ order-word 8 a b (n - 8) (w .bytes-a) (w .bytes-b) fits-a fits-b (omega (arith, w .word-a, w .word-b))
-        ∙ ap (λ (k : ℕ). order (drop k a) (drop k b)) e
+  first-ends : length a ≤ length b → length a ≤ n
+  first-ends q = omega (arith, s)
 
-    first-ends : length a ≤ length b → length a ≤ n
-    first-ends q = omega (arith, w .ends)
+  second-ends : length b ≤ length a → length b ≤ n
+  second-ends q = omega (arith, s)
 
-    second-ends : length b ≤ length a → length b ≤ n
-    second-ends q = omega (arith, w .ends)
+  pub end-shorter : length a < length b → order a b ≡ Less
+  end-shorter q = let d = first-ends (omega arith) in behind-end ∙ order-shorter a b n d (omega (arith, s, d))
 
-    pub end-shorter : length a < length b → order a b ≡ Less
-    end-shorter q = let d = first-ends (omega arith) in behind-end ∙ order-shorter a b n d (omega (arith, w .ends, d))
+  pub end-longer : length b < length a → order a b ≡ Greater
+  end-longer q = let d = second-ends (omega arith) in behind-end ∙ order-longer a b n (omega (arith, s, d)) d
 
-    pub end-longer : length b < length a → order a b ≡ Greater
-    end-longer q = let d = second-ends (omega arith) in behind-end ∙ order-longer a b n (omega (arith, w .ends, d)) d
-
-    pub end-equal : length a ≤ length b → length b ≤ length a → order a b ≡ Equal
-    end-equal q r = behind-end ∙ order-end a b n (first-ends q) (second-ends r)
+  pub end-equal : length a ≤ length b → length b ≤ length a → order a b ≡ Equal
+  end-equal q r = behind-end ∙ order-end a b n (first-ends q) (second-ends r)
 
 -- ---- a word read byte by byte
 

@@ -5,8 +5,7 @@ use native.Mathlib.Omega.{arith}
 use borrow.Author.Needs.{needs}
 use mathlib.Core.Path.{_≡_, refl}
 use lib.ListN.{take}
-use Rattle.slice_int.specs.Be.{beAt}
-use Rattle.watch_topics.proofs.OrderLaws.{front-word, front-part}
+use Rattle.watch_topics.proofs.OrderLaws.{Words, words-alike, front-part}
 use Rattle.watch_topics.proofs.alike.Statement.{statement}
 use Rattle.watch_topics.proofs.alike.Tie as tie
 
@@ -29,14 +28,17 @@ loop-again c =
     let r = c .before in
     let l = r .before .before .before in
     let s = l .before .before .before .args in
-    let i = l .loop .i in
-    let x = r .before .read-u64 .ensures in
-    let y = r .read-u642 .ensures in
-    let e : beAt 8 (s .a .now) i ≡ beAt 8 (s .b .now) i = omega (arith, x, y) in (
-      omega arith,
-      front-word 8 (s .a .now) (s .b .now) i (λ j. l .before .before .shared-slice-known .given j .fits)
-          (λ j. l .before .shared-slice-known2 .given j .fits) (omega arith) (omega arith) (l .loop .inv .1) e,
-    )
+    let w : Words (s .a .now) (s .b .now) (l .loop .i) (r .before .read-u64 .result) (r .read-u642 .result) =
+    record {
+      alike = l .loop .inv .1;
+      bytes-a = λ j. l .before .before .shared-slice-known .given j .fits;
+      bytes-b = λ j. l .before .shared-slice-known2 .given j .fits;
+      fits-a = omega arith;
+      fits-b = omega arith;
+      word-a = r .before .read-u64 .ensures;
+      word-b = r .read-u642 .ensures;
+    } in
+    (omega arith, words-alike w (omega arith) (omega arith))
 
 returns-2 : tie.Need-returns-2 Inv-loop μ-loop
 returns-2 c =

@@ -4,10 +4,9 @@
 use Prim.Native.Nat.{_-_, _≤_}
 use native.Mathlib.Omega.{arith}
 use borrow.Author.Needs.{needs}
-use mathlib.Core.Path.{_≡_, refl, sym, _∙_}
-use lib.ListN.{take, drop}
-use Rattle.slice_int.specs.Be.{beAt}
-use Rattle.watch_topics.proofs.OrderLaws.{less-flip, order-behind, front-word, front-part, order-word-less}
+use mathlib.Core.Path.{_≡_, refl, sym}
+use lib.ListN.{take}
+use Rattle.watch_topics.proofs.OrderLaws.{Words, words-less, words-greater, words-alike, front-part}
 use Rattle.watch_topics.proofs.compare.Statement.{statement}
 use Rattle.watch_topics.proofs.compare.Tie as tie
 
@@ -37,40 +36,29 @@ read-u64-requires c κs = omega (arith, c .before .loop .inv .0, c .before .befo
 read-u64-requires-2 : tie.Need-read-u64-requires-2 Inv-loop μ-loop
 read-u64-requires-2 c κs = omega (arith, c .before .before .loop .inv .0, c .before .before .before .before .before .min-usize .ensures)
 
-returns-2 : tie.Need-returns-2 Inv-loop μ-loop
-returns-2 c =
-    let r = c .before .before in
-    let l = r .before .before .before in
+-- both words are read
+words : (c : tie.After-read-u642 Inv-loop μ-loop) → let l = c .before .before .before in let a = l .before .before .before .before .before .before .args in
+    Words (a .a .now) (a .b .now) (l .loop .i) (c .before .read-u64 .result) (c .read-u642 .result)
+words c =
+    let l = c .before .before .before in
     let h = l .before .before .before in
     let k = h .before in
-    let a = k .before .before .args in
-    let i = l .loop .i in
     let m = h .min-usize .ensures in
-    let x = r .before .read-u64 .ensures in
-    let y = r .read-u642 .ensures in
-    sym
-    (order-behind (a .a .now) (a .b .now) i (l .loop .inv .1)
-    ∙ order-word-less 8 (a .a .now) (a .b .now) i (λ j. k .before .shared-slice-known .given j .fits)
-    (λ j. k .shared-slice-known2 .given j .fits) (omega (arith, l .loop .inv .0, m)) (omega (arith, l .loop .inv .0, m))
-    (omega (arith, x, y)))
+    record {
+      alike = l .loop .inv .1;
+      bytes-a = λ j. k .before .shared-slice-known .given j .fits;
+      bytes-b = λ j. k .shared-slice-known2 .given j .fits;
+      fits-a = omega (arith, l .loop .inv .0, m);
+      fits-b = omega (arith, l .loop .inv .0, m);
+      word-a = c .before .read-u64 .ensures;
+      word-b = c .read-u642 .ensures;
+    }
+
+returns-2 : tie.Need-returns-2 Inv-loop μ-loop
+returns-2 c = sym (words-less (words (c .before .before)) (omega arith))
 
 returns-3 : tie.Need-returns-3 Inv-loop μ-loop
-returns-3 c =
-    let r = c .before .before in
-    let l = r .before .before .before in
-    let h = l .before .before .before in
-    let k = h .before in
-    let a = k .before .before .args in
-    let i = l .loop .i in
-    let m = h .min-usize .ensures in
-    let x = r .before .read-u64 .ensures in
-    let y = r .read-u642 .ensures in
-    sym
-    (order-behind (a .a .now) (a .b .now) i (l .loop .inv .1)
-    ∙ less-flip (drop i (a .b .now)) (drop i (a .a .now))
-    (order-word-less 8 (a .b .now) (a .a .now) i (λ j. k .shared-slice-known2 .given j .fits)
-    (λ j. k .before .shared-slice-known .given j .fits) (omega (arith, l .loop .inv .0, m)) (omega (arith, l .loop .inv .0, m))
-    (omega (arith, x, y))))
+returns-3 c = sym (words-greater (words (c .before .before)) (omega arith))
 
 add-i : tie.Need-add-i Inv-loop μ-loop
 add-i c = omega (arith, c .before .before .before .before .loop .inv .0)
@@ -81,20 +69,7 @@ loop-less c = omega (arith, c .before .before .before .before .loop .inv .0)
 loop-again : tie.Need-loop-again Inv-loop μ-loop
 loop-again c =
     let r = c .before in
-    let l = r .before .before .before in
-    let h = l .before .before .before in
-    let k = h .before in
-    let a = k .before .before .args in
-    let i = l .loop .i in
-    let m = h .min-usize .ensures in
-    let x = r .before .read-u64 .ensures in
-    let y = r .read-u642 .ensures in
-    let e : beAt 8 (a .a .now) i ≡ beAt 8 (a .b .now) i = omega (arith, x, y) in (
-      omega (arith, l .loop .inv .0),
-      front-word 8 (a .a .now) (a .b .now) i (λ j. k .before .shared-slice-known .given j .fits)
-          (λ j. k .shared-slice-known2 .given j .fits) (omega (arith, l .loop .inv .0, m)) (omega (arith, l .loop .inv .0, m))
-          (l .loop .inv .1) e,
-    )
+    (omega (arith, r .before .before .before .loop .inv .0), words-alike (words r) (omega arith) (omega arith))
 
 compare-end-requires : tie.Need-compare-end-requires Inv-loop μ-loop
 compare-end-requires c κs =
