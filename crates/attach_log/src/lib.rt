@@ -63,7 +63,7 @@ fn size_first(s: &[u8], p: usize, attach: bool) -> usize
     if attach {
         packed_records::size_at(s, p)
     } else {
-        8
+        packed_delta::ID
     }
 }
 
@@ -138,7 +138,7 @@ fn delta_in(s: &[u8], lost: usize, gained: usize, log: &[u8], q: usize) -> bool
     if part_in(s, packed_delta::HEAD, lost, false, log, q) {
         part_in(
             s,
-            packed_delta::HEAD + 8 * lost,
+            packed_delta::HEAD + packed_delta::ID * lost,
             gained,
             true,
             log,

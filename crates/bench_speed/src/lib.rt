@@ -22,7 +22,7 @@ pub extern "C" fn speed_text(text: &[u8]) -> u8 {
 // The size of the packed assignment that an update comes to below the parent, 0 where it is refused.
 #[no_mangle]
 pub extern "C" fn speed_take_in(message: &[u8], parent: &[u8]) -> usize {
-    let mut b = [0u8; 2048];
+    let mut b = [0u8; packed::SLOT];
     let head = wire_readers::read_update(message);
     match intake::take_in(message, 2, parent, head.layout_epoch, &mut b) {
         Intake::Taken(size) => size,
@@ -33,7 +33,7 @@ pub extern "C" fn speed_take_in(message: &[u8], parent: &[u8]) -> usize {
 // The same of an assignment by the one walk over its usual form; 0 where nothing is told of it.
 #[no_mangle]
 pub extern "C" fn speed_take_ordered(assignment: &[u8], parent: &[u8]) -> usize {
-    let mut b = [0u8; 2048];
+    let mut b = [0u8; packed::SLOT];
     if !utf8::is_utf8(parent) {
         return 0;
     }

@@ -57,7 +57,7 @@ fn lengths(s: &[u8], at: usize, n: usize) -> u64
     let mut left = n;
     while 0 < left {
         sum = sum + range_length(packed::range_at(s, p));
-        p = p + 4;
+        p = p + packed::BUCKET;
         left = left - 1;
     }
     sum
@@ -74,11 +74,11 @@ fn values_held(segment: &[u8]) -> Holds
     if size != end {
         return Holds::Malformed;
     }
-    let count = slice_int::read_u16(segment, 12) as usize;
+    let count = slice_int::read_u16(segment, packed::RECORD_COUNT) as usize;
     if count == 0 {
-        Holds::Values(range_length(packed::range_at(segment, 8)))
+        Holds::Values(range_length(packed::range_at(segment, packed::RECORD_RANGE)))
     } else {
-        Holds::Values(lengths(segment, 14, count))
+        Holds::Values(lengths(segment, packed::RECORD_HEAD, count))
     }
 }
 

@@ -16,7 +16,7 @@ pub struct Record {
     // 0 where there is no floor.
     pub epoch_floor: u64,
     pub queue_count: usize,
-    pub drain_positions: [usize; 8],
+    pub drain_positions: [usize; session::READERS],
     pub has_floor: u8,
     pub registered: u8,
     pub invalidated: u8,

@@ -16,6 +16,9 @@ ghost use Rattle.intake_ordered.specs.Walk.{BucketsSay, HeadIs, SegmentI
 ghost use Rattle.intake_ordered.specs.Taken.{OrderedIs};
 use intake_ordered_bucket::Bucket;
 use intake_ordered_bucket::MAX_HASH;
+use name_parents::SCHEME;
+use packed::BUCKET;
+use packed::RECORD_HEAD;
 use topic_types::KeyRange;
 use topic_types::SegmentId;
 use wire_ordered::NumberAt;
@@ -93,14 +96,14 @@ fn take_buckets(
         if highest < end {
             return Buckets::Other;
         }
-        if b.len() - to < 4 {
+        if b.len() - to < BUCKET {
             return Buckets::Other;
         }
         slice_int::write_u32(b, to, (start * 65536 + end) as u32);
         rising = and(rising, low <= start);
         at = next;
         low = end + 1;
-        to = to + 4;
+        to = to + BUCKET;
     }
     Buckets::All(to, rising)
 }
@@ -149,8 +152,8 @@ fn write_head(b: &mut [u8], at: usize, id: u64, start: u64, end: u64, count: usi
     ensures { λ _. ⌜ now (b .exit) ≡ put (now (b .entry)) at (bytesOf 8 id ++ ((bytesOf 2 start ++ bytesOf 2 end) ++ bytesOf 2 count)) ⌝ }
 {
     slice_int::write_u64(b, at, id);
-    slice_int::write_u32(b, at + 8, (start * 65536 + end) as u32);
-    slice_int::write_u16(b, at + 12, count as u16);
+    slice_int::write_u32(b, at + packed::RECORD_RANGE, (start * 65536 + end) as u32);
+    slice_int::write_u16(b, at + packed::RECORD_COUNT, count as u16);
 }
 
 // The segment in the part p, its record written behind the used bytes.
@@ -166,17 +169,17 @@ fn take_segment(p: &[u8], parent: &[u8], b: &mut [u8], used: usize) -> Segment
         start: start as u32,
         end: end as u32,
     };
-    if !name_topic::is_segment_topic(&p[from..to], &parent[8..], range, SegmentId(id)) {
+    if !name_topic::is_segment_topic(&p[from..to], &parent[SCHEME..], range, SegmentId(id)) {
         return Segment::Other;
     }
-    if b.len() - used < packed::RECORD_HEAD {
+    if b.len() - used < RECORD_HEAD {
         return Segment::Other;
     }
-    let place = used + packed::RECORD_HEAD;
+    let place = used + RECORD_HEAD;
     let Buckets::All(last, rising) = take_buckets(p, to, start, end, b, place) else {
         return Segment::Other;
     };
-    let count = (last - place) / 4;
+    let count = (last - place) / BUCKET;
     if !buckets_apart(b, place, count, rising) {
         return Segment::Other;
     }
@@ -232,7 +235,7 @@ pub fn take_ordered(s: &[u8], parent: &[u8], b: &mut [u8]) -> OrderedIntake
     if !packed_sort::order_records(b, count, rising) {
         return OrderedIntake::Other;
     }
-    slice_int::write_u16(b, 8, count as u16);
+    slice_int::write_u16(b, packed::ASSIGNMENT_COUNT, count as u16);
     slice_int::write_u64(b, 0, epoch);
     OrderedIntake::Taken(epoch, used)
 }

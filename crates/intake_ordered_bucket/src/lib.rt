@@ -10,6 +10,9 @@ use wire_ordered::Part;
 // The highest value of the key space.
 pub const MAX_HASH: u64 = 65535;
 
+// The bytes of a bucket's field each number of which has three bytes.
+const WIDE: usize = 10;
+
 // A range that a part is.
 enum RangeIn {
     // Its start and its end.
@@ -50,10 +53,10 @@ fn range_in(q: &[u8]) -> RangeIn
 fn bucket_word(p: &[u8], at: usize) -> u64
     ensures { λ r. ⌜ (0 < r → WordIs (now (p .entry)) at r) ⌝ }
 {
-    if p.len() < 10 {
+    if p.len() < WIDE {
         return 0;
     }
-    if p.len() - 10 < at {
+    if p.len() - WIDE < at {
         return 0;
     }
     slice_int::read_u64(p, at + 2)
@@ -112,7 +115,7 @@ pub fn bucket_at(p: &[u8], at: usize) -> Bucket
     ensures { λ r. ⌜ BucketIs (now (p .entry)) at r ⌝ }
 {
     if let RangeIn::Found(start, end) = wide_bucket(p, at) {
-        return Bucket::Found(start, end, at + 10);
+        return Bucket::Found(start, end, at + WIDE);
     }
     let Part::Found(from, next) = wire_ordered::part_at(5, p, at) else {
         return Bucket::Absent;

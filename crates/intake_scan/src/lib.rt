@@ -110,7 +110,7 @@ fn write_range(b: &mut [u8], at: usize, range: KeyRange)
     ensures { λ _. ⌜ now (b .exit) ≡ put (now (b .entry)) at (encodeRange range) ⌝ }
 {
     slice_int::write_u16(b, at, range.start as u16);
-    slice_int::write_u16(b, at + 2, range.end as u16);
+    slice_int::write_u16(b, at + packed::RANGE_END, range.end as u16);
 }
 
 // Writes a bucket behind the count buckets before it, where there is room for so many from the place at on.
@@ -120,7 +120,7 @@ fn write_bucket(b: &mut [u8], at: usize, count: usize, room: usize, range: KeyRa
     ensures { λ _. ⌜ now (b .exit) ≡ roomFor (now (b .entry)) at count room range ⌝ }
 {
     if count < room {
-        write_range(b, at + 4 * count, range);
+        write_range(b, at + packed::BUCKET * count, range);
     }
 }
 
@@ -184,7 +184,7 @@ pub fn scan_segment(p: &[u8], b: &mut [u8], at: usize) -> SegmentScan
     requires { ⌜ at ≤ length (now b) ⌝ }
     ensures { λ r. ⌜ ScanIs (now (p .entry)) at (now (b .entry)) r (now (b .exit)) ⌝ }
 {
-    let room = (b.len() - at) / 4;
+    let room = (b.len() - at) / packed::BUCKET;
     let mut numbers = [0u64; 4];
     let mut topic_start: usize = 0;
     let mut topic_len: usize = 0;

@@ -10,6 +10,7 @@ ghost use Rattle.intake_content.specs.Content.{wireId, bucketFault, overlapFaul
 ghost use Rattle.intake_segment.specs.Verdicts.{verdictOf, ScanOf};
 use intake_content::Outside;
 use intake_scan::SegmentScan;
+use name_parents::SCHEME;
 use refusal::Refusal;
 use topic_types::KeyRange;
 use topic_types::RangeResult;
@@ -37,7 +38,7 @@ fn check_name(p: &[u8], parent: &[u8], parent_valid: bool, head: SegmentHead) ->
     };
     let from = head.topic_start;
     let to = from + head.topic_len;
-    if name_topic::is_segment_topic(&p[from..to], &parent[8..], range, segment_id) {
+    if name_topic::is_segment_topic(&p[from..to], &parent[SCHEME..], range, segment_id) {
         Verdict::Accepted
     } else {
         Verdict::Refused(Refusal::AttachmentMismatch { segment_id })

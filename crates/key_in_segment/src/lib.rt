@@ -81,7 +81,7 @@ fn least_in(s: &[u8], at: usize, n: usize, range: KeyRange) -> Least
     let mut left = n;
     while 0 < left {
         best = lesser(best, least_common(range, packed::range_at(s, p)));
-        p = p + 4;
+        p = p + packed::BUCKET;
         left = left - 1;
     }
     best
@@ -93,12 +93,12 @@ fn least_at(s: &[u8], p: usize) -> Least
     requires { ⌜ okSegment (decodeSegment (drop p (now s))) ≡ true ⌝ }
     ensures { λ r. ⌜ r ≡ leastTaken (decodeSegment (drop p (now (s .entry)))) ⌝ }
 {
-    let range = packed::range_at(s, p + 8);
-    let count = slice_int::read_u16(s, p + 12) as usize;
+    let range = packed::range_at(s, p + packed::RECORD_RANGE);
+    let count = slice_int::read_u16(s, p + packed::RECORD_COUNT) as usize;
     if count == 0 {
         return Least::Value(range.start);
     }
-    least_in(s, p + 14, count, range)
+    least_in(s, p + packed::RECORD_HEAD, count, range)
 }
 
 // The key of a hash, if there is one.
@@ -116,7 +116,7 @@ fn key_among(s: &[u8], m: usize, id: u64) -> KeyAnswer
     requires { ⌜ Rest (now s) 10 m ⌝ }
     ensures { λ r. ⌜ r ≡ keyIn (find idOf id (decodeSegments m (drop 10 (now (s .entry))))) ⌝ }
 {
-    let mut p: usize = 10;
+    let mut p: usize = packed::ASSIGNMENT_HEAD;
     let mut left = m;
     while 0 < left {
         if id == packed_records::id_at(s, p) {

@@ -36,14 +36,14 @@ fn segment_takes(s: &[u8], p: usize, hash: u32) -> bool
     requires { ⌜ p + sizeSegment (decodeSegment (drop p (now s))) ≤ length (now s) ⌝ }
     ensures { λ r. ⌜ r ≡ takes hash (decodeSegment (drop p (now (s .entry)))) ⌝ }
 {
-    if !ranges_calls::holds_hash(packed::range_at(s, p + 8), hash) {
+    if !ranges_calls::holds_hash(packed::range_at(s, p + packed::RECORD_RANGE), hash) {
         return false;
     }
-    let count = slice_int::read_u16(s, p + 12) as usize;
+    let count = slice_int::read_u16(s, p + packed::RECORD_COUNT) as usize;
     if count == 0 {
         return true;
     }
-    bucket_holds(s, p + 14, count, hash)
+    bucket_holds(s, p + packed::RECORD_HEAD, count, hash)
 }
 
 // The first of the m records from the place 10 on that takes the hash.
@@ -51,7 +51,7 @@ fn first_taking(s: &[u8], m: usize, hash: u32) -> SegmentAnswer
     requires { ⌜ Rest (now s) 10 m ⌝ }
     ensures { λ r. ⌜ r ≡ firstTaking hash (decodeSegments m (drop 10 (now (s .entry)))) ⌝ }
 {
-    let mut p: usize = 10;
+    let mut p: usize = packed::ASSIGNMENT_HEAD;
     let mut left = m;
     while 0 < left {
         if segment_takes(s, p, hash) {

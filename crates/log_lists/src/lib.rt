@@ -9,6 +9,12 @@ use log_text::labelled;
 use log_text::newline;
 use log_text::space;
 use log_text::text;
+use packed::ASSIGNMENT_COUNT;
+use packed::ASSIGNMENT_HEAD;
+use packed::BUCKET;
+use packed::RECORD_HEAD;
+use packed_delta::GAINED_COUNT;
+use packed_delta::LOST_COUNT;
 
 // The range in the 4 bytes from a place on: SSSS-EEEE.
 fn range(s: &[u8], at: usize)
@@ -16,7 +22,7 @@ fn range(s: &[u8], at: usize)
 {
     hex4(slice_int::read_u16(s, at));
     text(b"-");
-    hex4(slice_int::read_u16(s, at + 2));
+    hex4(slice_int::read_u16(s, at + packed::RANGE_END));
 }
 
 // The n ranges from a place on, with a comma between two; `-` for none.
@@ -28,12 +34,12 @@ fn buckets(s: &[u8], at: usize, n: usize)
         return;
     }
     range(s, at);
-    let mut p = at + 4;
+    let mut p = at + BUCKET;
     let mut left = n - 1;
     while 0 < left {
         text(b",");
         range(s, p);
-        p = p + 4;
+        p = p + BUCKET;
         left = left - 1;
     }
 }
@@ -44,20 +50,20 @@ fn segment(s: &[u8], label: &[u8], at: usize) -> usize
     ensures { λ r. ⌜ r ≤ length (now (s .entry)) ⌝ }
 {
     let end = s.len();
-    if end - at < 14 {
+    if end - at < RECORD_HEAD {
         return end;
     }
-    let count = slice_int::read_u16(s, at + 12) as usize;
-    if (end - at - 14) / 4 < count {
+    let count = slice_int::read_u16(s, at + packed::RECORD_COUNT) as usize;
+    if (end - at - RECORD_HEAD) / BUCKET < count {
         return end;
     }
     labelled(label, slice_int::read_u64(s, at));
     space();
-    range(s, at + 8);
+    range(s, at + packed::RECORD_RANGE);
     space();
-    buckets(s, at + 14, count);
+    buckets(s, at + RECORD_HEAD, count);
     newline();
-    at + 14 + 4 * count
+    at + RECORD_HEAD + BUCKET * count
 }
 
 // The n records from a place on, a row each.
@@ -80,12 +86,12 @@ fn lost(s: &[u8], at: usize, n: u16) -> usize
     let mut p = at;
     let mut left = n;
     while 0 < left {
-        if s.len() - p < 8 {
+        if s.len() - p < packed_delta::ID {
             return s.len();
         }
         labelled(b"  lost ", slice_int::read_u64(s, p));
         newline();
-        p = p + 8;
+        p = p + packed_delta::ID;
         left = left - 1;
     }
     p
@@ -93,44 +99,52 @@ fn lost(s: &[u8], at: usize, n: u16) -> usize
 
 // `epoch E lost L gained G` of the delta at the front of s.
 pub fn delta_counts(s: &[u8]) {
-    if s.len() < 12 {
+    if s.len() < packed_delta::HEAD {
         return;
     }
     labelled(b"epoch ", slice_int::read_u64(s, 0));
-    labelled(b" lost ", slice_int::read_u16(s, 8) as u64);
-    labelled(b" gained ", slice_int::read_u16(s, 10) as u64);
+    labelled(b" lost ", slice_int::read_u16(s, LOST_COUNT) as u64);
+    labelled(b" gained ", slice_int::read_u16(s, GAINED_COUNT) as u64);
 }
 
 // How many ids the delta at the front of s loses.
 pub fn lost_count(s: &[u8]) -> u64 {
-    if s.len() < 12 {
+    if s.len() < packed_delta::HEAD {
         return 0;
     }
-    slice_int::read_u16(s, 8) as u64
+    slice_int::read_u16(s, LOST_COUNT) as u64
 }
 
 // The lost ids and the gained records of the delta at the front of s, a row each.
 pub fn changes(s: &[u8]) {
-    if s.len() < 12 {
+    if s.len() < packed_delta::HEAD {
         return;
     }
-    let at = lost(s, 12, slice_int::read_u16(s, 8));
-    segments(s, b"  gained ", at, slice_int::read_u16(s, 10));
+    let at = lost(s, packed_delta::HEAD, slice_int::read_u16(s, LOST_COUNT));
+    segments(s, b"  gained ", at, slice_int::read_u16(s, GAINED_COUNT));
 }
 
 // `epoch E segments N` of the list at the front of s.
 pub fn list_counts(s: &[u8]) {
-    if s.len() < 10 {
+    if s.len() < ASSIGNMENT_HEAD {
         return;
     }
     labelled(b"epoch ", slice_int::read_u64(s, 0));
-    labelled(b" segments ", slice_int::read_u16(s, 8) as u64);
+    labelled(
+        b" segments ",
+        slice_int::read_u16(s, ASSIGNMENT_COUNT) as u64,
+    );
 }
 
 // The segments of the list at the front of s, a row each behind a label.
 pub fn list_rows(s: &[u8], label: &[u8]) {
-    if s.len() < 10 {
+    if s.len() < ASSIGNMENT_HEAD {
         return;
     }
-    segments(s, label, 10, slice_int::read_u16(s, 8));
+    segments(
+        s,
+        label,
+        ASSIGNMENT_HEAD,
+        slice_int::read_u16(s, ASSIGNMENT_COUNT),
+    );
 }

@@ -19,6 +19,9 @@ use class::classes;
 // "topic://" as a number of 8 bytes.
 const TOPIC_SCHEME: u64 = 0x746F_7069_633A_2F2F;
 
+// The bytes of "topic://", before a parent's path.
+pub const SCHEME: usize = 8;
+
 // The place of the first byte from a place on whose class is the lowest or one above it, '-' aside, or the end.
 fn stop_from(table: &[u8; 256], s: &[u8], from: usize, lowest: u8) -> usize
     requires { ⌜ from ≤ length (now s) ⌝ }
@@ -83,11 +86,11 @@ pub fn is_path(p: &[u8]) -> bool
 pub fn is_parent(s: &[u8]) -> bool
     ensures { λ r. ⌜ r ≡ isParent (now (s .entry)) ⌝ }
 {
-    if s.len() < 8 {
+    if s.len() < SCHEME {
         return false;
     }
     if slice_int::read_u64(s, 0) != TOPIC_SCHEME {
         return false;
     }
-    is_path_from(s, 8)
+    is_path_from(s, SCHEME)
 }

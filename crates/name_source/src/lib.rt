@@ -11,6 +11,7 @@ use name_parents::DASH;
 use name_parents::SLASH;
 use name_parents::class_of;
 use name_topic::NameAnswer;
+use name_topic::SCHEME;
 use refusal::Refusal;
 use topic_types::KeyRange;
 use topic_types::RangeResult;
@@ -88,11 +89,11 @@ fn parse_segment_topic(t: &[u8]) -> Parsed
     if !slice::starts_with(t, b"segment://") {
         return Parsed::Refused(Refusal::InvalidSegment);
     }
-    let Slash::At(n) = last_slash(&t[10..]) else {
+    let Slash::At(n) = last_slash(&t[SCHEME..]) else {
         return Parsed::Refused(Refusal::InvalidSegment);
     };
-    let path_end = 10 + n;
-    if !name_parents::is_path(&t[10..path_end]) {
+    let path_end = SCHEME + n;
+    if !name_parents::is_path(&t[SCHEME..path_end]) {
         return Parsed::Refused(Refusal::InvalidParent);
     }
     parse_descriptor(&t[path_end + 1..], path_end)
@@ -143,7 +144,7 @@ pub fn parent_topic(topic: &[u8], out: &mut [u8]) -> NameAnswer
                 return NameAnswer::Refused(Refusal::ResultTooLong);
             }
             slice_int::put_bytes(out, 0, b"topic://");
-            slice_int::put_bytes(out, 8, &topic[10..path_end]);
+            slice_int::put_bytes(out, name_parents::SCHEME, &topic[SCHEME..path_end]);
             NameAnswer::Written(n)
         }
     }

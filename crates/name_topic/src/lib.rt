@@ -20,6 +20,9 @@ const SEGMENT_COLON: u64 = 0x7365_676D_656E_743A;
 
 const TWO_SLASHES: u16 = 0x2F2F;
 
+// The bytes of "segment://", before the path in a segment's name.
+pub const SCHEME: usize = 10;
+
 // What a call that writes a name answers.
 pub enum NameAnswer {
     // The name stands at the front of the output and is this long.
@@ -51,8 +54,8 @@ pub fn is_segment_topic(text: &[u8], path: &[u8], range: KeyRange, id: SegmentId
     if !has_scheme(text) {
         return false;
     }
-    let n = 10 + path.len();
-    if !slice::same(&text[10..n], path) {
+    let n = SCHEME + path.len();
+    if !slice::same(&text[SCHEME..n], path) {
         return false;
     }
     descriptor::is_descriptor(text, n, range, id)
@@ -77,9 +80,9 @@ pub fn write_segment_topic(
     if out.len() - rest < path.len() {
         return NameAnswer::Refused(Refusal::ResultTooLong);
     }
-    let n = 10 + path.len();
+    let n = SCHEME + path.len();
     slice_int::put_bytes(out, 0, b"segment://");
-    slice_int::put_bytes(out, 10, path);
+    slice_int::put_bytes(out, SCHEME, path);
     slice_int::put_bytes(out, n, &bytes[from..]);
     let len = rest + path.len();
     NameAnswer::Written(len)
@@ -103,7 +106,7 @@ pub fn canonical_segment_topic(
         RangeResult::Invalid(source) => NameAnswer::Refused(Refusal::InvalidKeyRange { source }),
         RangeResult::Valid(range) => {
             if is_parent(parent) {
-                write_segment_topic(&parent[8..], range, id, out)
+                write_segment_topic(&parent[name_parents::SCHEME..], range, id, out)
             } else {
                 NameAnswer::Refused(Refusal::InvalidParent)
             }

@@ -23,6 +23,17 @@ pub const RECORD_HEAD: usize = 14;
 
 pub const BUCKET: usize = 4;
 
+// Places: of the number of segments in an assignment; of the range, its end and the number of buckets in a record; of the end in a range.
+pub const ASSIGNMENT_COUNT: usize = 8;
+
+pub const RECORD_RANGE: usize = 8;
+
+pub const RECORD_END: usize = 10;
+
+pub const RECORD_COUNT: usize = 12;
+
+pub const RANGE_END: usize = 2;
+
 // Fewer buckets than these are compared pairwise: that is cheaper than to clear the marks.
 const MANY: usize = 32;
 
@@ -51,7 +62,7 @@ pub fn range_at(s: &[u8], at: usize) -> KeyRange
     ensures { λ r. ⌜ r ≡ decodeRange (drop at (now (s .entry))) ⌝ }
 {
     let start = slice_int::read_u16(s, at) as u32;
-    let end = slice_int::read_u16(s, at + 2) as u32;
+    let end = slice_int::read_u16(s, at + RANGE_END) as u32;
     KeyRange { start, end }
 }
 
@@ -169,7 +180,7 @@ fn buckets_marked(s: &[u8], at: usize, n: usize) -> bool
     let mut left = n;
     while 0 < left {
         let first = slice_int::read_u16(s, p);
-        let last = slice_int::read_u16(s, p + 2);
+        let last = slice_int::read_u16(s, p + RANGE_END);
         if last < first {
             return false;
         }
@@ -208,8 +219,8 @@ pub fn record_at(s: &[u8], at: usize, end: usize) -> RecordRead
         return RecordRead::Malformed;
     }
     let id = slice_int::read_u64(s, at);
-    let range = range_at(s, at + 8);
-    let count = slice_int::read_u16(s, at + 12) as usize;
+    let range = range_at(s, at + RECORD_RANGE);
+    let count = slice_int::read_u16(s, at + RECORD_COUNT) as usize;
     if (end - at - RECORD_HEAD) / BUCKET < count {
         return RecordRead::Malformed;
     }
@@ -233,10 +244,10 @@ fn records_end(s: &[u8], at: usize, n: usize, end: usize) -> usize
     let mut stop = at + RECORD_HEAD * n;
     let mut id = slice_int::read_u64(s, at);
     loop {
-        if slice_int::read_u16(s, p + 10) < slice_int::read_u16(s, p + 8) {
+        if slice_int::read_u16(s, p + RECORD_END) < slice_int::read_u16(s, p + RECORD_RANGE) {
             return 0;
         }
-        let count = slice_int::read_u16(s, p + 12) as usize;
+        let count = slice_int::read_u16(s, p + RECORD_COUNT) as usize;
         p = p + RECORD_HEAD;
         if count != 0 {
             stop = stop + BUCKET * count;
@@ -267,7 +278,7 @@ pub fn front_size(s: &[u8]) -> usize
     if end < ASSIGNMENT_HEAD {
         return 0;
     }
-    let count = slice_int::read_u16(s, 8) as usize;
+    let count = slice_int::read_u16(s, ASSIGNMENT_COUNT) as usize;
     if end < ASSIGNMENT_HEAD + RECORD_HEAD * count {
         return 0;
     }
@@ -295,17 +306,17 @@ fn all_bare(s: &[u8]) -> bool
     if SLOT < end {
         return false;
     }
-    let count = slice_int::read_u16(s, 8) as usize;
+    let count = slice_int::read_u16(s, ASSIGNMENT_COUNT) as usize;
     if ASSIGNMENT_HEAD + RECORD_HEAD * count != end {
         return false;
     }
     let mut p: usize = ASSIGNMENT_HEAD;
     let mut prev = slice_int::read_u64(s, p);
     loop {
-        if slice_int::read_u16(s, p + 10) < slice_int::read_u16(s, p + 8) {
+        if slice_int::read_u16(s, p + RECORD_END) < slice_int::read_u16(s, p + RECORD_RANGE) {
             return false;
         }
-        if slice_int::read_u16(s, p + 12) != 0 {
+        if slice_int::read_u16(s, p + RECORD_COUNT) != 0 {
             return false;
         }
         p = p + RECORD_HEAD;
@@ -342,7 +353,7 @@ pub fn read_front(s: &[u8]) -> Packed
     if size == 0 {
         return Packed::Malformed;
     }
-    let segments = slice_int::read_u16(s, 8) as usize;
+    let segments = slice_int::read_u16(s, ASSIGNMENT_COUNT) as usize;
     Packed::Assignment(size, segments)
 }
 

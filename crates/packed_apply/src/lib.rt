@@ -30,7 +30,7 @@ pub fn apply(assignment: &[u8], delta: &[u8], out: &mut [u8]) -> WriteAnswer
         left: losses,
     };
     let gained = Row {
-        at: packed_delta::HEAD + 8 * losses,
+        at: packed_delta::HEAD + packed_delta::ID * losses,
         left: gains,
     };
     let Fit::Size(n, size) = packed_overlay::overlay_fit(
@@ -47,7 +47,7 @@ pub fn apply(assignment: &[u8], delta: &[u8], out: &mut [u8]) -> WriteAnswer
         return WriteAnswer::Refused(Refusal::ResultTooLong);
     }
     packed_overlay::write_overlay(assignment, kept, delta, lost, gained, out, ASSIGNMENT_HEAD);
-    slice_int::write_u16(out, 8, n as u16);
+    slice_int::write_u16(out, packed::ASSIGNMENT_COUNT, n as u16);
     slice_int::write_u64(out, 0, slice_int::read_u64(delta, 0));
     WriteAnswer::Written(ASSIGNMENT_HEAD + size)
 }

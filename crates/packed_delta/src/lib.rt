@@ -9,8 +9,15 @@ ghost use Rattle.packed_delta.specs.Delta.{decodeIds, idsFrom};
 ghost use Rattle.packed_delta.specs.Answers.{recordsTo, frontRead, deltaRead};
 use packed::RecordRead;
 
-// The bytes before the lost ids of a delta: epoch and counts.
+// The bytes before the lost ids of a delta: epoch and counts; of a lost id.
 pub const HEAD: usize = 12;
+
+pub const ID: usize = 8;
+
+// Places of a delta's counts.
+pub const LOST_COUNT: usize = 8;
+
+pub const GAINED_COUNT: usize = 10;
 
 // Where a row of records ends.
 enum RecordsTo {
@@ -51,7 +58,7 @@ fn ids_rise(s: &[u8], at: usize, n: usize) -> bool
         }
         first = false;
         prev = next;
-        p = p + 8;
+        p = p + ID;
         left = left - 1;
     }
     true
@@ -91,15 +98,15 @@ pub fn read_front(s: &[u8]) -> FrontRead
     if s.len() < HEAD {
         return FrontRead::Malformed;
     }
-    let lost = slice_int::read_u16(s, 8) as usize;
-    let gained = slice_int::read_u16(s, 10) as usize;
-    if (s.len() - HEAD) / 8 < lost {
+    let lost = slice_int::read_u16(s, LOST_COUNT) as usize;
+    let gained = slice_int::read_u16(s, GAINED_COUNT) as usize;
+    if (s.len() - HEAD) / ID < lost {
         return FrontRead::Malformed;
     }
     if !ids_rise(s, HEAD, lost) {
         return FrontRead::Malformed;
     }
-    match records_to(s, HEAD + 8 * lost, gained) {
+    match records_to(s, HEAD + ID * lost, gained) {
         RecordsTo::End(size) => FrontRead::Delta(lost, gained, size),
         RecordsTo::Malformed => FrontRead::Malformed,
     }

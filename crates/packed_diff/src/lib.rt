@@ -56,7 +56,7 @@ fn next_step(x: &[u8], p: usize, y: &[u8], q: usize, n: usize) -> Step
 fn entry_size(whole: bool, size: usize) -> usize
     ensures { λ r. ⌜ r ≡ entrySize whole size ⌝ }
 {
-    if whole { size } else { 8 }
+    if whole { size } else { packed_delta::ID }
 }
 
 // Copies the n bytes of x from the place p on to out from the place at on: eight at a time, and the last eight once more where fewer are left.
@@ -80,10 +80,10 @@ fn merge(x: &[u8], y: &[u8], whole: bool, out: &mut [u8], at: usize) -> Merged
     requires { ⌜ at + length (entries whole (decodeAssignment (now x) .segments)) ≤ length (now out) ⌝ }
     ensures { λ r. ⌜ MergedIs (now (x .entry)) (now (y .entry)) whole (now (out .entry)) at r (now (out .exit)) ⌝ }
 {
-    let mut m = slice_int::read_u16(x, 8) as usize;
-    let mut n = slice_int::read_u16(y, 8) as usize;
-    let mut p: usize = 10;
-    let mut q: usize = 10;
+    let mut m = slice_int::read_u16(x, packed::ASSIGNMENT_COUNT) as usize;
+    let mut n = slice_int::read_u16(y, packed::ASSIGNMENT_COUNT) as usize;
+    let mut p: usize = packed::ASSIGNMENT_HEAD;
+    let mut q: usize = packed::ASSIGNMENT_HEAD;
     let mut next = at;
     let mut count: usize = 0;
     while 0 < m {
@@ -121,8 +121,8 @@ pub fn write_delta(old: &[u8], new: &[u8], out: &mut [u8]) -> usize
     let epoch = slice_int::read_u64(new, 0);
     let lost = merge(old, new, false, out, packed_delta::HEAD);
     let gained = merge(new, old, true, out, lost.next);
-    slice_int::write_u16(out, 10, gained.count as u16);
-    slice_int::write_u16(out, 8, lost.count as u16);
+    slice_int::write_u16(out, packed_delta::GAINED_COUNT, gained.count as u16);
+    slice_int::write_u16(out, packed_delta::LOST_COUNT, lost.count as u16);
     slice_int::write_u64(out, 0, epoch);
     gained.next
 }

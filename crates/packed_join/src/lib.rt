@@ -31,7 +31,7 @@ fn rows_of(losses: usize, gains: usize) -> Rows
         left: losses,
     };
     let gained = Row {
-        at: packed_delta::HEAD + 8 * losses,
+        at: packed_delta::HEAD + packed_delta::ID * losses,
         left: gains,
     };
     Rows { lost, gained }
@@ -52,7 +52,7 @@ fn write_join(d: &[u8], a: Rows, e: &[u8], b: Rows, out: &mut [u8]) -> WriteAnsw
     if MAX_COUNT < losses {
         return WriteAnswer::Refused(Refusal::ResultTooLong);
     }
-    let head = packed_delta::HEAD + 8 * losses;
+    let head = packed_delta::HEAD + packed_delta::ID * losses;
     if out.len() < head {
         return WriteAnswer::Refused(Refusal::ResultTooLong);
     }
@@ -71,8 +71,8 @@ fn write_join(d: &[u8], a: Rows, e: &[u8], b: Rows, out: &mut [u8]) -> WriteAnsw
     }
     packed_overlay::write_overlay(d, d_gained, e, e_lost, e_gained, out, head);
     packed_overlay::write_union(d, d_lost, e, e_lost, out, packed_delta::HEAD);
-    slice_int::write_u16(out, 10, gains as u16);
-    slice_int::write_u16(out, 8, losses as u16);
+    slice_int::write_u16(out, packed_delta::GAINED_COUNT, gains as u16);
+    slice_int::write_u16(out, packed_delta::LOST_COUNT, losses as u16);
     slice_int::write_u64(out, 0, slice_int::read_u64(e, 0));
     WriteAnswer::Written(head + size)
 }

@@ -22,7 +22,7 @@ pub struct SessionRecord {
     pub epoch_floor: Floor,
     // How many pushes the queue holds, and how many of them each reader has drained.
     pub queue_count: usize,
-    pub drain_positions: [usize; 8],
+    pub drain_positions: [usize; READERS],
 }
 
 // What a call answers.

@@ -14,6 +14,7 @@ ghost use Rattle.session.specs.Identity.{isIdentity};
 ghost use Rattle.session_intake.specs.Taken.{AssignmentField, contentIn, TopicEnd, Answers, OrderedMessageIs};
 use intake::Intake;
 use intake_ordered::OrderedIntake;
+use session_store::IDENTITY_HEAD;
 use wire_ordered::NumberAt;
 use wire_ordered::Part;
 
@@ -30,7 +31,7 @@ fn topic_end(store: &[u8]) -> usize
     requires { ⌜ (minStore ≤ length (now store)) × (isIdentity (slot (now store) 0) ≡ true) ⌝ }
     ensures { λ r. ⌜ TopicEnd (now (store .entry)) r ⌝ }
 {
-    7 + slice_int::read_u16(store, 0) as usize
+    IDENTITY_HEAD + slice_int::read_u16(store, 0) as usize
 }
 
 // A message of field 1, a number, and field n, its assignment, and nothing else. What the buffer holds where nothing is told is free.
@@ -49,7 +50,7 @@ pub fn take_ordered_message(store: &[u8], m: &[u8], n: u8, b: &mut [u8]) -> Orde
         return OrderedMessage::Other;
     }
     let end = topic_end(store);
-    match intake_ordered::take_ordered(&m[from..to], &store[7..end], b) {
+    match intake_ordered::take_ordered(&m[from..to], &store[IDENTITY_HEAD..end], b) {
         OrderedIntake::Taken(_, size) => OrderedMessage::Taken(head, size),
         OrderedIntake::Other => OrderedMessage::Other,
     }
@@ -63,5 +64,5 @@ pub fn take_assignment(store: &[u8], m: &[u8], n: u64, epoch: u64, b: &mut [u8])
     ensures { λ r. ⌜ Answers r (now (b .exit)) (contentIn (now (store .entry)) n (now (m .entry))) ⌝ }
 {
     let end = topic_end(store);
-    intake::take_in(m, n, &store[7..end], epoch, b)
+    intake::take_in(m, n, &store[IDENTITY_HEAD..end], epoch, b)
 }

@@ -14,13 +14,16 @@ use session::Answer;
 use session::Changed;
 use session::Floor;
 use session::Match;
+use session::READERS;
 use session::SessionRecord;
+use session_store::IDENTITY_HEAD;
+use session_store::KIND;
+use session_store::MAX_TEXTS;
 use session_store::MIN_STORE;
+use session_store::NAME_LENGTH;
+use session_store::SUBSCRIPTION_LENGTH;
 use topic_types::ControllerIncarnation;
 use topic_types::ScalableConsumerType;
-
-// The most bytes of an identity's texts together.
-const MAX_TEXTS: usize = 2041;
 
 fn kind_byte(kind: ScalableConsumerType) -> u8
     ensures { λ r. ⌜ r ≡ kindByte kind ⌝ }
@@ -57,14 +60,14 @@ fn write_identity(
     requires { ⌜ minStore ≤ length (now store) ⌝ }
     ensures { λ _. ⌜ now (store .exit) ≡ put (now (store .entry)) 0 (encodeIdentity (record { topic = now (topic .entry); subscription = now (subscription .entry); consumerName = now (name .entry); consumerType = kind })) ⌝ }
 {
-    let second = 7 + topic.len();
+    let second = IDENTITY_HEAD + topic.len();
     let third = second + subscription.len();
     slice_int::put_bytes(store, third, name);
     slice_int::put_bytes(store, second, subscription);
-    slice_int::put_bytes(store, 7, topic);
-    store[6] = kind_byte(kind);
-    slice_int::write_u16(store, 4, name.len() as u16);
-    slice_int::write_u16(store, 2, subscription.len() as u16);
+    slice_int::put_bytes(store, IDENTITY_HEAD, topic);
+    store[KIND] = kind_byte(kind);
+    slice_int::write_u16(store, NAME_LENGTH, name.len() as u16);
+    slice_int::write_u16(store, SUBSCRIPTION_LENGTH, subscription.len() as u16);
     slice_int::write_u16(store, 0, topic.len() as u16);
 }
 
@@ -79,7 +82,7 @@ pub fn fresh(consumer_id: u64, incarnation: ControllerIncarnation) -> SessionRec
         invalidated: false,
         epoch_floor: Floor::Unset,
         queue_count: 0,
-        drain_positions: [0; 8],
+        drain_positions: [0; READERS],
     }
 }
 
@@ -131,10 +134,10 @@ fn same_identity(
     requires { ⌜ isIdentity (now s) ≡ true ⌝ }
     ensures { λ r. ⌜ r ≡ sameIdentity (now (s .entry)) (record { topic = now (topic .entry); subscription = now (subscription .entry); consumerName = now (name .entry); consumerType = kind }) ⌝ }
 {
-    let second = 7 + slice_int::read_u16(s, 0) as usize;
-    let third = second + slice_int::read_u16(s, 2) as usize;
-    let end = third + slice_int::read_u16(s, 4) as usize;
-    if !slice::same(&s[7..second], topic) {
+    let second = IDENTITY_HEAD + slice_int::read_u16(s, 0) as usize;
+    let third = second + slice_int::read_u16(s, SUBSCRIPTION_LENGTH) as usize;
+    let end = third + slice_int::read_u16(s, NAME_LENGTH) as usize;
+    if !slice::same(&s[IDENTITY_HEAD..second], topic) {
         return false;
     }
     if !slice::same(&s[second..third], subscription) {
@@ -143,7 +146,7 @@ fn same_identity(
     if !slice::same(&s[third..end], name) {
         return false;
     }
-    s[6] == kind_byte(kind)
+    s[KIND] == kind_byte(kind)
 }
 
 // Whether the registration is the one that the store was opened for. Tested in order: the store's length (1), its identity (22).

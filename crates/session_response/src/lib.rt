@@ -24,8 +24,11 @@ use packed_queue::LENGTH;
 use refusal::Refusal;
 use session::Answer;
 use session::Changed;
+use session::READERS;
 use session::SessionRecord;
 use session_intake::OrderedMessage;
+use session_store::BASELINE;
+use session_store::LIST;
 use session_store::MIN_STORE;
 use topic_types::ControllerIncarnation;
 use wire_messages::Checked;
@@ -97,7 +100,7 @@ fn registered_with(r: SessionRecord, epoch: u64, count: usize) -> SessionRecord
         invalidated: r.invalidated,
         epoch_floor,
         queue_count: count,
-        drain_positions: [0; 8],
+        drain_positions: [0; READERS],
     }
 }
 
@@ -110,8 +113,8 @@ fn register_alone(r: SessionRecord, store: &mut [u8], b: &[u8], size: usize) -> 
         ≡ effectOf (registered (view r (now (store .entry))) (packed-form.decodeAssignment (now (b .entry)))) (now (store .entry)) out) ⌝ }
 {
     let epoch = slice_int::read_u64(b, 0);
-    session_store::write_slot(store, 1, b, size);
-    session_store::write_slot(store, 2, b, size);
+    session_store::write_slot(store, BASELINE, b, size);
+    session_store::write_slot(store, LIST, b, size);
     let next = registered_with(r, epoch, 0);
     Changed {
         next,
@@ -141,8 +144,8 @@ fn register(
     let mut last = [0u8; SLOT];
     let len = load_last(store, count, at, b, &mut last);
     let epoch = slice_int::read_u64(&last, 0);
-    session_store::write_slot(store, 1, b, size);
-    session_store::write_slot(store, 2, &last, len);
+    session_store::write_slot(store, BASELINE, b, size);
+    session_store::write_slot(store, LIST, &last, len);
     let next = registered_with(r, epoch, count);
     Changed {
         next,

@@ -15,6 +15,7 @@ use output::WriteAnswer;
 use refusal::Refusal;
 use session::Answer;
 use session::Changed;
+use session::READERS;
 use session::SessionRecord;
 use session_store::MIN_STORE;
 use session_store::Tested;
@@ -29,15 +30,15 @@ pub const HEAD: usize = 107;
 const SUM: usize = 4;
 
 // What a form is longer than its store's part.
-pub const FRAME: usize = 111;
+pub const FRAME: usize = HEAD + SUM;
 
 // Writes the eight positions to their place.
-fn write_positions(positions: [usize; 8], out: &mut [u8])
+fn write_positions(positions: [usize; READERS], out: &mut [u8])
     requires { ⌜ 104 ≤ length (now out) ⌝ }
     ensures { λ _. ⌜ now (out .exit) ≡ put (now (out .entry)) 40 (encodePositions 8 positions) ⌝ }
 {
     let mut k: usize = 0;
-    while k < 8 {
+    while k < READERS {
         slice_int::write_u64(out, 40 + 8 * k, positions[k] as u64);
         k = k + 1;
     }

@@ -22,6 +22,23 @@ use session::SessionRecord;
 // The least store: three slots.
 pub const MIN_STORE: usize = 6144;
 
+// The bytes before the texts of an identity: their lengths and the kind; of its texts together at most.
+pub const IDENTITY_HEAD: usize = 7;
+
+pub const MAX_TEXTS: usize = SLOT - IDENTITY_HEAD;
+
+// Places in an identity: of the lengths of the subscription and of the name, behind that of the topic; of the kind.
+pub const SUBSCRIPTION_LENGTH: usize = 2;
+
+pub const NAME_LENGTH: usize = 4;
+
+pub const KIND: usize = 6;
+
+// The slots behind the identity's, by their numbers.
+pub const BASELINE: usize = 1;
+
+pub const LIST: usize = 2;
+
 // The most pushes that a queue holds.
 pub const MAX_QUEUE: usize = 1024;
 
@@ -37,18 +54,18 @@ pub fn is_identity(s: &[u8]) -> bool
     requires { ⌜ length (now s) ≡ 2048 ⌝ }
     ensures { λ r. ⌜ r ≡ isIdentity (now (s .entry)) ⌝ }
 {
-    if 1 < s[6] {
+    if 1 < s[KIND] {
         return false;
     }
     let topic = slice_int::read_u16(s, 0) as usize;
-    let subscription = slice_int::read_u16(s, 2) as usize;
-    let name = slice_int::read_u16(s, 4) as usize;
-    if 2041 < topic + subscription + name {
+    let subscription = slice_int::read_u16(s, SUBSCRIPTION_LENGTH) as usize;
+    let name = slice_int::read_u16(s, NAME_LENGTH) as usize;
+    if MAX_TEXTS < topic + subscription + name {
         return false;
     }
-    let second = 7 + topic;
+    let second = IDENTITY_HEAD + topic;
     let third = second + subscription;
-    if !utf8::is_utf8(&s[7..second]) {
+    if !utf8::is_utf8(&s[IDENTITY_HEAD..second]) {
         return false;
     }
     if !utf8::is_utf8(&s[second..third]) {
@@ -74,10 +91,10 @@ fn lists_start(registered: bool, store: &[u8]) -> bool
     if !registered {
         return true;
     }
-    if !starts(store, 1) {
+    if !starts(store, BASELINE) {
         return false;
     }
-    starts(store, 2)
+    starts(store, LIST)
 }
 
 // A reader's position is beyond the queue.

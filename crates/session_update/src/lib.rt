@@ -31,14 +31,15 @@ use session::Answer;
 use session::Changed;
 use session::SessionRecord;
 use session_intake::OrderedMessage;
+use session_store::LIST;
 use session_store::MAX_QUEUE;
 use session_store::Tested;
 use topic_types::ControllerIncarnation;
 use wire_messages::Checked;
 use wire_messages::MessageKind;
 
-// The store's list slot.
-const LIST: usize = 4096;
+// The place of the store's list slot.
+const LIST_PLACE: usize = SLOT * LIST;
 
 // An update of an unregistered session: the assignment of n bytes in the buffer joins the queue, which ends at a byte place.
 fn enqueued(r: SessionRecord, store: &mut [u8], end: usize, b: &[u8], n: usize) -> Changed
@@ -80,16 +81,16 @@ fn held(r: SessionRecord, store: &mut [u8], b: &[u8], n: usize, out: &mut [u8]) 
     ensures { λ x. ⌜ callOutcome (x .answer) (x .next) (now (store .exit)) (now (out .exit))
         ≡ effectOf (updateRegistered (view r (now (store .entry))) (packed-form.decodeAssignment (now (b .entry)))) (now (store .entry)) (now (out .entry)) ⌝ }
 {
-    if packed_records::same_assignment(&store[LIST..LIST + SLOT], b) {
+    if packed_records::same_assignment(&store[LIST_PLACE..LIST_PLACE + SLOT], b) {
         return session_record::unchanged(r);
     }
     let epoch = slice_int::read_u64(b, 0);
-    let prev = slice_int::read_u64(store, LIST);
+    let prev = slice_int::read_u64(store, LIST_PLACE);
     if epoch < prev {
         return session_record::refuse(r, Refusal::StaleEpoch { got: epoch, prev });
     }
-    let len = packed_diff::write_delta(&store[LIST..LIST + SLOT], b, out);
-    session_store::write_slot(store, 2, b, n);
+    let len = packed_diff::write_delta(&store[LIST_PLACE..LIST_PLACE + SLOT], b, out);
+    session_store::write_slot(store, LIST, b, n);
     let floor = r.epoch_floor;
     let raised = session_record::raised(floor, epoch);
     let next = session_record::with_floor(r, raised);

@@ -29,7 +29,7 @@ fn is_packed(s: &[u8]) -> bool
 fn write_between(old: &[u8], new: &[u8]) {
     if is_packed(old) {
         if is_packed(new) {
-            let mut out = [FILL; 3210];
+            let mut out = [FILL; packed_diff::LONGEST];
             let n = packed_diff::write_delta(old, new, &mut out);
             written(&out, n);
             return;

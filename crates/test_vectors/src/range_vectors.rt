@@ -1,8 +1,10 @@
 // Ranges at the limits: the calls on ranges, and rows of ranges.
 ghost use Prim.Native.Nat.{_≤_};
+ghost use Rattle.ranges_marks.specs.Marks.{rowSize};
 use crate::print;
 use ranges_calls::LengthAnswer;
 use ranges_calls::TestAnswer;
+use ranges_marks::ROW;
 use topic_types::KeyRange;
 
 // length START END
@@ -37,8 +39,8 @@ fn test(place: usize, line: &[u8]) {
 }
 
 // Two of the first n ranges share a value.
-fn share(row: [KeyRange; 506], n: usize)
-    requires { ⌜ n ≤ 506 ⌝ }
+fn share(row: [KeyRange; ROW], n: usize)
+    requires { ⌜ n ≤ rowSize ⌝ }
 {
     let mut words = [0u64; ranges_marks::WORDS];
     print::yes(ranges_marks::mark_first(row, n, &mut words));
@@ -46,10 +48,10 @@ fn share(row: [KeyRange; 506], n: usize)
 
 // overlap COUNT and COUNT pairs START END, 506 at most
 fn overlap(line: &[u8]) {
-    let mut row = [KeyRange { start: 0, end: 0 }; 506];
+    let mut row = [KeyRange { start: 0, end: 0 }; ROW];
     let count = log_lines::number_at(line, 1) as usize;
     let mut n: usize = 0;
-    while n < 506 {
+    while n < ROW {
         if count <= n {
             share(row, n);
             return;
@@ -59,7 +61,7 @@ fn overlap(line: &[u8]) {
         row[n] = KeyRange { start, end };
         n = n + 1;
     }
-    share(row, 506);
+    share(row, ROW);
 }
 
 pub fn run(name: &[u8], line: &[u8]) -> bool {

@@ -16,6 +16,7 @@ ghost use Rattle.writer_message.specs.Message.{rangeMessage, bucketFields, segm
 ghost use Rattle.intake_content.specs.Content.{firstOutside, outsideIn, outsideOf};
 ghost use Rattle.writer.specs.Write.{outsideAt, heldOf, roomOf, writeOutcome};
 use intake_content::Outside;
+use name_parents::SCHEME;
 use name_topic::NameAnswer;
 use output::WriteAnswer;
 use packed::Packed;
@@ -63,8 +64,8 @@ fn segment_outside(s: &[u8], p: usize) -> Outside
     requires { ⌜ p + sizeSegment (decodeSegment (drop p (now s))) ≤ length (now s) ⌝ }
     ensures { λ r. ⌜ r ≡ outsideAt (decodeSegment (drop p (now (s .entry)))) ⌝ }
 {
-    let range = packed::range_at(s, p + 8);
-    let count = slice_int::read_u16(s, p + 12) as usize;
+    let range = packed::range_at(s, p + packed::RECORD_RANGE);
+    let count = slice_int::read_u16(s, p + packed::RECORD_COUNT) as usize;
     bucket_outside(s, p + packed::RECORD_HEAD, count, range)
 }
 
@@ -137,8 +138,8 @@ fn segment_size(s: &[u8], p: usize, path: &[u8]) -> usize
     ensures { λ r. ⌜ r ≡ length (segmentMessage (now (path .entry)) (decodeSegment (drop p (now (s .entry))))) ⌝ }
 {
     let id = slice_int::read_u64(s, p);
-    let range = packed::range_at(s, p + 8);
-    let count = slice_int::read_u16(s, p + 12) as usize;
+    let range = packed::range_at(s, p + packed::RECORD_RANGE);
+    let count = slice_int::read_u16(s, p + packed::RECORD_COUNT) as usize;
     let topic = topic_size(path, range, id);
     let numbers = wire_writer::number_size(1, id)
         + wire_writer::number_size(2, range.start as u64)
@@ -209,8 +210,8 @@ fn write_segment(s: &[u8], p: usize, path: &[u8], out: &mut [u8], to: usize) -> 
         × (now (out .exit) ≡ put (now (out .entry)) to (segmentMessage (now (path .entry)) (decodeSegment (drop p (now (s .entry)))))) ⌝ }
 {
     let id = slice_int::read_u64(s, p);
-    let range = packed::range_at(s, p + 8);
-    let count = slice_int::read_u16(s, p + 12) as usize;
+    let range = packed::range_at(s, p + packed::RECORD_RANGE);
+    let count = slice_int::read_u16(s, p + packed::RECORD_COUNT) as usize;
     let start = wire_writer::write_number(out, to, 1, id);
     let end = wire_writer::write_number(out, start, 2, range.start as u64);
     let head = wire_writer::write_number(out, end, 3, range.end as u64);
@@ -278,5 +279,5 @@ pub fn to_pb(assignment: &[u8], parent: &[u8], out: &mut [u8]) -> WriteAnswer
     if !name_topic::is_parent(parent) {
         return WriteAnswer::Refused(Refusal::InvalidParent);
     }
-    write_message(assignment, count, &parent[8..], out)
+    write_message(assignment, count, &parent[SCHEME..], out)
 }
