@@ -17,9 +17,6 @@ use topic_types::KeyRange;
 // below it.
 pub const DIVISOR: u64 = 235929600;
 
-// 2^64 - 1.
-const LARGEST: u64 = 18446744073709551615;
-
 pub enum ChargeAnswer {
     // The charge in millionths of a euro, and the remainder for the segment's next holding.
     Charged(u64, u64),
@@ -89,7 +86,7 @@ fn multiply(a: u64, b: u64) -> Product
     if a == 0 {
         return Product::Fits(0);
     }
-    if b <= LARGEST / a {
+    if b <= u64::MAX / a {
         Product::Fits(a * b)
     } else {
         Product::TooLarge
@@ -124,7 +121,7 @@ pub fn charge(segment: &[u8], seconds: u64, rate: u64, remainder: u64) -> Charge
     let Product::Fits(n) = cost(values, seconds, rate) else {
         return ChargeAnswer::Refused(Refusal::ChargeTooLarge);
     };
-    if LARGEST - remainder < n {
+    if u64::MAX - remainder < n {
         return ChargeAnswer::Refused(Refusal::ChargeTooLarge);
     }
     let sum = n + remainder;

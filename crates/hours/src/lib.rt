@@ -25,7 +25,7 @@ const HEAD: usize = 4;
 const SPAN: usize = 16;
 
 // Stands for none: no term holds it, since ends are outside.
-const LARGEST: u64 = 18446744073709551615;
+const LARGEST: u64 = u64::MAX;
 
 pub enum OpenAnswer {
     // Whether the second is open.

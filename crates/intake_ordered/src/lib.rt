@@ -24,9 +24,6 @@ use topic_types::SegmentId;
 use wire_ordered::NumberAt;
 use wire_ordered::Part;
 
-// The highest id: none is above it.
-const MAX_ID: u64 = 18446744073709551615;
-
 // The buckets of a segment.
 enum Buckets {
     // All are taken: the place behind them, and whether they rise.
@@ -205,7 +202,8 @@ fn take_segments(s: &[u8], first: usize, parent: &[u8], b: &mut [u8]) -> Segment
         let Segment::Taken(id, last) = take_segment(&s[from..next], parent, b, used) else {
             return Segments::Other;
         };
-        if id == MAX_ID {
+        // No id is above the highest.
+        if id == u64::MAX {
             return Segments::Other;
         }
         rising = and(rising, low <= id);

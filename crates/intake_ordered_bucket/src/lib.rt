@@ -7,8 +7,8 @@ ghost use Rattle.intake_ordered_bucket.specs.Buckets.{RangeIs, WordIs, W
 use wire_ordered::NumberAt;
 use wire_ordered::Part;
 
-// The highest value of the key space.
-pub const MAX_HASH: u64 = 65535;
+// The highest value of the key space, as wide as a number of a message.
+pub const MAX_HASH: u64 = topic_types::MAX_HASH as u64;
 
 // The bytes of a bucket's field each number of which has three bytes.
 const WIDE: usize = 10;

@@ -131,7 +131,7 @@ pub fn number(s: &[u8]) -> Decimal {
             return Decimal::Invalid;
         }
         let d = (b - b'0') as u64;
-        if (18446744073709551615 - d) / 10 < v {
+        if (u64::MAX - d) / 10 < v {
             return Decimal::Invalid;
         }
         v = v * 10 + d;

@@ -65,7 +65,7 @@ pub fn segment_id(s: &[u8]) -> Number
             return Number::None;
         }
         let d = (b - 0x30) as u64;
-        if (18446744073709551615 - d) / 10 < v {
+        if (u64::MAX - d) / 10 < v {
             return Number::None;
         }
         v = v * 10 + d;

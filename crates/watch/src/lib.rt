@@ -16,15 +16,13 @@ ghost use Rattle.watch.specs.Watch.{snapshotIn, diffIn, outcome, done, s
 ghost use Rattle.watch.specs.Steps.{rest, addedIn, removedIn, OutFits, DiffFits, RoomIs};
 use refusal::Refusal;
 use watch_chunks::Lists;
+use watch_lists::FEW_BYTES;
 use watch_window::Listing;
 use watch_window::Sorted;
 use wire_readers::ErrorCode;
 use wire_readers::Event;
 use wire_schema::Checked;
 use wire_schema::MessageKind;
-
-// A snapshot of fewer bytes has few topics: they are sorted in one window.
-const FEW_BYTES: usize = 4096;
 
 pub enum WatchAnswer {
     // The byte lengths of the new set and of the output.
