@@ -7,6 +7,7 @@ ghost use Rattle.slice_int.specs.Put.{put};
 ghost use Rattle.watch_topics.specs.Topics.{insertAll};
 ghost use Rattle.watch_topics.specs.Packed.{decodeTopics, encodeTopics, sizeTopics};
 ghost use Rattle.watch_merge.specs.Merge.{without, Apart, Rises};
+use watch_topics::LENGTH;
 
 // z bytes are passed over where the topic is present.
 fn skip(present: bool, z: usize) -> usize
@@ -26,11 +27,11 @@ pub fn take_out(b: &mut [u8], gone: &[u8]) -> usize
     let mut at: usize = 0;
     while at < gone.len() {
         let n = slice_int::read_u16(gone, at) as usize;
-        let end = at + 2 + n;
-        let place = watch_topics::seek(&b[from..], &gone[at + 2..end]);
+        let end = at + LENGTH + n;
+        let place = watch_topics::seek(&b[from..], &gone[at + LENGTH..end]);
         slice_moves::move_down(b, from, to, place.at);
         to = to + place.at;
-        from = from + place.at + skip(place.present, 2 + n);
+        from = from + place.at + skip(place.present, LENGTH + n);
         at = end;
     }
     let rest = b.len() - from;
@@ -54,13 +55,13 @@ pub fn merge(b: &mut [u8], used: usize, new: &[u8]) -> usize
     let mut at: usize = 0;
     while at < z {
         let n = slice_int::read_u16(new, at) as usize;
-        let next = at + 2 + n;
-        let place = watch_topics::seek(&b[from..end], &new[at + 2..next]);
+        let next = at + LENGTH + n;
+        let place = watch_topics::seek(&b[from..end], &new[at + LENGTH..next]);
         slice_moves::move_down(b, from, to, place.at);
         to = to + place.at;
         from = from + place.at;
         slice_int::put_bytes(b, to, &new[at..next]);
-        to = to + 2 + n;
+        to = to + LENGTH + n;
         at = next;
     }
     end

@@ -8,6 +8,11 @@ ghost use Rattle.watch_topics.specs.Skipped.{Skipped};
 ghost use Rattle.watch_topics.specs.declared.Order.the-variants.{Less};
 ghost use Rattle.watch_topics.specs.Packed.{decodeTopics, isWhole, allUtf8, isSet, topicPlace};
 
+// The bytes of a topic's length, before the topic; of the longest topic that it can tell.
+pub const LENGTH: usize = 2;
+
+pub const MAX_TOPIC: usize = 65535;
+
 // How one topic stands to another.
 pub enum Order {
     Less,
@@ -151,14 +156,14 @@ fn is_utf8_list(s: &[u8]) -> bool
 {
     let mut at: usize = 0;
     while at < s.len() {
-        if s.len() - at < 2 {
+        if s.len() - at < LENGTH {
             return false;
         }
         let n = slice_int::read_u16(s, at) as usize;
-        if s.len() - at - 2 < n {
+        if s.len() - at - LENGTH < n {
             return false;
         }
-        let from = at + 2;
+        let from = at + LENGTH;
         let end = from + n;
         if !utf8::is_utf8(&s[from..end]) {
             return false;
@@ -174,14 +179,14 @@ fn is_whole(s: &[u8]) -> bool
 {
     let mut at: usize = 0;
     while at < s.len() {
-        if s.len() - at < 2 {
+        if s.len() - at < LENGTH {
             return false;
         }
         let n = slice_int::read_u16(s, at) as usize;
-        if s.len() - at - 2 < n {
+        if s.len() - at - LENGTH < n {
             return false;
         }
-        at = at + 2 + n;
+        at = at + LENGTH + n;
     }
     true
 }
@@ -206,11 +211,11 @@ fn is_rising(s: &[u8]) -> bool
     let mut at: usize = 0;
     while at < s.len() {
         let n = slice_int::read_u16(s, at) as usize;
-        let from = at + 2;
+        let from = at + LENGTH;
         let end = from + n;
         if end < s.len() {
             let m = slice_int::read_u16(s, end) as usize;
-            let next = end + 2;
+            let next = end + LENGTH;
             if !is_before_next(&s[from..end], &s[next..next + m]) {
                 return false;
             }
@@ -235,7 +240,7 @@ pub fn find(s: &[u8], t: &[u8]) -> Place
     let mut at: usize = 0;
     while at < s.len() {
         let n = slice_int::read_u16(s, at) as usize;
-        let from = at + 2;
+        let from = at + LENGTH;
         let end = from + n;
         match compare(t, &s[from..end]) {
             Order::Less => {
@@ -264,7 +269,7 @@ fn skip(s: &[u8], from: usize, n: usize) -> usize
             return at;
         }
         let z = slice_int::read_u16(s, at) as usize;
-        at = at + 2 + z;
+        at = at + LENGTH + z;
         left -= 1;
     }
     at
@@ -302,7 +307,7 @@ pub fn seek(s: &[u8], t: &[u8]) -> Place
             return find_between(s, t, low, at);
         }
         let n = slice_int::read_u16(s, at) as usize;
-        let from = at + 2;
+        let from = at + LENGTH;
         let end = from + n;
         match compare(t, &s[from..end]) {
             Order::Less => {
