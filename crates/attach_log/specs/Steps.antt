@@ -8,7 +8,7 @@ use mathlib.Core.Bool.{Bool, true, false, _&&_}
 use mathlib.Core.List.{List, _++_, map}
 use lib.ListN.{length, take, drop}
 use Rattle.packed.specs.Assignment.{idOf, decodeSegment, decodeSegments, sizeSegment, sizeSegments}
-use Rattle.packed_delta.specs.Delta.{decodeIds}
+use Rattle.packed_delta.specs.Delta.{deltaHead, idSize, decodeIds}
 use Rattle.attach_entries.specs.declared.Entry.the-variants.{Detach}
 use Rattle.attach_entries.specs.Log.{entriesIn}
 use Rattle.attach_entries.specs.Passes.{attachOf}
@@ -24,11 +24,11 @@ idsIn false n l = decodeIds n l
 -- the bytes of its first id or record, and of its first n
 abbrev pub sizeFirst : (attach : Bool) → List ℕ → ℕ
 sizeFirst true l = sizeSegment (decodeSegment l)
-sizeFirst false l = 8
+sizeFirst false l = idSize
 
 abbrev pub sizeIn : (attach : Bool) (n : ℕ) → List ℕ → ℕ
 sizeIn true n l = sizeSegments (decodeSegments n l)
-sizeIn false n l = 8 * n
+sizeIn false n l = idSize * n
 
 -- ids loaded into a row from the place `at` on, of n that stand there, and what is left of them
 pub record Loading (attach : Bool) (s : List ℕ) (at n : ℕ) (next count : ℕ) (ids : List ℕ) : Type 0 where
@@ -48,5 +48,5 @@ partIn attach s at n log q m = allIn (map (entryFor attach) (idsIn attach n (dro
 -- the front delta of s, with so many ids and records, has its entries at the front of the log
 unfoldable pub deltaIn : (s : List ℕ) (lost gained : ℕ) (log : List ℕ) → Bool
 deltaIn s lost gained log =
-    allIn (map Detach (decodeIds lost (drop 12 s))) (entriesIn lost log)
-    && allIn (map attachOf (decodeSegments gained (drop (12 + 8 * lost) s))) (entriesIn gained (drop (9 * lost) log))
+    allIn (map Detach (decodeIds lost (drop deltaHead s))) (entriesIn lost log)
+    && allIn (map attachOf (decodeSegments gained (drop (deltaHead + idSize * lost) s))) (entriesIn gained (drop (9 * lost) log))

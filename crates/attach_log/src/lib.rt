@@ -9,6 +9,7 @@ ghost use Prim.Native.Nat.{_+_, _*_, _≤_, _<_};
 ghost use lib.ListN.{length, drop};
 ghost use Rattle.intake_repeats.specs.Repeats.{rises};
 ghost use Rattle.packed.specs.Assignment.{decodeSegments, sizeSegments};
+ghost use Rattle.packed_delta.specs.Delta.{deltaHead, idSize};
 ghost use Rattle.attach_entries.specs.Log.{areDeltas, deltasOf, logEntries, clearIn};
 ghost use Rattle.attach_entries.specs.Passes.{Checked};
 ghost use Rattle.attach_entries.specs.Follows.{follows};
@@ -129,10 +130,10 @@ fn part_in(s: &[u8], at: usize, n: usize, attach: bool, log: &[u8], q: usize) ->
 
 // The delta at the front of s has its entries at the place q of the log.
 fn delta_in(s: &[u8], lost: usize, gained: usize, log: &[u8], q: usize) -> bool
-    requires { ⌜ (12 + 8 * lost + sizeSegments (decodeSegments gained (drop (12 + 8 * lost) (now s))) ≤ length (now s))
+    requires { ⌜ (deltaHead + idSize * lost + sizeSegments (decodeSegments gained (drop (deltaHead + idSize * lost) (now s))) ≤ length (now s))
         × (q + 9 * (lost + gained) ≤ length (now log)) ⌝ }
-    requires { ⌜ (rises (idsIn false lost (drop 12 (now s))) ≡ true)
-        × (rises (idsIn true gained (drop (12 + 8 * lost) (now s))) ≡ true) ⌝ }
+    requires { ⌜ (rises (idsIn false lost (drop deltaHead (now s))) ≡ true)
+        × (rises (idsIn true gained (drop (deltaHead + idSize * lost) (now s))) ≡ true) ⌝ }
     ensures { λ r. ⌜ r ≡ deltaIn (now (s .entry)) lost gained (drop q (now (log .entry))) ⌝ }
 {
     if part_in(s, packed_delta::HEAD, lost, false, log, q) {

@@ -7,7 +7,7 @@ ghost use mathlib.Core.Bool.{true};
 ghost use Prim.Native.Nat.{_+_, _*_, _≤_, _<_};
 ghost use lib.ListN.{length, drop};
 ghost use Rattle.ranges_calls.specs.Calls.{valuesIn};
-ghost use Rattle.packed.specs.Assignment.{decodeRanges, allInOrder};
+ghost use Rattle.packed.specs.Assignment.{bucketSize, decodeRanges, allInOrder};
 ghost use Rattle.charge.specs.Charge.{lengthsOf, holdsOf, productOf, chargeOf};
 use packed::RecordRead;
 use refusal::Refusal;
@@ -46,7 +46,7 @@ fn range_length(range: KeyRange) -> u64
 
 // How many values the n ranges from a place on have, one after another.
 fn lengths(s: &[u8], at: usize, n: usize) -> u64
-    requires { ⌜ (at + 4 * n ≤ length (now s)) × (n < 65536) × (allInOrder (decodeRanges n (drop at (now s))) ≡ true) ⌝ }
+    requires { ⌜ (at + bucketSize * n ≤ length (now s)) × (n < 65536) × (allInOrder (decodeRanges n (drop at (now s))) ≡ true) ⌝ }
     ensures { λ r. ⌜ r ≡ lengthsOf (decodeRanges n (drop at (now (s .entry)))) ⌝ }
 {
     let mut sum: u64 = 0;

@@ -19,7 +19,7 @@ use Rattle.wire_values.specs.Values.{partsOf, mergedFields}
 use Rattle.wire_values.specs.Places.{Inside, innerFrom}
 use Rattle.wire_readers.specs.Messages.{WireSegment, readSegment}
 use Rattle.keyed.specs.Keyed.{holds, insert}
-use Rattle.packed.specs.Assignment.{idOf, slotSize}
+use Rattle.packed.specs.Assignment.{assignmentHead, recordHead, bucketSize, idOf, slotSize}
 use Rattle.packed.specs.Assignment.{sizeSegment, sizeSegments, encodeRanges, encodeSegments, decodeSegments, encodeAssignment, sizeAssignment}
 use Rattle.intake_repeats.specs.declared.Repeat.{Repeat}
 use Rattle.intake_repeats.specs.declared.Repeat.the-variants as repeated
@@ -83,7 +83,7 @@ pub record PutReady (b : List ℕ) (used at size : ℕ) (p : List ℕ) (scan : S
   pub valid : scan .run .valid ≡ true
   pub small : (scan .head .«hash_start» < 65536) × (scan .head .«hash_end» < 65536) × (scan .run .count < 65536)
   pub size-is : size ≡ sizeSegment (assignedSegment (readSegment p))
-  pub buckets : take (4 * length (readSegment p .bucketRanges)) (drop (used + 14) b) ≡ encodeRanges (bucketsOf (readSegment p))
+  pub buckets : take (bucketSize * length (readSegment p .bucketRanges)) (drop (used + recordHead) b) ≡ encodeRanges (bucketsOf (readSegment p))
 
 -- bytes put in at a place, those from there to the used ones' end moved up
 abbrev pub insertedAt : (b : List ℕ) (used at : ℕ) (bytes : List ℕ) → List ℕ
@@ -93,13 +93,13 @@ insertedAt b used at bytes = put b at (bytes ++ take (used - at) (drop at b))
 abbrev pub AddedIs : (b : List ℕ) (m : ℕ) (parent : List ℕ) → WireSegment → (b′ : List ℕ) → Added → Type 0
 AddedIs b m parent w b′ (added.Refused x) =
     (segmentFault parent w ≡ some x)
-    ⊎ ((segmentFault parent w ≡ none) × (holds idOf (w .segmentId) (decodeSegments m (drop 10 b)) ≡ true) × (x ≡ DuplicateSegment (record { 0 = w .segmentId })))
+    ⊎ ((segmentFault parent w ≡ none) × (holds idOf (w .segmentId) (decodeSegments m (drop assignmentHead b)) ≡ true) × (x ≡ DuplicateSegment (record { 0 = w .segmentId })))
 AddedIs b m parent w b′ added.Beyond =
-    (segmentFault parent w ≡ none) × (slotSize < 10 + sizeSegments (decodeSegments m (drop 10 b)) + sizeSegment (assignedSegment w))
+    (segmentFault parent w ≡ none) × (slotSize < assignmentHead + sizeSegments (decodeSegments m (drop assignmentHead b)) + sizeSegment (assignedSegment w))
 AddedIs b m parent w b′ (added.Size id size) =
-    (segmentFault parent w ≡ none) × (holds idOf (w .segmentId) (decodeSegments m (drop 10 b)) ≡ false)
+    (segmentFault parent w ≡ none) × (holds idOf (w .segmentId) (decodeSegments m (drop assignmentHead b)) ≡ false)
     × (id ≡ w .segmentId) × (size ≡ sizeSegment (assignedSegment w))
-    × (b′ ≡ put b 10 (encodeSegments (insert idOf (assignedSegment w) (decodeSegments m (drop 10 b)))))
+    × (b′ ≡ put b assignmentHead (encodeSegments (insert idOf (assignedSegment w) (decodeSegments m (drop assignmentHead b)))))
 
 -- ---- the answer
 

@@ -19,7 +19,7 @@ use Rattle.wire.specs.Fields.{fieldsOf}
 use Rattle.wire_schema.specs.declared.MessageKind.the-variants.{ScalableAssignedSegment, IntRange}
 use Rattle.wire_schema.specs.FirstFault.{Sound}
 use Rattle.wire_readers.specs.Messages.{intRangeOf, readSegment}
-use Rattle.packed.specs.Assignment.{AssignedSegment, encodeRanges, encodeSegment, encodeSegments, sizeSegment, sizeSegments, okSegment, okFrom}
+use Rattle.packed.specs.Assignment.{assignmentHead, bucketSize, AssignedSegment, encodeRanges, encodeSegment, encodeSegments, sizeSegment, sizeSegments, okSegment, okFrom}
 use Rattle.packed.specs.Fit.{FitRanges, FitSegment, FitSegments}
 use Rattle.keyed.specs.Each.{Each}
 use Rattle.intake_content.specs.Passing.{Passing}
@@ -52,7 +52,7 @@ pub record BucketsFrom (p : List ℕ) (at low high from : ℕ) (before : Bool) (
   pub fits : FitRanges ranges
   pub inside : Each (Inside low high) ranges
   pub rises : after ≡ true → (before ≡ true) × (risingFrom from ranges ≡ true)
-  pub to-is : to ≡ place + 4 * length ranges
+  pub to-is : to ≡ place + bucketSize * length ranges
   pub room : to ≤ length b
   pub wrote : b′ ≡ put b place (encodeRanges ranges)
 
@@ -116,5 +116,5 @@ pub record SegmentsFrom (parent s : List ℕ) (at low : ℕ) (before : Bool) (b 
   pub wrote : b′ ≡ put b used (encodeSegments segments)
 
 abbrev pub SegmentsSay : (parent s : List ℕ) (at : ℕ) (b b′ : List ℕ) → Segments → Type 0
-SegmentsSay parent s at b b′ (segments.All count to rising) = SegmentsFrom parent s at 0 true b 10 count to rising b′
+SegmentsSay parent s at b b′ (segments.All count to rising) = SegmentsFrom parent s at 0 true b assignmentHead count to rising b′
 SegmentsSay parent s at b b′ segments.Other = Unit {0}

@@ -11,7 +11,7 @@ ghost use Rattle.slice_int.specs.Be.{bytesOf};
 ghost use Rattle.slice_int.specs.Put.{put};
 ghost use Rattle.utf8.specs.Table.{isUtf8};
 ghost use Rattle.name_parents.specs.Parents.{isParent};
-ghost use Rattle.packed.specs.Assignment.{decodeRanges, okBuckets};
+ghost use Rattle.packed.specs.Assignment.{slotSize, recordHead, bucketSize, decodeRanges, okBuckets};
 ghost use Rattle.intake_ordered.specs.Walk.{BucketsSay, HeadIs, SegmentIs, SegmentsSay};
 ghost use Rattle.intake_ordered.specs.Taken.{OrderedIs};
 use intake_ordered_bucket::Bucket;
@@ -107,7 +107,7 @@ fn take_buckets(
 
 // The n buckets that were written from a place on share no value: told already where they rise.
 fn buckets_apart(b: &[u8], place: usize, n: usize, rising: bool) -> bool
-    requires { ⌜ place + 4 * n ≤ length (now b) ⌝ }
+    requires { ⌜ place + bucketSize * n ≤ length (now b) ⌝ }
     ensures { λ r. ⌜ r ≡ (rising || okBuckets (decodeRanges n (drop place (now (b .entry))))) ⌝ }
 {
     if rising {
@@ -144,7 +144,7 @@ fn head_of(p: &[u8]) -> Head
 
 // Writes the head of a record: id, range, and count of buckets.
 fn write_head(b: &mut [u8], at: usize, id: u64, start: u64, end: u64, count: usize)
-    requires { ⌜ at + 14 ≤ length (now b) ⌝ }
+    requires { ⌜ at + recordHead ≤ length (now b) ⌝ }
     requires { ⌜ (start < 65536) × (end < 65536) × (count < 65536) ⌝ }
     ensures { λ _. ⌜ now (b .exit) ≡ put (now (b .entry)) at (bytesOf 8 id ++ ((bytesOf 2 start ++ bytesOf 2 end) ++ bytesOf 2 count)) ⌝ }
 {
@@ -156,7 +156,7 @@ fn write_head(b: &mut [u8], at: usize, id: u64, start: u64, end: u64, count: usi
 // The segment in the part p, its record written behind the used bytes.
 fn take_segment(p: &[u8], parent: &[u8], b: &mut [u8], used: usize) -> Segment
     requires { ⌜ (isParent (now parent) ≡ true) × (isUtf8 (now parent) ≡ true) ⌝ }
-    requires { ⌜ (length (now b) ≡ 2048) × (used ≤ 2048) ⌝ }
+    requires { ⌜ (length (now b) ≡ slotSize) × (used ≤ slotSize) ⌝ }
     ensures { λ r. ⌜ SegmentIs (now (parent .entry)) (now (p .entry)) (now (b .entry)) used (now (b .exit)) r ⌝ }
 {
     let Head::Found(id, start, end, from, to) = head_of(p) else {
@@ -187,7 +187,7 @@ fn take_segment(p: &[u8], parent: &[u8], b: &mut [u8], used: usize) -> Segment
 // The segments of the assignment s from the place first on, in whatever order, their records written from the place 10 on as they come.
 fn take_segments(s: &[u8], first: usize, parent: &[u8], b: &mut [u8]) -> Segments
     requires { ⌜ (isParent (now parent) ≡ true) × (isUtf8 (now parent) ≡ true) ⌝ }
-    requires { ⌜ length (now b) ≡ 2048 ⌝ }
+    requires { ⌜ length (now b) ≡ slotSize ⌝ }
     ensures { λ r. ⌜ SegmentsSay (now (parent .entry)) (now (s .entry)) first (now (b .entry)) (now (b .exit)) r ⌝ }
 {
     let mut at = first;
@@ -217,7 +217,7 @@ fn take_segments(s: &[u8], first: usize, parent: &[u8], b: &mut [u8]) -> Segment
 
 // The assignment in the part s below a parent, packed at the front of the buffer. What the buffer holds where nothing is told is free.
 pub fn take_ordered(s: &[u8], parent: &[u8], b: &mut [u8]) -> OrderedIntake
-    requires { ⌜ length (now b) ≡ 2048 ⌝ }
+    requires { ⌜ length (now b) ≡ slotSize ⌝ }
     requires { ⌜ isUtf8 (now parent) ≡ true ⌝ }
     ensures { λ r. ⌜ OrderedIs (now (parent .entry)) (now (s .entry)) (now (b .entry)) r (now (b .exit)) ⌝ }
 {

@@ -11,7 +11,7 @@ use lib.IntN.{pos}
 use lib.Dec.{leb, ltb}
 use Rattle.topic_types.specs.declared.KeyRange.{KeyRange}
 use Rattle.slice_int.specs.Put.{put}
-use Rattle.packed.specs.Assignment.{encodeRange, encodeRanges}
+use Rattle.packed.specs.Assignment.{bucketSize, encodeRange, encodeRanges}
 use Rattle.wire_readers.specs.declared.IntRange.{IntRange}
 use Rattle.wire_readers.specs.Messages.{readSegment}
 use Rattle.wire_readers.specs.Places.{SegmentIs}
@@ -47,7 +47,7 @@ runOf rs = foldl withBucket noBuckets rs
 
 -- a range written behind count others, where there is room for so many
 abbrev pub roomFor : (b : List ℕ) (at count room : ℕ) → KeyRange → List ℕ
-roomFor b at count room range = cond (ltb count room) (put b (at + 4 * count) (encodeRange range)) b
+roomFor b at count room range = cond (ltb count room) (put b (at + bucketSize * count) (encodeRange range)) b
 
 -- what `withBucket` writes
 abbrev pub bucketWritten : BucketRun → IntRange → (b : List ℕ) (at room : ℕ) → List ℕ
@@ -57,6 +57,6 @@ bucketWritten run r b at room = cond (run .valid && bucketOk r) (roomFor b at (r
 pub record ScanIs (p : List ℕ) (at : ℕ) (b : List ℕ) (r : SegmentScan) (b′ : List ℕ) : Type 0 where
   pub head : SegmentIs p (r .head)
   pub run : r .run ≡ runOf (readSegment p .bucketRanges)
-  pub wrote : r .run .valid ≡ true → at + 4 * length (readSegment p .bucketRanges) ≤ length b → b′ ≡ put b at (encodeRanges (bucketsOf (readSegment p)))
+  pub wrote : r .run .valid ≡ true → at + bucketSize * length (readSegment p .bucketRanges) ≤ length b → b′ ≡ put b at (encodeRanges (bucketsOf (readSegment p)))
   pub kept : take at b′ ≡ take at b
   pub long : length b′ ≡ length b

@@ -6,7 +6,7 @@ ghost use mathlib.Core.Bool.{_&&_};
 ghost use Prim.Native.Nat.{_+_, _*_, _^_, _≤_, _<_};
 ghost use lib.ListN.{length};
 ghost use Rattle.slice_int.specs.Put.{put};
-ghost use Rattle.packed.specs.Assignment.{encodeRange};
+ghost use Rattle.packed.specs.Assignment.{bucketSize, encodeRange};
 ghost use Rattle.wire_readers.specs.Messages.{intRangeOf};
 ghost use Rattle.wire_readers.specs.Places.{headOf};
 ghost use Rattle.intake_content.specs.Content.{bucketOk, magnitude, bucketOf};
@@ -105,7 +105,7 @@ fn and(a: bool, b: bool) -> bool
 
 // Writes a range as in a packed assignment.
 fn write_range(b: &mut [u8], at: usize, range: KeyRange)
-    requires { ⌜ at + 4 ≤ length (now b) ⌝ }
+    requires { ⌜ at + bucketSize ≤ length (now b) ⌝ }
     requires { ⌜ (range .start < 65536) × (range .end < 65536) ⌝ }
     ensures { λ _. ⌜ now (b .exit) ≡ put (now (b .entry)) at (encodeRange range) ⌝ }
 {
@@ -115,7 +115,7 @@ fn write_range(b: &mut [u8], at: usize, range: KeyRange)
 
 // Writes a bucket behind the count buckets before it, where there is room for so many from the place at on.
 fn write_bucket(b: &mut [u8], at: usize, count: usize, room: usize, range: KeyRange)
-    requires { ⌜ at + 4 * room ≤ length (now b) ⌝ }
+    requires { ⌜ at + bucketSize * room ≤ length (now b) ⌝ }
     requires { ⌜ (range .start < 65536) × (range .end < 65536) ⌝ }
     ensures { λ _. ⌜ now (b .exit) ≡ roomFor (now (b .entry)) at count room range ⌝ }
 {
@@ -126,7 +126,7 @@ fn write_bucket(b: &mut [u8], at: usize, count: usize, room: usize, range: KeyRa
 
 // One more bucket; a valid one is written where there is room.
 fn next_bucket(run: BucketRun, r: IntRange, b: &mut [u8], at: usize, room: usize) -> BucketRun
-    requires { ⌜ at + 4 * room ≤ length (now b) ⌝ }
+    requires { ⌜ at + bucketSize * room ≤ length (now b) ⌝ }
     requires { ⌜ run .count + 1 < 2 ^ 64 ⌝ }
     ensures { λ x. ⌜ (x ≡ withBucket run r) × (now (b .exit) ≡ bucketWritten run r (now (b .entry)) at room) ⌝ }
 {

@@ -7,7 +7,7 @@ ghost use mathlib.Core.Bool.{true};
 ghost use Prim.Native.Nat.{_+_, _*_, _≤_, max};
 ghost use lib.ListN.{length, drop};
 ghost use Rattle.keyed.specs.Keyed.{find};
-ghost use Rattle.packed.specs.Assignment.{idOf, decodeRanges, decodeSegment, decodeSegments, sizeSegment, okSegment};
+ghost use Rattle.packed.specs.Assignment.{assignmentHead, bucketSize, idOf, decodeRanges, decodeSegment, decodeSegments, sizeSegment, okSegment};
 ghost use Rattle.packed.proofs.AssignmentLaws.{Rest};
 ghost use Rattle.key_in_segment.specs.Least.{leastTaken};
 ghost use Rattle.key_in_segment.specs.Ends.{lesserOf, leastCommon, leastIn};
@@ -73,7 +73,7 @@ fn least_common(a: KeyRange, b: KeyRange) -> Least
 
 // The least value of a range that lies in one of the n ranges from a place on.
 fn least_in(s: &[u8], at: usize, n: usize, range: KeyRange) -> Least
-    requires { ⌜ at + 4 * n ≤ length (now s) ⌝ }
+    requires { ⌜ at + bucketSize * n ≤ length (now s) ⌝ }
     ensures { λ r. ⌜ r ≡ leastIn range (decodeRanges n (drop at (now (s .entry)))) ⌝ }
 {
     let mut best = Least::NoValue;
@@ -113,8 +113,8 @@ fn key_at(least: Least) -> KeyAnswer
 
 // The key of the segment with the id among the m records from the place 10 on.
 fn key_among(s: &[u8], m: usize, id: u64) -> KeyAnswer
-    requires { ⌜ Rest (now s) 10 m ⌝ }
-    ensures { λ r. ⌜ r ≡ keyIn (find idOf id (decodeSegments m (drop 10 (now (s .entry))))) ⌝ }
+    requires { ⌜ Rest (now s) assignmentHead m ⌝ }
+    ensures { λ r. ⌜ r ≡ keyIn (find idOf id (decodeSegments m (drop assignmentHead (now (s .entry))))) ⌝ }
 {
     let mut p: usize = packed::ASSIGNMENT_HEAD;
     let mut left = m;

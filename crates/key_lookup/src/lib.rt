@@ -2,7 +2,7 @@
 ghost use mathlib.Core.Path.{_≡_};
 ghost use Prim.Native.Nat.{_+_, _*_, _≤_};
 ghost use lib.ListN.{length, drop};
-ghost use Rattle.packed.specs.Assignment.{decodeRanges, decodeSegment, decodeSegments, sizeSegment};
+ghost use Rattle.packed.specs.Assignment.{assignmentHead, bucketSize, decodeRanges, decodeSegment, decodeSegments, sizeSegment};
 ghost use Rattle.packed.proofs.AssignmentLaws.{Rest};
 ghost use Rattle.key_lookup.specs.Lookup.{anyHolds, takes, firstTaking, segmentForKey};
 use packed::Packed;
@@ -23,7 +23,7 @@ pub enum SegmentAnswer {
 
 // One of the n ranges from a place on has the hash: it shares a value with the range of the hash alone.
 fn bucket_holds(s: &[u8], at: usize, n: usize, hash: u32) -> bool
-    requires { ⌜ at + 4 * n ≤ length (now s) ⌝ }
+    requires { ⌜ at + bucketSize * n ≤ length (now s) ⌝ }
     ensures { λ r. ⌜ r ≡ anyHolds hash (decodeRanges n (drop at (now (s .entry)))) ⌝ }
 {
     let start = hash;
@@ -48,8 +48,8 @@ fn segment_takes(s: &[u8], p: usize, hash: u32) -> bool
 
 // The first of the m records from the place 10 on that takes the hash.
 fn first_taking(s: &[u8], m: usize, hash: u32) -> SegmentAnswer
-    requires { ⌜ Rest (now s) 10 m ⌝ }
-    ensures { λ r. ⌜ r ≡ firstTaking hash (decodeSegments m (drop 10 (now (s .entry)))) ⌝ }
+    requires { ⌜ Rest (now s) assignmentHead m ⌝ }
+    ensures { λ r. ⌜ r ≡ firstTaking hash (decodeSegments m (drop assignmentHead (now (s .entry)))) ⌝ }
 {
     let mut p: usize = packed::ASSIGNMENT_HEAD;
     let mut left = m;

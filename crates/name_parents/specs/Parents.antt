@@ -14,6 +14,10 @@ use Rattle.name_parents.specs.Classes.{classOf, isSlash, isDash, isMark}
 abbrev pub topicScheme : List ℕ
 topicScheme = 0x74 ∷ 0x6F ∷ 0x70 ∷ 0x69 ∷ 0x63 ∷ 0x3A ∷ 0x2F ∷ 0x2F ∷ []
 
+-- its bytes
+abbrev pub topicSchemeSize : ℕ
+topicSchemeSize = 8
+
 -- the bytes before the first '/'
 unfoldable pub beforeSlash : List ℕ → List ℕ
 beforeSlash [] = []
@@ -59,11 +63,11 @@ unfoldable pub isPath : List ℕ → Bool
 isPath p = hasThreeParts p && frontClean p
 
 unfoldable pub isParent : List ℕ → Bool
-isParent s = startsWith topicScheme s && isPath (drop 8 s)
+isParent s = startsWith topicScheme s && isPath (drop topicSchemeSize s)
 
 -- the path of a parent
 abbrev pub pathOf : List ℕ → List ℕ
-pathOf s = drop 8 s
+pathOf s = drop topicSchemeSize s
 
 -- ---- what a helper of src/ answers
 

@@ -20,7 +20,7 @@ use Rattle.slice.specs.Same.{startsWith}
 use Rattle.utf8.specs.Table.{isUtf8}
 use Rattle.name_parents.specs.Classes.{isSlash, isDash}
 use Rattle.name_parents.specs.Parents.{topicScheme, isPath}
-use Rattle.name_topic.specs.Names.{segmentScheme}
+use Rattle.name_topic.specs.Names.{segmentScheme, segmentSchemeSize}
 use Rattle.name_topic.specs.Build.{NameOutcome, unwritten, written}
 use Rattle.name_digits.specs.Digits.{decimalValue, hexValue, isHexWord, isSegmentId}
 use Rattle.name_source.specs.declared.SourceAnswer.{SourceAnswer}
@@ -66,13 +66,13 @@ isDescriptor d =
 -- A name is answered as the place where its path ends, its range and its id.
 unfoldable pub parseSegmentTopic : List ℕ → Parsed
 parseSegmentTopic t = do
-  refuseUnless parsed.Refused (startsWith segmentScheme t && hasSlash (drop 10 t)) InvalidSegment  -- 18 without prefix or slash
-  let path = beforeLast (drop 10 t)
-  let d = drop (length path + 1) (drop 10 t)
+  refuseUnless parsed.Refused (startsWith segmentScheme t && hasSlash (drop segmentSchemeSize t)) InvalidSegment  -- 18 without prefix or slash
+  let path = beforeLast (drop segmentSchemeSize t)
+  let d = drop (length path + 1) (drop segmentSchemeSize t)
   refuseUnless parsed.Refused (isPath path) InvalidParent  -- 12
   refuseUnless parsed.Refused (isDescriptor d) InvalidSegment  -- 18
   range ← takeRange parsed.Refused (newKeyRange (hexValue (startPart d)) (hexValue (endPart d)))  -- 9
-  parsed.Name (10 + length path) range (record { 0 = decimalValue (idPart d) })
+  parsed.Name (segmentSchemeSize + length path) range (record { 0 = decimalValue (idPart d) })
 
 unfoldable pub parseText : List ℕ → Parsed
 parseText t = do
@@ -100,7 +100,7 @@ segmentSource id t = do
 unfoldable pub parentTopic : (t out : List ℕ) → NameOutcome
 parentTopic t out = do
   name ← takeName (unwritten out) (parseText t)  -- 7, 18, 12, 18, 9
-  written (topicScheme ++ take (name .pathEnd - 10) (drop 10 t)) out  -- 21
+  written (topicScheme ++ take (name .pathEnd - segmentSchemeSize) (drop segmentSchemeSize t)) out  -- 21
 
 -- ---- Internal: the tails of `segmentSource` and `parentTopic` behind the name, which laws cite
 
@@ -113,7 +113,7 @@ sourceStage id x = do
 unfoldable pub parentOutcome : (t out : List ℕ) → Parsed → NameOutcome
 parentOutcome t out x = do
   name ← takeName (unwritten out) x
-  written (topicScheme ++ take (name .pathEnd - 10) (drop 10 t)) out
+  written (topicScheme ++ take (name .pathEnd - segmentSchemeSize) (drop segmentSchemeSize t)) out
 
 -- ---- Internal: the tails of `parseSegmentTopic`, from 12, 18 and 9 on, which a helper's contract and laws cite
 
@@ -131,4 +131,4 @@ descriptorStage pathEnd d = do
 unfoldable pub parentStage : (p : List ℕ) → Parsed
 parentStage p = do
   refuseUnless parsed.Refused (isPath (beforeLast p)) InvalidParent
-  descriptorStage (10 + length (beforeLast p)) (drop (length (beforeLast p) + 1) p)
+  descriptorStage (segmentSchemeSize + length (beforeLast p)) (drop (length (beforeLast p) + 1) p)

@@ -12,6 +12,10 @@ use Rattle.topic_types.specs.declared.SegmentId.{SegmentId}
 abbrev pub segmentScheme : List ℕ
 segmentScheme = 0x73 ∷ 0x65 ∷ 0x67 ∷ 0x6D ∷ 0x65 ∷ 0x6E ∷ 0x74 ∷ 0x3A ∷ 0x2F ∷ 0x2F ∷ []
 
+-- its bytes
+abbrev pub segmentSchemeSize : ℕ
+segmentSchemeSize = 10
+
 -- the digit of a value below 16: '0' to '9', 'a' to 'f'
 abbrev pub hexDigit : ℕ → ℕ
 hexDigit n = cond (ltb n 10) (0x30 + n) (0x57 + n)

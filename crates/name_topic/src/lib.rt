@@ -7,7 +7,7 @@ ghost use mathlib.Core.Path.{_≡_};
 ghost use Prim.Native.Nat.{_≤_};
 ghost use lib.ListN.{length};
 ghost use Rattle.slice.specs.Same.{sameBytes, startsWith};
-ghost use Rattle.name_topic.specs.Names.{segmentScheme, segmentTopic};
+ghost use Rattle.name_topic.specs.Names.{segmentSchemeSize, segmentScheme, segmentTopic};
 ghost use Rattle.name_topic.specs.Build.{nameOutcome, written, canonicalSegmentTopic};
 pub use name_parents::is_parent;
 use refusal::Refusal;
@@ -32,7 +32,7 @@ pub enum NameAnswer {
 
 // The text starts with "segment://".
 fn has_scheme(text: &[u8]) -> bool
-    requires { ⌜ 10 ≤ length (now text) ⌝ }
+    requires { ⌜ segmentSchemeSize ≤ length (now text) ⌝ }
     ensures { λ r. ⌜ r ≡ startsWith segmentScheme (now (text .entry)) ⌝ }
 {
     if slice_int::read_u64(text, 0) != SEGMENT_COLON {

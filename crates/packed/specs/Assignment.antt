@@ -29,6 +29,19 @@ recordHead = 14
 abbrev pub bucketSize : ℕ
 bucketSize = 4
 
+-- places: of the count of segments in an assignment; of the range and the count of buckets in a record; of the end in a range
+abbrev pub assignmentCount : ℕ
+assignmentCount = 8
+
+abbrev pub recordRange : ℕ
+recordRange = 8
+
+abbrev pub recordCount : ℕ
+recordCount = 12
+
+abbrev pub rangeEnd : ℕ
+rangeEnd = 2
+
 -- ---- values
 
 pub record AssignedSegment : Type 0 where
@@ -83,7 +96,7 @@ unfoldable pub num : ℕ → List ℕ → ℕ
 num w l = be (take w l)
 
 unfoldable pub decodeRange : List ℕ → KeyRange
-decodeRange l = keyRange (num 2 l) (num 2 (drop 2 l))
+decodeRange l = keyRange (num 2 l) (num 2 (drop rangeEnd l))
 
 unfoldable pub decodeRanges : ℕ → List ℕ → List KeyRange
 decodeRanges zero l = []
@@ -91,14 +104,14 @@ decodeRanges (suc n) l = decodeRange l ∷ decodeRanges n (drop bucketSize l)
 
 unfoldable pub decodeSegment : List ℕ → AssignedSegment
 decodeSegment l =
-    record { segmentId = num 8 l; range = decodeRange (drop 8 l); buckets = decodeRanges (num 2 (drop 12 l)) (drop recordHead l) }
+    record { segmentId = num 8 l; range = decodeRange (drop recordRange l); buckets = decodeRanges (num 2 (drop recordCount l)) (drop recordHead l) }
 
 unfoldable pub decodeSegments : ℕ → List ℕ → List AssignedSegment
 decodeSegments zero l = []
 decodeSegments (suc n) l = decodeSegment l ∷ decodeSegments n (drop (sizeSegment (decodeSegment l)) l)
 
 unfoldable pub decodeAssignment : List ℕ → ConsumerAssignment
-decodeAssignment l = record { layoutEpoch = num 8 l; segments = decodeSegments (num 2 (drop 8 l)) (drop assignmentHead l) }
+decodeAssignment l = record { layoutEpoch = num 8 l; segments = decodeSegments (num 2 (drop assignmentCount l)) (drop assignmentHead l) }
 
 -- ---- which values are packed assignments
 

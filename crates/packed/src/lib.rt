@@ -8,7 +8,7 @@ ghost use mathlib.Core.Bool.{true, not, _&&_};
 ghost use lib.ListN.{length, drop};
 ghost use Rattle.topic_types.specs.KeyRanges.{keyRange};
 ghost use Rattle.ranges.specs.Overlap.{overlapsAny, risingFrom};
-ghost use Rattle.packed.specs.Assignment.{decodeRange, decodeRanges, okBuckets, startsAssignment, isAssignment};
+ghost use Rattle.packed.specs.Assignment.{recordHead, bucketSize, decodeRange, decodeRanges, okBuckets, startsAssignment, isAssignment};
 ghost use Rattle.packed.specs.Answers.{recordRead, recordsEnd, frontSize, frontRead, wholeRead};
 ghost use Rattle.packed.specs.Words.{topsOf, WordRises};
 use topic_types::KeyRange;
@@ -58,7 +58,7 @@ pub enum Packed {
 
 // The range in the 4 bytes from a place on.
 pub fn range_at(s: &[u8], at: usize) -> KeyRange
-    requires { ⌜ at + 4 ≤ length (now s) ⌝ }
+    requires { ⌜ at + bucketSize ≤ length (now s) ⌝ }
     ensures { λ r. ⌜ r ≡ decodeRange (drop at (now (s .entry))) ⌝ }
 {
     let start = slice_int::read_u16(s, at) as u32;
@@ -68,7 +68,7 @@ pub fn range_at(s: &[u8], at: usize) -> KeyRange
 
 // The n ranges from a place on rise, and start at a value or above.
 fn buckets_rise(s: &[u8], at: usize, n: usize, from: u64) -> bool
-    requires { ⌜ at + 4 * n ≤ length (now s) ⌝ }
+    requires { ⌜ at + bucketSize * n ≤ length (now s) ⌝ }
     ensures { λ r. ⌜ r ≡ risingFrom from (decodeRanges n (drop at (now (s .entry)))) ⌝ }
 {
     let mut low = from;
@@ -107,7 +107,7 @@ fn word_rises(x: u64, low: u64) -> u64
 // The n ranges from a place on rise: told of four at a time, and of the last by `buckets_rise`. A word is read a turn before it is used, so that the
 // compiler makes one read of it.
 fn rise_by_words(s: &[u8], at: usize, n: usize) -> bool
-    requires { ⌜ at + 4 * n ≤ length (now s) ⌝ }
+    requires { ⌜ at + bucketSize * n ≤ length (now s) ⌝ }
     ensures { λ r. ⌜ r ≡ risingFrom 0 (decodeRanges n (drop at (now (s .entry)))) ⌝ }
 {
     if n < 8 {
@@ -134,7 +134,7 @@ fn rise_by_words(s: &[u8], at: usize, n: usize) -> bool
 
 // One of the n ranges from a place on shares a value with the range.
 pub fn bucket_overlaps(s: &[u8], at: usize, n: usize, range: KeyRange) -> bool
-    requires { ⌜ at + 4 * n ≤ length (now s) ⌝ }
+    requires { ⌜ at + bucketSize * n ≤ length (now s) ⌝ }
     ensures { λ r. ⌜ r ≡ overlapsAny range (decodeRanges n (drop at (now (s .entry)))) ⌝ }
 {
     let mut p = at;
@@ -151,7 +151,7 @@ pub fn bucket_overlaps(s: &[u8], at: usize, n: usize, range: KeyRange) -> bool
 
 // No range of the n from a place on is reversed, and no two share a value: every pair of a few is compared.
 fn buckets_apart(s: &[u8], at: usize, n: usize) -> bool
-    requires { ⌜ at + 4 * n ≤ length (now s) ⌝ }
+    requires { ⌜ at + bucketSize * n ≤ length (now s) ⌝ }
     ensures { λ r. ⌜ r ≡ okBuckets (decodeRanges n (drop at (now (s .entry)))) ⌝ }
 {
     let mut p = at;
@@ -172,7 +172,7 @@ fn buckets_apart(s: &[u8], at: usize, n: usize) -> bool
 
 // The same of many: each is marked, and so tested against all before it.
 fn buckets_marked(s: &[u8], at: usize, n: usize) -> bool
-    requires { ⌜ at + 4 * n ≤ length (now s) ⌝ }
+    requires { ⌜ at + bucketSize * n ≤ length (now s) ⌝ }
     ensures { λ r. ⌜ r ≡ okBuckets (decodeRanges n (drop at (now (s .entry)))) ⌝ }
 {
     let mut words = [0u64; ranges_marks::WORDS];
@@ -198,7 +198,7 @@ fn buckets_marked(s: &[u8], at: usize, n: usize) -> bool
 
 // The n ranges from a place on may be a segment's buckets.
 pub fn buckets_ok(s: &[u8], at: usize, n: usize) -> bool
-    requires { ⌜ at + 4 * n ≤ length (now s) ⌝ }
+    requires { ⌜ at + bucketSize * n ≤ length (now s) ⌝ }
     ensures { λ r. ⌜ r ≡ okBuckets (decodeRanges n (drop at (now (s .entry)))) ⌝ }
 {
     if rise_by_words(s, at, n) {
@@ -237,7 +237,7 @@ pub fn record_at(s: &[u8], at: usize, end: usize) -> RecordRead
 // The place behind the n records from a place on, which have to end by the place end; 0 where they are not valid. `stop` is where they end if no further one has
 // buckets: one comparison tells both that none is left and that the next one has room.
 fn records_end(s: &[u8], at: usize, n: usize, end: usize) -> usize
-    requires { ⌜ (0 < n) × (at + 14 * n ≤ end) × (end ≤ length (now s)) ⌝ }
+    requires { ⌜ (0 < n) × (at + recordHead * n ≤ end) × (end ≤ length (now s)) ⌝ }
     ensures { λ r. ⌜ r ≡ recordsEnd (now (s .entry)) at n end ⌝ }
 {
     let mut p = at;

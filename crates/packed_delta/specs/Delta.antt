@@ -29,26 +29,36 @@ encodeDelta d =
     bytesOf 8 (d .layoutEpoch)
     ++ (bytesOf 2 (length (d .lost)) ++ (bytesOf 2 (length (d .gained)) ++ (encodeIds (d .lost) ++ encodeSegments (d .gained))))
 
--- the bytes before the ids: epoch and two counts
+-- the bytes before the ids, epoch and two counts; of an id
 abbrev pub deltaHead : ℕ
 deltaHead = 12
 
+abbrev pub idSize : ℕ
+idSize = 8
+
+-- places of the counts
+abbrev pub lostCount : ℕ
+lostCount = 8
+
+abbrev pub gainedCount : ℕ
+gainedCount = 10
+
 -- how many bytes those are
 unfoldable pub sizeDelta : AssignmentDelta → ℕ
-sizeDelta d = deltaHead + 8 * length (d .lost) + sizeSegments (d .gained)
+sizeDelta d = deltaHead + idSize * length (d .lost) + sizeSegments (d .gained)
 
 -- ---- from bytes to a value, whatever the bytes are
 
 unfoldable pub decodeIds : ℕ → List ℕ → List ℕ
 decodeIds zero l = []
-decodeIds (suc n) l = num 8 l ∷ decodeIds n (drop 8 l)
+decodeIds (suc n) l = num 8 l ∷ decodeIds n (drop idSize l)
 
 -- with so many lost ids and gained records
 abbrev pub deltaWith : ℕ → ℕ → List ℕ → AssignmentDelta
-deltaWith m n l = record { layoutEpoch = num 8 l; lost = decodeIds m (drop deltaHead l); gained = decodeSegments n (drop (deltaHead + 8 * m) l) }
+deltaWith m n l = record { layoutEpoch = num 8 l; lost = decodeIds m (drop deltaHead l); gained = decodeSegments n (drop (deltaHead + idSize * m) l) }
 
 unfoldable pub decodeDelta : List ℕ → AssignmentDelta
-decodeDelta l = deltaWith (num 2 (drop 8 l)) (num 2 (drop 10 l)) l
+decodeDelta l = deltaWith (num 2 (drop lostCount l)) (num 2 (drop gainedCount l)) l
 
 -- ---- which values are deltas, and which bytes
 

@@ -5,7 +5,7 @@
 ghost use mathlib.Core.Path.{_≡_};
 ghost use Prim.Native.Nat.{_+_, _*_, _≤_};
 ghost use lib.ListN.{length, drop};
-ghost use Rattle.packed_delta.specs.Delta.{decodeIds, idsFrom};
+ghost use Rattle.packed_delta.specs.Delta.{idSize, decodeIds, idsFrom};
 ghost use Rattle.packed_delta.specs.Answers.{recordsTo, frontRead, deltaRead};
 use packed::RecordRead;
 
@@ -42,7 +42,7 @@ pub enum DeltaRead {
 
 // The n ids from a place on rise.
 fn ids_rise(s: &[u8], at: usize, n: usize) -> bool
-    requires { ⌜ at + 8 * n ≤ length (now s) ⌝ }
+    requires { ⌜ at + idSize * n ≤ length (now s) ⌝ }
     ensures { λ r. ⌜ r ≡ idsFrom 0 (decodeIds n (drop at (now (s .entry)))) ⌝ }
 {
     let mut first = true;

@@ -12,6 +12,7 @@ use Rattle.slice_int.specs.Be.{bytesOf}
 use Rattle.slice_int.specs.Put.{put}
 use Rattle.packed.specs.Assignment.{AssignedSegment, encodeSegment, decodeAssignment}
 use Rattle.packed.specs.Equal.{sameSegment}
+use Rattle.packed_delta.specs.Delta.{idSize}
 use Rattle.packed_delta.specs.Change.{without}
 use Rattle.packed_diff.specs.declared.Step.{Step}
 use Rattle.packed_diff.specs.declared.Step.the-variants.{Keep, Same, Skip}
@@ -34,7 +35,7 @@ entries whole (g ∷ gs) = entry whole g ++ entries whole gs
 -- how many bytes of a record of that size are written
 abbrev pub entrySize : Bool → ℕ → ℕ
 entrySize true size = size
-entrySize false size = 8
+entrySize false size = idSize
 
 -- the records of x that y has not, as assignments
 abbrev pub onlyIn : List ℕ → List ℕ → List AssignedSegment

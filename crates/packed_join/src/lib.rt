@@ -3,7 +3,7 @@ ghost use mathlib.Core.Path.{_≡_};
 ghost use mathlib.Core.Bool.{true};
 ghost use Prim.Native.Nat.{_+_, _*_, _^_, _<_};
 ghost use Rattle.output.specs.Output.{outcome};
-ghost use Rattle.packed_delta.specs.Delta.{decodeDelta, isDelta};
+ghost use Rattle.packed_delta.specs.Delta.{deltaHead, idSize, decodeDelta, isDelta};
 ghost use Rattle.packed_delta.specs.Join.{join};
 ghost use Rattle.packed_join.specs.JoinRows.{rowsOf, rowsIn};
 ghost use Rattle.packed_join.specs.JoinOutcome.{joinedDelta, joinOutcome};
@@ -23,7 +23,7 @@ struct Rows {
 }
 
 fn rows_of(losses: usize, gains: usize) -> Rows
-    requires { ⌜ 12 + 8 * losses < 2 ^ 64 ⌝ }
+    requires { ⌜ deltaHead + idSize * losses < 2 ^ 64 ⌝ }
     ensures { λ r. ⌜ r ≡ rowsOf losses gains ⌝ }
 {
     let lost = Row {

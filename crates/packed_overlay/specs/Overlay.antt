@@ -13,7 +13,7 @@ use lib.Dec.{ltb, eqb, leb}
 use Rattle.keyed.specs.Keyed.{self, insertAll}
 use Rattle.packed.specs.Assignment.{AssignedSegment, idOf, sizeSegments, decodeSegments}
 use Rattle.packed.specs.Rest.{Rest}
-use Rattle.packed_delta.specs.Delta.{decodeIds, idsFrom}
+use Rattle.packed_delta.specs.Delta.{idSize, decodeIds, idsFrom}
 use Rattle.packed_delta.specs.Join.{strike}
 use Rattle.packed_overlay.specs.declared.Row.{Row}
 use Rattle.packed_overlay.specs.declared.Step.{Step}
@@ -39,7 +39,7 @@ abbrev pub RecordRow : List ℕ → Row → Type 0
 RecordRow s row = Rest s (row .at) (row .left)
 
 pub record IdRow (s : List ℕ) (row : Row) : Type 0 where
-  pub fits : row .at + 8 * row .left ≤ length s
+  pub fits : row .at + idSize * row .left ≤ length s
   pub rise : idsFrom 0 (idsIn s row) ≡ true
 
 -- what to do with a record, by the first lost id

@@ -172,7 +172,7 @@ unfolding isPath isParent
 marked-differs t m =
     let p = both-true (startsWith topicScheme t) (isMarkedPath (pathOf t)) m in
     let q = both-true (hasThreeParts (pathOf t)) (not (frontClean (pathOf t))) (p .1) in
-    let taken : tested t (pathOf t) ≡ Ok (pathOf t) = rw (path-agrees, q .0) in (
+    let taken : tested t (pathOf t) ≡ Ok (pathOf t) = rw (path-agrees (pathOf t), q .0) in (
       ap (λ (o : Option Text). ok-or (InvalidParent t) o >>= tested t) (strip-agrees topicScheme t) ∙ rw (p .0) taken,
       rw (p .0, q .0, not-true (frontClean (pathOf t)) (q .1)),
     )

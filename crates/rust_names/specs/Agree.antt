@@ -33,7 +33,7 @@ use Rattle.slice.specs.Same.{startsWith}
 use Rattle.utf8.specs.Table.{isUtf8}
 use Rattle.name_topic.specs.declared.NameAnswer.the-variants.{Written}
 use Rattle.name_parents.specs.Parents.{topicScheme, hasThreeParts, frontClean, isParent, pathOf}
-use Rattle.name_topic.specs.Names.{segmentScheme, segmentTopic}
+use Rattle.name_topic.specs.Names.{segmentScheme, segmentSchemeSize, segmentTopic}
 use Rattle.name_topic.specs.Build.{NameOutcome, nameOutcome, refuse, canonicalSegmentTopic}
 use Rattle.name_source.specs.declared.Parsed.{Parsed}
 use Rattle.name_source.specs.declared.Parsed.the-variants as parsed
@@ -70,7 +70,7 @@ isMarked t = startsWith topicScheme t && isMarkedPath (pathOf t)
 
 -- a name of one, whatever its descriptor
 abbrev pub isMarkedName : Text → Bool
-isMarkedName t = startsWith segmentScheme t && isMarkedPath (beforeLast (drop 10 t))
+isMarkedName t = startsWith segmentScheme t && isMarkedPath (beforeLast (drop segmentSchemeSize t))
 
 -- no other text has to leave it: such a parent is taken by the Rust and refused here
 abbrev pub MarkedDiffers : Type 0
@@ -114,7 +114,7 @@ BuildAgrees =
 -- a name as it was read: its parent is `topic://` and the path that ends at the answered place
 abbrev pub readOf : Text → Parsed → Result ParsedTopic Refusal
 readOf t (parsed.Name pathEnd range id) =
-    Ok (record { parent = topicScheme ++ take (pathEnd - 10) (drop 10 t); key-range = range; id = id })
+    Ok (record { parent = topicScheme ++ take (pathEnd - segmentSchemeSize) (drop segmentSchemeSize t); key-range = range; id = id })
 readOf t (parsed.Refused x) = Err x
 
 -- `parse_segment_topic`

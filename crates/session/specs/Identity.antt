@@ -21,7 +21,7 @@ pub record Identity : Type 0 where
 abbrev pub identityHead : ℕ
 identityHead = 7
 
--- the most bytes of the three texts together: a slot without its first seven
+-- the most bytes of the three texts together: a slot without its head
 abbrev pub maxTexts : ℕ
 maxTexts = 2041
 

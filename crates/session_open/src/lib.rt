@@ -7,7 +7,7 @@ ghost use lib.Dec.{leb};
 ghost use Rattle.slice_int.specs.Put.{put};
 ghost use Rattle.packed.specs.Assignment.{slotSize};
 ghost use Rattle.session.specs.Store.{minStore};
-ghost use Rattle.session.specs.Identity.{kindByte, encodeIdentity, isIdentity};
+ghost use Rattle.session.specs.Identity.{maxTexts, kindByte, encodeIdentity, isIdentity};
 ghost use Rattle.session.specs.Calls.{freshRecord, openOutcome, sameIdentity, matchOf};
 use refusal::Refusal;
 use session::Answer;
@@ -36,7 +36,7 @@ fn kind_byte(kind: ScalableConsumerType) -> u8
 
 // The three texts fit an identity's slot together.
 fn texts_fit(topic: &[u8], subscription: &[u8], name: &[u8]) -> bool
-    ensures { λ r. ⌜ r ≡ leb (length (now (topic .entry)) + length (now (subscription .entry)) + length (now (name .entry))) 2041 ⌝ }
+    ensures { λ r. ⌜ r ≡ leb (length (now (topic .entry)) + length (now (subscription .entry)) + length (now (name .entry))) maxTexts ⌝ }
 {
     if MAX_TEXTS < topic.len() {
         return false;
@@ -56,7 +56,7 @@ fn write_identity(
     kind: ScalableConsumerType,
     store: &mut [u8],
 )
-    requires { ⌜ length (now topic) + length (now subscription) + length (now name) ≤ 2041 ⌝ }
+    requires { ⌜ length (now topic) + length (now subscription) + length (now name) ≤ maxTexts ⌝ }
     requires { ⌜ minStore ≤ length (now store) ⌝ }
     ensures { λ _. ⌜ now (store .exit) ≡ put (now (store .entry)) 0 (encodeIdentity (record { topic = now (topic .entry); subscription = now (subscription .entry); consumerName = now (name .entry); consumerType = kind })) ⌝ }
 {

@@ -5,7 +5,7 @@ use mathlib.Core.Path.{_≡_}
 use mathlib.Core.Bool.{true}
 use mathlib.Core.List.{List}
 use lib.ListN.{length, take, drop}
-use Rattle.packed.specs.Assignment.{ConsumerAssignment, decodeAssignment, startsAssignment}
+use Rattle.packed.specs.Assignment.{slotSize, ConsumerAssignment, decodeAssignment, startsAssignment}
 use Rattle.packed_queue.specs.Entries.{sheetIn, entriesEnd}
 use Rattle.session.specs.Store.{baselineSlot, listIn, queueArea, queueIn, queueEnd}
 
@@ -17,7 +17,7 @@ pub record QueueEnds (store : List ℕ) (n end : ℕ) : Type 0 where
 -- the list a stands in so many bytes of the store from a place on
 pub record Lies (store : List ℕ) (at size : ℕ) (a : ConsumerAssignment) : Type 0 where
   pub inside : at + size ≤ length store
-  pub few : size ≤ 2048
+  pub few : size ≤ slotSize
   pub starts : startsAssignment (take size (drop at store)) ≡ true
   pub holds : decodeAssignment (take size (drop at store)) ≡ a
 

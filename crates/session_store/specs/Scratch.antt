@@ -7,10 +7,10 @@ use mathlib.Core.Path.{_≡_}
 use mathlib.Core.Bool.{true}
 use mathlib.Core.List.{List}
 use lib.ListN.{length}
-use Rattle.packed.specs.Assignment.{sizeAssignment, decodeAssignment, startsAssignment}
+use Rattle.packed.specs.Assignment.{slotSize, sizeAssignment, decodeAssignment, startsAssignment}
 
 -- the packed assignment has n bytes
 pub record Scratch (b : List ℕ) (n : ℕ) : Type 0 where
-  pub long : length b ≡ 2048
+  pub long : length b ≡ slotSize
   pub starts : startsAssignment b ≡ true
   pub size : n ≡ sizeAssignment (decodeAssignment b)

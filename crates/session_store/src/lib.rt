@@ -6,9 +6,9 @@ ghost use mathlib.Core.Bool.{true, not};
 ghost use Prim.Native.Nat.{_+_, _*_, _≤_, _<_};
 ghost use lib.ListN.{length};
 ghost use Rattle.slice_int.specs.Put.{put};
-ghost use Rattle.packed.specs.Assignment.{encodeAssignment, decodeAssignment, startsAssignment};
+ghost use Rattle.packed.specs.Assignment.{slotSize, encodeAssignment, decodeAssignment, startsAssignment};
 ghost use Rattle.packed_queue.specs.Entries.{encodeEntry};
-ghost use Rattle.session.specs.Store.{slot};
+ghost use Rattle.session.specs.Store.{minStore, slot};
 ghost use Rattle.session.specs.Identity.{isIdentity};
 ghost use Rattle.session.specs.Session.{listsStart, view, anyBeyond, damaged};
 ghost use Rattle.session_store.specs.Scratch.{Scratch};
@@ -51,7 +51,7 @@ pub enum Tested {
 
 // The slot s holds an identity.
 pub fn is_identity(s: &[u8]) -> bool
-    requires { ⌜ length (now s) ≡ 2048 ⌝ }
+    requires { ⌜ length (now s) ≡ slotSize ⌝ }
     ensures { λ r. ⌜ r ≡ isIdentity (now (s .entry)) ⌝ }
 {
     if 1 < s[KIND] {
@@ -76,7 +76,7 @@ pub fn is_identity(s: &[u8]) -> bool
 
 // Slot k starts with a packed assignment.
 fn starts(store: &[u8], k: usize) -> bool
-    requires { ⌜ 2048 * k + 2048 ≤ length (now store) ⌝ }
+    requires { ⌜ slotSize * k + slotSize ≤ length (now store) ⌝ }
     ensures { λ r. ⌜ r ≡ startsAssignment (slot (now (store .entry)) k) ⌝ }
 {
     let at = SLOT * k;
@@ -85,7 +85,7 @@ fn starts(store: &[u8], k: usize) -> bool
 
 // Baseline and list are packed assignments, when registered.
 fn lists_start(registered: bool, store: &[u8]) -> bool
-    requires { ⌜ 6144 ≤ length (now store) ⌝ }
+    requires { ⌜ minStore ≤ length (now store) ⌝ }
     ensures { λ r. ⌜ r ≡ listsStart registered (now (store .entry)) ⌝ }
 {
     if !registered {
@@ -115,7 +115,7 @@ fn any_beyond(r: SessionRecord) -> bool
 
 // Tests that no slot or entry in use is malformed, and no count is beyond what it counts. The counts come first: a damaged one could be any number.
 pub fn test_store(r: SessionRecord, store: &[u8]) -> Tested
-    requires { ⌜ 6144 ≤ length (now store) ⌝ }
+    requires { ⌜ minStore ≤ length (now store) ⌝ }
     ensures { λ x. ⌜ StoreTested r (now (store .entry)) x ⌝ }
 {
     if MAX_QUEUE < r.queue_count {
@@ -141,7 +141,7 @@ pub fn test_store(r: SessionRecord, store: &[u8]) -> Tested
 
 // The same test, for a call that adds nothing to the queue.
 pub fn is_sound(r: SessionRecord, store: &[u8]) -> bool
-    requires { ⌜ 6144 ≤ length (now store) ⌝ }
+    requires { ⌜ minStore ≤ length (now store) ⌝ }
     ensures { λ x. ⌜ x ≡ not (damaged (view r (now (store .entry)))) ⌝ }
 {
     match test_store(r, store) {
@@ -152,9 +152,9 @@ pub fn is_sound(r: SessionRecord, store: &[u8]) -> bool
 
 // Writes the packed assignment of n bytes at the front of b to slot k.
 pub fn write_slot(store: &mut [u8], k: usize, b: &[u8], n: usize)
-    requires { ⌜ 2048 * k + 2048 ≤ length (now store) ⌝ }
+    requires { ⌜ slotSize * k + slotSize ≤ length (now store) ⌝ }
     requires { ⌜ Scratch (now b) n ⌝ }
-    ensures { λ _. ⌜ now (store .exit) ≡ put (now (store .entry)) (2048 * k) (encodeAssignment (decodeAssignment (now (b .entry)))) ⌝ }
+    ensures { λ _. ⌜ now (store .exit) ≡ put (now (store .entry)) (slotSize * k) (encodeAssignment (decodeAssignment (now (b .entry)))) ⌝ }
 {
     slice_int::put_bytes(store, SLOT * k, &b[..n]);
 }

@@ -9,7 +9,7 @@ ghost use lib.ListN.{length, drop};
 ghost use Rattle.slice_int.specs.Put.{put};
 ghost use Rattle.name_topic.specs.Names.{decimal, segmentTopic};
 ghost use Rattle.output.specs.Output.{outcome, written};
-ghost use Rattle.packed.specs.Assignment.{num, decodeRanges, decodeSegment, decodeSegments, sizeSegment};
+ghost use Rattle.packed.specs.Assignment.{assignmentHead, bucketSize, num, decodeRanges, decodeSegment, decodeSegments, sizeSegment};
 ghost use Rattle.packed.proofs.AssignmentLaws.{Rest};
 ghost use Rattle.wire_writer.specs.Encode.{numberField};
 ghost use Rattle.writer_message.specs.Message.{rangeMessage, bucketFields, segmentMessage, segmentFields};
@@ -40,7 +40,7 @@ enum Held {
 
 // The first of the n buckets from a place on that lies not wholly inside the range.
 fn bucket_outside(s: &[u8], at: usize, n: usize, range: KeyRange) -> Outside
-    requires { ⌜ at + 4 * n ≤ length (now s) ⌝ }
+    requires { ⌜ at + bucketSize * n ≤ length (now s) ⌝ }
     ensures { λ r. ⌜ r ≡ outsideOf (firstOutside range 0 (decodeRanges n (drop at (now (s .entry))))) ⌝ }
 {
     let mut index: usize = 0;
@@ -116,7 +116,7 @@ fn range_size(range: KeyRange) -> usize
 
 // The length of the fields of the n buckets from a place on.
 fn buckets_size(s: &[u8], at: usize, n: usize) -> usize
-    requires { ⌜ at + 4 * n ≤ length (now s) ⌝ }
+    requires { ⌜ at + bucketSize * n ≤ length (now s) ⌝ }
     requires { ⌜ n < 65536 ⌝ }
     ensures { λ r. ⌜ r ≡ length (bucketFields (decodeRanges n (drop at (now (s .entry))))) ⌝ }
 {
@@ -171,7 +171,7 @@ fn segments_room(s: &[u8], at: usize, m: usize, path: &[u8], limit: usize) -> Ro
 
 // Writes the fields of the n buckets from a place on to out, and answers the place behind them.
 fn write_buckets(s: &[u8], at: usize, n: usize, out: &mut [u8], to: usize) -> usize
-    requires { ⌜ at + 4 * n ≤ length (now s) ⌝ }
+    requires { ⌜ at + bucketSize * n ≤ length (now s) ⌝ }
     requires { ⌜ to + length (bucketFields (decodeRanges n (drop at (now s)))) ≤ length (now out) ⌝ }
     ensures { λ r. ⌜ (r ≡ to + length (bucketFields (decodeRanges n (drop at (now (s .entry))))))
         × (now (out .exit) ≡ put (now (out .entry)) to (bucketFields (decodeRanges n (drop at (now (s .entry)))))) ⌝ }
@@ -242,8 +242,8 @@ fn write_segments(s: &[u8], at: usize, m: usize, path: &[u8], out: &mut [u8], to
 
 // Writes the message of the m segments of the packed assignment s, where it fits.
 fn write_message(s: &[u8], m: usize, path: &[u8], out: &mut [u8]) -> WriteAnswer
-    requires { ⌜ Rest (now s) 10 m ⌝ }
-    ensures { λ r. ⌜ outcome r (now (out .exit)) ≡ written (numberField 1 (num 8 (now (s .entry))) ++ segmentFields (now (path .entry)) (decodeSegments m (drop 10 (now (s .entry))))) (now (out .entry)) ⌝ }
+    requires { ⌜ Rest (now s) assignmentHead m ⌝ }
+    ensures { λ r. ⌜ outcome r (now (out .exit)) ≡ written (numberField 1 (num 8 (now (s .entry))) ++ segmentFields (now (path .entry)) (decodeSegments m (drop assignmentHead (now (s .entry))))) (now (out .entry)) ⌝ }
 {
     let epoch = slice_int::read_u64(s, 0);
     let head = wire_writer::number_size(1, epoch);
