@@ -1,7 +1,8 @@
 -- Laws of a bucket in a message's usual form.
 --
--- In order: nothing is left of a row (`row-end`); a range (`range-row`); a number of three bytes (`three`) and a part of eight (`eight`); the
--- bytes of a word by its tests (`wide`), and the bucket (`wide-bucket`).
+-- In order: nothing is left of a row (`row-end`); a range (`range-row`), and what is told of one (`range-told`,
+-- `wide-told`); a number of three bytes (`three`) and a part of eight (`eight`); the bytes of a word by its tests
+-- (`wide`), and the bucket (`wide-bucket`).
 -- Assumes nothing.
 use Prim.Native.Nat.{ℕ, _+_, _-_, _*_, _/_, _%_, _≤_, _<_}
 use native.Mathlib.Nat.{div-div-eq-div-mul}
@@ -23,7 +24,9 @@ use Rattle.wire.proofs.FieldLaws.{part-fits}
 use Rattle.wire.proofs.FieldsLaws.{fields-nil}
 use Rattle.wire_ordered.specs.Ordered.{NumberIs, PartField}
 use Rattle.wire_ordered.proofs.OrderedLaws.{number-field, part-field}
-use Rattle.intake_ordered_bucket.specs.Buckets.{RangeRow, WordIs, BucketAt}
+use Rattle.intake_ordered_bucket.specs.Buckets.{RangeOf, RangeRow, RangeIs, WordIs, BucketAt, WideIs}
+use Rattle.intake_ordered_bucket.specs.declared.RangeIn.{RangeIn}
+use Rattle.intake_ordered_bucket.specs.declared.RangeIn.the-variants as range-in
 
 -- nothing is left of a row
 pub row-end : (s : List ℕ) (at : ℕ) → length s ≤ at → fieldsOf (drop at s) ≡ []
@@ -40,6 +43,17 @@ range-row {q} {start} {end} {second} {behind} m n e o h =
       order = o;
       high = h;
     }
+
+-- .. told of where it is in order and within the key space
+pub range-told : {q : List ℕ} {start end : ℕ} (r : RangeIn) → RangeOf start end r → (start ≤ end → end ≤ 65535 → RangeRow q start end) → RangeIs q r
+range-told (range-in.Found s e) h f = rw (h .0, h .1) (f (h .2) (h .3))
+range-told range-in.Absent h f = tt
+
+-- .. and of a field of 10 bytes
+pub wide-told : {p : List ℕ} {at start end : ℕ} (r : RangeIn) → RangeOf start end r
+    → (start ≤ end → end ≤ 65535 → BucketAt p at start end (at + 10)) → WideIs p at r
+wide-told (range-in.Found s e) h f = rw (h .0, h .1) (f (h .2) (h .3))
+wide-told range-in.Absent h f = tt
 
 -- ---- a bucket in one word
 

@@ -3,7 +3,7 @@
 // A bucket whose numbers have three bytes each is told by one word, any other field by field. What is told is so; nothing is told of a bucket in any other
 // form, of one that is reversed, or of one that ends beyond the key space.
 ghost use Prim.Native.Nat.{_<_};
-ghost use Rattle.intake_ordered_bucket.specs.Buckets.{RangeIs, WordIs, WideIs, BucketIs};
+ghost use Rattle.intake_ordered_bucket.specs.Buckets.{RangeOf, RangeIs, WordIs, WideIs, BucketIs};
 use wire_ordered::NumberAt;
 use wire_ordered::Part;
 
@@ -27,6 +27,19 @@ pub enum Bucket {
     Absent,
 }
 
+// The range from a start to an end, where it is not reversed and lies in the key space.
+fn range_of(start: u64, end: u64) -> RangeIn
+    ensures { λ r. ⌜ RangeOf start end r ⌝ }
+{
+    if end < start {
+        return RangeIn::Absent;
+    }
+    if MAX_HASH < end {
+        return RangeIn::Absent;
+    }
+    RangeIn::Found(start, end)
+}
+
 // The range that the part is: fields 1 and 2, and nothing else.
 fn range_in(q: &[u8]) -> RangeIn
     ensures { λ r. ⌜ RangeIs (now (q .entry)) r ⌝ }
@@ -40,13 +53,7 @@ fn range_in(q: &[u8]) -> RangeIn
     if behind != q.len() {
         return RangeIn::Absent;
     }
-    if end < start {
-        return RangeIn::Absent;
-    }
-    if MAX_HASH < end {
-        return RangeIn::Absent;
-    }
-    RangeIn::Found(start, end)
+    range_of(start, end)
 }
 
 // The 8 bytes behind the key and the length of a bucket at a place; 0 where the segment has not as many.
@@ -101,13 +108,7 @@ fn wide_bucket(p: &[u8], at: usize) -> RangeIn
         + w / 1099511627776 % 128 * 128
         + w / 4294967296 % 128 * 16384;
     let end = w / 65536 % 128 + w / 256 % 128 * 128 + w % 128 * 16384;
-    if end < start {
-        return RangeIn::Absent;
-    }
-    if MAX_HASH < end {
-        return RangeIn::Absent;
-    }
-    RangeIn::Found(start, end)
+    range_of(start, end)
 }
 
 // The bucket of the segment p at a place.
