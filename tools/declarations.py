@@ -4,9 +4,12 @@ In C a pointer to what a call may write is CUDDREWYN_RESTRICT."""
 import re
 
 import usage
+from refusal_table import ROOT
 
 REPLY, SESSION_REPLY, EXPORT = "crates/export_reply/src/lib.rt", "crates/export_record/src/lib.rt", "crates/export/src/lib.rt"
 CRATE = "crates/export/src/"
+# The home of a length that a struct names.
+SESSION = "crates/session/src/lib.rt"
 HEADER, RAW, EXPORTS = "bindings/c/cuddrewyn.h", "bindings/rust/src/raw.rs", "docs/EXPORTS.md"
 OF_C = {
     "uint64_t": "u64", "uint32_t": "u32", "int32_t": "i32", "uint8_t": "u8", "size_t": "usize", "bool": "bool", "const uint8_t *": "*const u8",
@@ -73,7 +76,7 @@ def fields(body):
 
 def sized(type_, constants):
     """A type whose array length is a number, where it is a constant that is known."""
-    return re.sub(r"; (\w+)\]", lambda m: f"; {constants.get(m[1], m[1])}]", type_)
+    return re.sub(r"; ([\w:]+)\]", lambda m: f"; {constants.get(m[1], m[1])}]", type_)
 
 
 def known(found, constants):
@@ -82,7 +85,8 @@ def known(found, constants):
 
 def rattle_structs(sources):
     text = "\n".join(sources[path] for path in (REPLY, SESSION_REPLY, EXPORT))
-    return {name: fields(body) for name, body in STRUCT.findall(text)}
+    named = re.findall(r"^pub const (\w+): usize = (\d+);$", (ROOT / SESSION).read_text(encoding="utf-8"), re.M)
+    return known({name: fields(body) for name, body in STRUCT.findall(text)}, {"session::" + name: number for name, number in named})
 
 
 def c_structs(sources):
