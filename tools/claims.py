@@ -35,6 +35,8 @@ LEADS = {
     "**Watch": "Watch", "## Refused for the input": "Calls", "1 ": "Refusal", "22 ": "Refusal", "Ours,": "Ours", "Update:": "Orders",
     "## Sessions": "Rows", "## Wrong turns": "Wrong", "## What each place": "Forms", "## What the Rust owns": "Rust",
 }
+# What stands below a claim.
+CELLS = ("defined in: ", "promised by: ", "wrong programs tried: ")
 faults = []
 fault = faults.append
 
@@ -76,20 +78,32 @@ def expand(cell, ids):
     return (ids[ids.index(first):ids.index(last) + 1] if first in ids and last in ids else []), ""
 
 
+def claims(text):
+    """Each claim of docs/CLAIMS.md: its id, its rule, and its three cells."""
+    found = []
+    for lead, cells in re.findall(r"^(\*\*[A-Z]\w*\.[\w-]+\*\*: (?:.+\n)+?)((?:- .+\n(?:  .+\n)*)+)", text, re.M):
+        name, _, rule = " ".join(lead.split()).removeprefix("**").partition("**: ")
+        parts = [" ".join(cell.split()) for cell in re.split(r"^- ", cells, flags=re.M)[1:]]
+        found.append((name, rule, [part.partition(": ")[2] for part in parts if part.startswith(CELLS)], len(parts)))
+    return found
+
+
 def check_rows(text, ids):
-    """Each sentence has one row, or one row for each of its parts; no row has another id."""
-    rows = [[cell.strip() for cell in line.strip("| ").split(" | ")] for line in re.findall(r"^\| [A-Z]\w*\.\w.*", text, re.M)]
+    """Each sentence has one claim, or one for each of its parts; no claim has another id."""
     covered = {i: [] for i in ids}
-    for row in rows:
-        found, part = expand(row[0], ids)
-        if not found or len(row) != 5 or not all(row):
-            fault(f"{row[0]}: " + ("not five cells" if found else "no such sentence"))
+    rows = claims(text)
+    if len(rows) != len(re.findall(r"^\*\*[A-Z]\w*\.[\w-]+\*\*", text, re.M)):
+        fault("docs/CLAIMS.md: a claim that this script cannot read")
+    for name, rule, cells, count in rows:
+        found, part = expand(name, ids)
+        if not found or not rule or count != 3 or len(cells) != 3 or not all(cells):
+            fault(f"{name}: " + ("not a rule and the three cells" if found else "no such sentence"))
         for i in found:
             covered[i].append(part)
     for i, parts in covered.items():
         if parts != [""] and (len(parts) < 2 or parts != list("abcdefghijklmnopqrstuvwxyz"[:len(parts)])):
-            fault(f"{i}: " + ("neither one row nor its parts in order" if parts else "no row"))
-    for cell in re.findall(r"\bsee ([A-Z]\w*\.[\w-]+)", text):
+            fault(f"{i}: " + ("neither one claim nor its parts in order" if parts else "no claim"))
+    for cell in re.findall(r"\bsee\s+([A-Z]\w*\.[\w-]+)", text):
         if not expand(cell, ids)[0]:
             fault(f"see {cell}: no such sentence")
     return len(rows)
@@ -147,7 +161,7 @@ def changed(edit, name):
 def check_marks(text):
     """An edit that changes a definition is marked as one where it is cited, and no other is."""
     count = 0
-    for citation, mark in re.findall(r"`(crates/[^`\n]+\.edit(?::[^`\n]+)?)`( \(definition\))?", text):
+    for citation, mark in re.findall(r"`(crates/[^`\n]+\.edit(?::[^`\n]+)?)`(\s+\(definition\))?", text):
         path, _, name = citation.partition(":")
         if (ROOT / path).exists():
             is_definition = changed(ROOT / path, name).startswith("specs/")
@@ -177,8 +191,8 @@ def functions():
 
 
 def check_contracts(text):
-    """The functions with a `requires` are those in the table of internal helpers, and none is exported; a public one has an `ensures`."""
-    listed, real = set(re.findall(r"^\| `(crates/[^`]+)`", text, re.M)), set()
+    """The functions with a `requires` are those in the list of internal helpers, and none is exported; a public one has an `ensures`."""
+    listed, real = set(re.findall(r"^- `(crates/[^`]+)`: ", text, re.M)), set()
     for crate, citation, m in functions():
         if re.search(r"^\s+requires\b", m["head"], re.M):
             real.add(citation)

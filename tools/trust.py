@@ -62,9 +62,9 @@ def reached(starts):
 
 
 def claimed():
-    """The files that docs/CLAIMS.md cites in the column of definitions."""
-    rows = [line.split("|") for line in (ROOT / "docs/CLAIMS.md").read_text(encoding="utf-8").splitlines() if line.startswith("| ")]
-    return sorted({path for row in rows if len(row) > 4 for path in DEFINITION.findall(row[3])})
+    """The files that docs/CLAIMS.md cites as definitions."""
+    cells = re.findall(r"^- defined in: .+\n(?:  .+\n)*", (ROOT / "docs/CLAIMS.md").read_text(encoding="utf-8"), re.M)
+    return sorted({path for cell in cells for path in DEFINITION.findall(cell)})
 
 
 def starts_of(demand):
