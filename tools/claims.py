@@ -1,7 +1,8 @@
 #!/usr/bin/env python3
 """Check: holds docs/CLAIMS.md to the repository and to docs/sentences.txt, the list of the papers' sentences.
 
-    python3 tools/claims.py                        names, ids, marks, contracts; and that no file of specs/ uses one of proofs/
+    python3 tools/claims.py                        names, ids, marks, contracts; that no file of specs/ uses one of proofs/; and that each public
+                                                   function has two wrong programs of its own, or stands in docs/tried.txt
     python3 tools/claims.py --spec DIR             also: docs/sentences.txt is the list of the papers in DIR
     python3 tools/claims.py --spec DIR --write     rewrites docs/sentences.txt first
 
@@ -28,6 +29,7 @@ TEXTS = {"log_lines", "log_text", "log_lists", "log_calls", "log_questions", "te
 
 ROOT = Path(__file__).resolve().parent.parent
 LIST = ROOT / "docs/sentences.txt"
+TRIED = ROOT / "docs/tried.txt"
 LEADS = {
     "Sources:": "Sources", "**Fields": "Fields", "**Ranges": "Ranges", "**Names": "Names", "**Sheet": "Sheet", "**Store": "Store",
     "**Session": "Session", "- *Update": "Update", "- *Response": "Response", "- *Drain": "Drain", "- *Begin": "Begin", "**Delta": "Delta",
@@ -204,6 +206,21 @@ def check_contracts(text):
         fault(f"{citation}: " + ("not among the internal helpers" if citation in real else "an internal helper without a requires"))
 
 
+def check_tried():
+    """Each public function has two wrong programs of its own, or stands in docs/tried.txt with how many it has, and why."""
+    public, tried = set(), Counter()
+    for crate, _, m in functions():
+        if (m["pub"] or m["extern"]) and crate not in TEXTS:
+            public.add((crate, m["name"]))
+    for edit in ROOT.glob("crates/*/must-fail/*.edit"):
+        tried.update((edit.parts[-3], name.split("::")[-1]) for name, _, _ in refused.named(edit))
+    listed = dict(re.findall(r"^(\w+::\w+) \| (\d) \| .", TRIED.read_text(encoding="utf-8"), re.M))
+    fewer = {f"{crate}::{name}": str(tried[crate, name]) for crate, name in public if tried[crate, name] < 2}
+    for name in sorted(fewer.keys() | listed.keys()):
+        if fewer.get(name) != listed.get(name):
+            fault(f"{name}: {fewer.get(name, 'two or more')} wrong programs of its own, docs/tried.txt says {listed.get(name, 'nothing')}")
+
+
 def main():
     parser = usage.Parser(__doc__)
     parser.add_argument("--spec", default=os.environ.get("CUDDREWYN_SPEC"), help="folder of mission.md, 01-scope.md and 02-change-requests.md")
@@ -223,6 +240,7 @@ def main():
     marks = check_marks(text)
     check_specs()
     check_contracts(text)
+    check_tried()
     for line in faults or [f"{rows} rows, {names} names, {len(lines)} sentences, {marks} wrong programs that are changed definitions"]:
         print("claims: " + line)
     return 1 if faults else 0
