@@ -3,7 +3,7 @@
 use std::{env, fs, path::Path, path::PathBuf};
 
 /// The watch's windows and chunks: crate and constant. One that is not there is an error: name here what took its place.
-const WINDOWS: [(&str, &str); 4] = [("watch_lists", "FEW"), ("watch_lists", "WINDOW"), ("watch_sort", "CHUNK"), ("watch_chunks", "CHUNK")];
+const WINDOWS: [(&str, &str); 3] = [("watch_lists", "FEW"), ("watch_lists", "WINDOW"), ("watch_sort", "CHUNK")];
 
 /// The lengths of a message at which the watch takes another window.
 const LENGTHS: [(&str, &str); 1] = [("watch_lists", "FEW_BYTES")];
