@@ -56,9 +56,9 @@ pub record BucketsFrom (p : List ℕ) (at low high from : ℕ) (before : Bool) (
   pub room : to ≤ length b
   pub wrote : b′ ≡ put b place (encodeRanges ranges)
 
-abbrev pub BucketsSay : (p : List ℕ) (at low high : ℕ) (b : List ℕ) (place : ℕ) (b′ : List ℕ) → Buckets → Type 0
-BucketsSay p at low high b place b′ (buckets.All to rising) = BucketsFrom p at low high 0 true b place to rising b′
-BucketsSay p at low high b place b′ buckets.Other = Unit {0}
+abbrev pub BucketsAre : (p : List ℕ) (at low high : ℕ) (b : List ℕ) (place : ℕ) (b′ : List ℕ) → Buckets → Type 0
+BucketsAre p at low high b place b′ (buckets.All to rising) = BucketsFrom p at low high 0 true b place to rising b′
+BucketsAre p at low high b place b′ buckets.Other = Unit {0}
 
 -- ---- a segment
 
@@ -115,6 +115,6 @@ pub record SegmentsFrom (parent s : List ℕ) (at low : ℕ) (before : Bool) (b 
   pub room : to ≤ length b
   pub wrote : b′ ≡ put b used (encodeSegments segments)
 
-abbrev pub SegmentsSay : (parent s : List ℕ) (at : ℕ) (b b′ : List ℕ) → Segments → Type 0
-SegmentsSay parent s at b b′ (segments.All count to rising) = SegmentsFrom parent s at 0 true b assignmentHead count to rising b′
-SegmentsSay parent s at b b′ segments.Other = Unit {0}
+abbrev pub SegmentsAre : (parent s : List ℕ) (at : ℕ) (b b′ : List ℕ) → Segments → Type 0
+SegmentsAre parent s at b b′ (segments.All count to rising) = SegmentsFrom parent s at 0 true b assignmentHead count to rising b′
+SegmentsAre parent s at b b′ segments.Other = Unit {0}

@@ -12,7 +12,7 @@ ghost use Rattle.slice_int.specs.Put.{put};
 ghost use Rattle.utf8.specs.Table.{isUtf8};
 ghost use Rattle.name_parents.specs.Parents.{isParent};
 ghost use Rattle.packed.specs.Assignment.{slotSize, recordHead, bucketSize, decodeRanges, okBuckets};
-ghost use Rattle.intake_ordered.specs.Walk.{BucketsSay, HeadIs, SegmentIs, SegmentsSay};
+ghost use Rattle.intake_ordered.specs.Walk.{BucketsAre, HeadIs, SegmentIs, SegmentsAre};
 ghost use Rattle.intake_ordered.specs.Taken.{OrderedIs};
 use intake_ordered_bucket::Bucket;
 use intake_ordered_bucket::MAX_HASH;
@@ -77,7 +77,7 @@ fn take_buckets(
     place: usize,
 ) -> Buckets
     requires { ⌜ place ≤ length (now b) ⌝ }
-    ensures { λ r. ⌜ BucketsSay (now (p .entry)) first lowest highest (now (b .entry)) place (now (b .exit)) r ⌝ }
+    ensures { λ r. ⌜ BucketsAre (now (p .entry)) first lowest highest (now (b .entry)) place (now (b .exit)) r ⌝ }
 {
     let mut at = first;
     let mut low: u64 = 0;
@@ -188,7 +188,7 @@ fn take_segment(p: &[u8], parent: &[u8], b: &mut [u8], used: usize) -> Segment
 fn take_segments(s: &[u8], first: usize, parent: &[u8], b: &mut [u8]) -> Segments
     requires { ⌜ (isParent (now parent) ≡ true) × (isUtf8 (now parent) ≡ true) ⌝ }
     requires { ⌜ length (now b) ≡ slotSize ⌝ }
-    ensures { λ r. ⌜ SegmentsSay (now (parent .entry)) (now (s .entry)) first (now (b .entry)) (now (b .exit)) r ⌝ }
+    ensures { λ r. ⌜ SegmentsAre (now (parent .entry)) (now (s .entry)) first (now (b .entry)) (now (b .exit)) r ⌝ }
 {
     let mut at = first;
     let mut low: u64 = 0;

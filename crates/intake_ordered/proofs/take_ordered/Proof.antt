@@ -5,7 +5,7 @@ use mathlib.Core.Path.{sym, subst, _∙_}
 use mathlib.Core.Bool.{true}
 use borrow.Author.Tests.{not-false}
 use Rattle.wire_ordered.specs.Ordered.{NumberAtIs}
-use Rattle.intake_ordered.specs.Walk.{SegmentsFrom, SegmentsSay}
+use Rattle.intake_ordered.specs.Walk.{SegmentsFrom, SegmentsAre}
 use Rattle.intake_ordered.proofs.TakeLaws.{segments-few, segments-ready, ordered-taken}
 use borrow.Author.Needs.{needs}
 use Rattle.intake_ordered.proofs.take_ordered.Statement.{statement}
@@ -23,7 +23,7 @@ taken : (c : Taken)
     let a = e .before .before .before .before .before .before .before .before .args in
     SegmentsFrom (a .parent .now) (a .s .now) (e .epoch .given .0 .1 .0) 0 true (a .b .now) 10 (c .before .count .given .0 .0)
     (c .before .count .given .0 .1 .0) (c .before .count .given .0 .1 .1 .0) (c .before .before .before .before .before .take-segments .last .1 .1 .1 .0)
-taken c = subst (SegmentsSay _ _ _ _ _) (c .before .count .given .1) (c .before .before .before .before .before .take-segments .ensures)
+taken c = subst (SegmentsAre _ _ _ _ _) (c .before .count .given .1) (c .before .before .before .before .before .take-segments .ensures)
 
 take-segments-requires : tie.Need-take-segments-requires
 take-segments-requires c κs =

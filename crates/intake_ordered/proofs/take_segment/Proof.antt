@@ -5,7 +5,7 @@ use mathlib.Core.Path.{subst}
 use mathlib.Core.Bool.{true}
 use borrow.Author.Tests.{not-false}
 use Rattle.name_parents.proofs.PathLaws.{parent-long}
-use Rattle.intake_ordered.specs.Walk.{HeadRow, HeadIs, BucketsFrom, BucketsSay}
+use Rattle.intake_ordered.specs.Walk.{HeadRow, HeadIs, BucketsFrom, BucketsAre}
 use Rattle.intake_ordered.proofs.TakeLaws.{buckets-kept, segment-taken}
 use borrow.Author.Needs.{needs}
 use Rattle.intake_ordered.proofs.take_segment.Statement.{statement}
@@ -23,7 +23,7 @@ walked : (c : tie.After-known-told2)
     let a = head .before .before .before .before .before .before .args in
     BucketsFrom (a .p .now) (head .id .given .0 .1 .1 .1 .1 .0) (head .id .given .0 .1 .0) (head .id .given .0 .1 .1 .0) 0 true (a .b .now) (a .used + 14)
     (c .before .last .given .0 .0) (c .before .last .given .0 .1 .0) (c .before .before .before .before .before .take-buckets .last .1 .1 .1 .1 .0)
-walked c = subst (BucketsSay _ _ _ _ _ _ _) (c .before .last .given .1) (c .before .before .before .before .before .take-buckets .ensures)
+walked c = subst (BucketsAre _ _ _ _ _ _ _) (c .before .last .given .1) (c .before .before .before .before .before .take-buckets .ensures)
 
 buckets-apart-requires : tie.Need-buckets-apart-requires
 buckets-apart-requires c κs = let k = walked (c .before) in omega (arith, k .to-is, k .room, buckets-kept k)
