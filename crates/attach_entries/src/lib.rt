@@ -1,5 +1,7 @@
 // An uploader's log (02 m): its entries and what it is answered. When a log passes is defined in specs/; the program is
 // `attach_log`.
+#![tactic(auto)]
+
 use refusal::Refusal;
 
 // The bytes of an entry.

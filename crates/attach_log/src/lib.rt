@@ -3,6 +3,8 @@
 // A delta's ids are all different, so a part of the log that has as many entries as the delta has ids, each id among
 // them, is a permutation of them. Nothing is written and no memory is lent. An entry is looked for at its id's own
 // place; where the order is another, the ids are taken in rows of 4,096, and each row passes its part of the log once.
+#![tactic(auto)]
+
 ghost use Rattle.std.specs.Prelude.{◌≡◌, true, false, ◌+◌, ◌*◌, ◌≤◌, ◌<◌, length, drop};
 ghost use Rattle.intake_repeats.specs.Repeats.{rises};
 ghost use Rattle.packed.specs.Assignment.{decode_segments, size_segments};

@@ -1,5 +1,7 @@
 // Ids held to the entries of an uploader's log, a row of ids at a time: each entry is looked for in the row by halving,
 // and the id that has it is marked. A row so costs one pass over the entries, in whatever order they stand.
+#![tactic(auto)]
+
 ghost use Rattle.std.specs.Prelude.{◌≡◌, true, false, map, ℕ, ◌+◌, ◌*◌, ◌≤◌, length, drop, eqb};
 ghost use Rattle.intake_repeats.specs.Repeats.{rises};
 ghost use Rattle.attach_entries.specs.Log.{entry_of, entries_in};

@@ -1,4 +1,6 @@
 // What the benchmarks call of the pieces of an update, and the text check: one exported function for each piece that is measured.
+#![tactic(auto)]
+
 use intake::Intake;
 use intake_ordered::OrderedIntake;
 use wire_schema::{Checked, MessageKind};

@@ -2,6 +2,8 @@
 //
 // Nothing is reckoned beyond 64 bits: a product fits exactly if one factor is at most the largest number divided by the
 // other.
+#![tactic(auto)]
+
 ghost use Rattle.std.specs.Prelude.{◌≡◌, true, ◌+◌, ◌*◌, ◌≤◌, ◌<◌, length, drop};
 ghost use Rattle.ranges_calls.specs.Calls.{values_in};
 ghost use Rattle.packed.specs.Assignment.{bucket_size, decode_ranges, all_in_order};

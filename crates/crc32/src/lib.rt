@@ -1,4 +1,6 @@
 // CRC-32 of ISO 3309 and ITU-T V.42, as RFC 1952 (gzip) has it, a byte at a time by a table.
+#![tactic(auto)]
+
 ghost use Rattle.std.specs.Prelude.{◌≡◌, ◌<◌, ◌^◌};
 ghost use Rattle.crc32.specs.Crc.{update, updates, crc32, HasSteps};
 

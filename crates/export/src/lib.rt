@@ -3,6 +3,8 @@
 //
 // A session's record is lent, as store, message and output are: a call that is taken writes it back, a refusal leaves it as it was, byte by byte. `open` and `restore`
 // give one, and `check` and `save` take a copy. A slice is a pointer and a length.
+#![tactic(auto)]
+
 ghost use Rattle.std.specs.Prelude.{◌≡◌};
 
 mod charge_calls;

@@ -1,4 +1,6 @@
 // The record and the answer of a session's call as plain structs, for the boundary to C and Rust.
+#![tactic(auto)]
+
 ghost use Rattle.std.specs.Prelude.{◌≡◌};
 ghost use Rattle.export_record.specs.Replies.{is_set, flag, floor_of, floor_is_set, record_of, export_record};
 ghost use Rattle.export_record.specs.Replies.{answer_reply, left_record, session_reply, open_reply};

@@ -1,4 +1,6 @@
 // Answers in numbers, for callers in C.
+#![tactic(auto)]
+
 ghost use Rattle.std.specs.Prelude.{◌≡◌, [], ◌∷◌, pos};
 ghost use Rattle.refusal.specs.Refusals.{source_values};
 ghost use Rattle.export_reply.specs.Replies.{word_of, reply_with, taken_reply, refused_reply, test_reply};

@@ -1,5 +1,7 @@
 // The calls that change a session, over the record as a plain struct: each reads it, makes the call of 01, and gives record and answer as plain structs.
 // The exported calls, to which the record is lent, hand it on to these with one statement, and so does the station's program.
+#![tactic(auto)]
+
 ghost use Rattle.std.specs.Prelude.{◌≡◌, List, ℕ};
 ghost use Rattle.session.specs.Link.{begin_of, invalidate_of};
 ghost use Rattle.session.specs.Calls.{update_outcome, response_outcome, drain_outcome};

@@ -3,6 +3,8 @@
 //
 // The packed contract stands in specs/Contract. Each term costs one walk over the windows, so a call takes at most 64
 // times 28 steps, wherever the second lies.
+#![tactic(auto)]
+
 ghost use Rattle.std.specs.Prelude.{◌≡◌, true, ◌+◌, ◌*◌, ◌≤◌, ◌<◌, length, drop};
 ghost use Rattle.hours.specs.Contract.{span_of, spans_of, ok_spans};
 ghost use Rattle.hours.specs.Hours.{holds, any_holds, open_answer, Earliest};

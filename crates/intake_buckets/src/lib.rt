@@ -3,6 +3,8 @@
 //
 // Only buckets that do not rise are tested row against row: they are read from the message row by row, and each row is lent to the
 // test, which marks its values. So any number of ranges takes one row and the marks, and each range is read once.
+#![tactic(auto)]
+
 ghost use Rattle.std.specs.Prelude.{◌≡◌};
 ghost use Rattle.ranges.specs.Overlap.{any_overlap};
 ghost use Rattle.ranges_marks.specs.Marks.{AllValid};

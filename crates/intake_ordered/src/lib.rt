@@ -2,6 +2,8 @@
 //
 // What is taken is what `wire_messages::first_fault` and `intake::take_in` would say of it together. Anything else is left to them: a field out of its order, a key of
 // more than one byte, a fault of any kind, an id that comes twice, buckets that share a value or lie outside their segment's range, an assignment that does not fit.
+#![tactic(auto)]
+
 ghost use Rattle.std.specs.Prelude.{◌≡◌, true, ◌&&◌, ◌||◌, ◌++◌, ◌+◌, ◌*◌, ◌≤◌, ◌<◌, length, drop};
 ghost use Rattle.slice_int.specs.Be.{bytes_of};
 ghost use Rattle.slice_int.specs.Put.{put};

@@ -2,6 +2,8 @@
 //
 // A bucket whose numbers have three bytes each is told by one word, any other field by field. What is told is so; nothing is told of a bucket in any other
 // form, of one that is reversed, or of one that ends beyond the key space.
+#![tactic(auto)]
+
 ghost use Rattle.std.specs.Prelude.{◌<◌};
 ghost use Rattle.intake_ordered_bucket.specs.Buckets.{RangeOf, RangeIs, WordIs, WideIs, BucketIs};
 

@@ -1,6 +1,8 @@
 // One walk over a segment's message: its numbers, the place of its topic, and its buckets, which are tested and written as they come.
 //
 // Testing and writing in the same walk is what makes a long row of buckets cheap. Nothing is written from the first bad bucket on, nor where there is no room.
+#![tactic(auto)]
+
 ghost use Rattle.std.specs.Prelude.{◌≡◌, ◌&&◌, ◌+◌, ◌*◌, ◌^◌, ◌≤◌, ◌<◌, length};
 ghost use Rattle.slice_int.specs.Put.{put};
 ghost use Rattle.packed.specs.Assignment.{bucket_size, encode_range};

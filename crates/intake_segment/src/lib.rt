@@ -1,6 +1,8 @@
 // The tests of one segment of a message, 9 to 11, 34, 12, 13: `AssignedSegment::try_from_pb`.
 //
 // The segment comes with the walk over it (segment_scan), which has tested its buckets one by one; `parent_valid` says that the parent is one.
+#![tactic(auto)]
+
 ghost use Rattle.std.specs.Prelude.{◌≡◌};
 ghost use Rattle.name_parents.specs.Parents.{is_parent};
 ghost use Rattle.keyed.specs.Keyed.{or_else};

@@ -2,6 +2,8 @@
 //
 // Every step of the hash of four bytes can be undone, the last first: a product by the multiplier's inverse, a rotation
 // by the rest of the way round, `x ^ (x >> k)` from the high bits down.
+#![tactic(auto)]
+
 ghost use Rattle.std.specs.Prelude.{◌≡◌, ◌<◌};
 ghost use Rattle.key_for_hash.specs.Inverse.{undo_shift, undo_fmix, undo_scramble, undo_mix, key_of_block, key_for_hash};
 

@@ -2,6 +2,8 @@
 //
 // The smallest is found by the ends of ranges: a segment without buckets takes the start of its range, one with buckets
 // the lowest value that a bucket and the range have in common.
+#![tactic(auto)]
+
 ghost use Rattle.std.specs.Prelude.{◌≡◌, true, ◌+◌, ◌*◌, ◌≤◌, max, length, drop};
 ghost use Rattle.keyed.specs.Keyed.{find};
 ghost use Rattle.packed.specs.Assignment.{assignment_head, bucket_size, id_of, decode_ranges, decode_segment, decode_segments, size_segment, ok_segment};

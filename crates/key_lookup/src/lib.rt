@@ -1,4 +1,6 @@
 // A spacecraft's segment by its name: which segment of a packed assignment takes a key.
+#![tactic(auto)]
+
 ghost use Rattle.std.specs.Prelude.{◌≡◌, ◌+◌, ◌*◌, ◌≤◌, length, drop};
 ghost use Rattle.packed.specs.Assignment.{assignment_head, bucket_size, decode_ranges, decode_segment, decode_segments, size_segment};
 ghost use Rattle.packed.proofs.AssignmentLaws.{Rest};

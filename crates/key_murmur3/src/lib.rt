@@ -1,6 +1,8 @@
 // MurmurHash3_x86_32 with seed 0, over a key of any bytes.
 //
 // A word is a u32. Products and sums wrap, as in the published C: `wrapping_mul` and `std::num::wrapping_add_u32`.
+#![tactic(auto)]
+
 ghost use Rattle.std.specs.Prelude.{◌≡◌, ◌+◌, ◌*◌, ◌%◌, ◌^◌, ◌<◌, ◌≤◌, length, take, drop, slice_index};
 ghost use Rattle.key_murmur3.specs.Words.{rotate_left, xor_shift};
 ghost use Rattle.key_murmur3.specs.Murmur3.{low_first, scramble, mix, fmix, murmur3};

@@ -2,6 +2,8 @@
 //
 // A line is tested whole before anything is taken from it: the call's name, the number of words, then each word from the left. What is wrong is written where
 // it is found. The words of a line that passes are read by the functions of `log_lines`.
+#![tactic(auto)]
+
 use libc::STDOUT_FILENO;
 use log_lines::Decimal;
 use log_text::{decimal, newline, quoted, text};

@@ -3,6 +3,8 @@
 // A word is what stands between two spaces. It is a decimal number, or bytes: as they stand, or in hexadecimal behind 0x. The readers take any word for one of
 // these; a program that wants to know asks `number` and `is_hexadecimal` first. The contracts say only what keeps the programs in bounds; what a program
 // reads is not proved.
+#![tactic(auto)]
+
 ghost use Rattle.std.specs.Prelude.{◌≤◌, ◌<◌, length};
 ghost use Rattle.io.specs.Counts.{IsPrefixLen};
 

@@ -2,6 +2,8 @@
 //
 // The bytes are the session's own, so they are whole; of any that were cut short, rows would be left out. The contracts say only what keeps the functions in
 // bounds; what is written is not proved.
+#![tactic(auto)]
+
 ghost use Rattle.std.specs.Prelude.{◌+◌, ◌*◌, ◌≤◌, length};
 
 use log_text::{hex4, labelled, newline, space, text};

@@ -3,6 +3,8 @@
 //
 // Each function answers whether what it wrote is a refusal. The contracts say only what keeps the functions in bounds;
 // what is written is not proved.
+#![tactic(auto)]
+
 mod commands;
 mod segments;
 

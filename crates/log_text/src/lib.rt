@@ -1,6 +1,8 @@
 // What a session's calls answer, as text: numbers, quoted texts, and refusals by name.
 //
 // The contracts say only what keeps the functions in bounds; what is written is not proved.
+#![tactic(auto)]
+
 mod print;
 mod refusals;
 

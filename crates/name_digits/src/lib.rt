@@ -1,4 +1,6 @@
 // Numbers in a descriptor: four hexadecimal digits, or a decimal id.
+#![tactic(auto)]
+
 ghost use Rattle.std.specs.Prelude.{◌≡◌};
 ghost use Rattle.name_digits.specs.Digits.{hex_digit_of, hex_word, segment_id_of};
 

@@ -1,5 +1,7 @@
 // Parents of names: `topic://` and a path of tenant, namespace and local name, without '?' and '#'. A name's bytes are sorted into classes by
 // a table.
+#![tactic(auto)]
+
 mod class;
 
 ghost use Rattle.std.specs.Prelude.{◌≡◌, ◌+◌, ◌≤◌, length, drop};

@@ -1,6 +1,8 @@
 // Segment names read: the Rust's `SegmentSource::new` and `parent_topic`.
 //
 // A name is `segment://`, a parent's path, '/', and a descriptor `ssss-eeee-id`. Every function takes a part of any length and content.
+#![tactic(auto)]
+
 ghost use Rattle.std.specs.Prelude.{◌≡◌};
 ghost use Rattle.name_topic.specs.Build.{name_outcome};
 ghost use Rattle.name_source.specs.Parse.{last_slash, descriptor_stage, parse_segment_topic, parse_text, segment_source, parent_topic};

@@ -1,6 +1,8 @@
 // The names of segments, built or compared.
 //
 // Nothing here owns a text: a name is built into a lent output, or compared piece by piece.
+#![tactic(auto)]
+
 mod descriptor;
 
 ghost use Rattle.std.specs.Prelude.{◌≡◌, ◌≤◌, length};

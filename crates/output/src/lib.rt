@@ -1,4 +1,6 @@
 // What a call that writes to a lent output answers.
+#![tactic(auto)]
+
 use refusal::Refusal;
 
 #[derive(Drop)]

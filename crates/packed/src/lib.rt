@@ -2,6 +2,8 @@
 //
 // `read_front` tests the one at the front of a slot, `read_whole` one that is lent alone. Both are linear. Buckets that rise are told in one pass; others are
 // compared pairwise where they are few, and marked where they are many.
+#![tactic(auto)]
+
 ghost use Rattle.std.specs.Prelude.{◌≡◌, ◌+◌, ◌*◌, ◌%◌, ◌≤◌, ◌<◌, true, not, ◌&&◌, length, drop};
 ghost use Rattle.topic_types.specs.KeyRanges.{key_range};
 ghost use Rattle.ranges.specs.Overlap.{overlaps_any, rising_from};

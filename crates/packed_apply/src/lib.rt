@@ -1,4 +1,6 @@
 // A delta applied to a packed assignment.
+#![tactic(auto)]
+
 ghost use Rattle.std.specs.Prelude.{◌≡◌};
 ghost use Rattle.output.specs.Output.{outcome};
 ghost use Rattle.packed_apply.specs.ApplyOutcome.{apply_outcome};

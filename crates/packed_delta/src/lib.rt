@@ -2,6 +2,8 @@
 //
 // `read_front` reads the one at the front of bytes, `read_delta` one that is lent alone. What changed, apply and join are
 // defined in specs/; the programs are those of `packed_diff`, `packed_apply` and `packed_join`.
+#![tactic(auto)]
+
 ghost use Rattle.std.specs.Prelude.{◌≡◌, ◌+◌, ◌*◌, ◌≤◌, length, drop};
 ghost use Rattle.packed_delta.specs.Delta.{id_size, decode_ids, ids_from};
 ghost use Rattle.packed_delta.specs.Answers.{records_to, front_answer, delta_read};

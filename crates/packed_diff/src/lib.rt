@@ -1,5 +1,7 @@
 // The packed delta from one packed assignment to the next: one merge over both gives the ids that are lost, the same merge with the two changed about gives the records
 // that are gained.
+#![tactic(auto)]
+
 ghost use Rattle.std.specs.Prelude.{◌≡◌, true, ◌+◌, ◌≤◌, ◌<◌, length, take, drop};
 ghost use Rattle.slice_int.specs.Put.{put};
 ghost use Rattle.packed.specs.Assignment.{decode_segment, decode_segments, size_segment, decode_assignment, starts_assignment};

@@ -1,4 +1,6 @@
 // Two deltas joined to one.
+#![tactic(auto)]
+
 ghost use Rattle.std.specs.Prelude.{◌≡◌, true, ◌+◌, ◌*◌, ◌^◌, ◌<◌};
 ghost use Rattle.output.specs.Output.{outcome};
 ghost use Rattle.packed_delta.specs.Delta.{delta_head, id_size, decode_delta, is_delta};

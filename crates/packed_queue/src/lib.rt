@@ -1,6 +1,8 @@
 // Lists queued closely, one behind the other, each behind its length (02 j), read where they lie.
 //
 // `read_entries` tests them and finds their end in one pass.
+#![tactic(auto)]
+
 ghost use Rattle.std.specs.Prelude.{◌≡◌, ◌≤◌, length, drop};
 ghost use Rattle.packed_queue.specs.Answers.{entry_size, entries_read};
 

@@ -1,6 +1,8 @@
 // The calls on ranges of the key space: the Rust's `KeyRange` methods, over ranges given by their ends.
 //
 // Each call tests its ranges first, the first before the second, and refuses one that `KeyRange::new` does not make (9).
+#![tactic(auto)]
+
 ghost use Rattle.std.specs.Prelude.{◌≡◌};
 ghost use Rattle.topic_types.specs.KeyRanges.{new_key_range};
 ghost use Rattle.ranges_calls.specs.Calls.{pair_by, holds, holds_range, touches, length_of, contains_of, contains_range_of, is_adjacent_of};

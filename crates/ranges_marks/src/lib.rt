@@ -1,4 +1,6 @@
 // Values of the key space marked in a row of 1,024 words, a place each, so that a range that shares a value with an earlier one is told at once.
+#![tactic(auto)]
+
 ghost use Rattle.std.specs.Prelude.{◌≡◌, ◌+◌, ◌≤◌, ◌<◌, length, take};
 ghost use Rattle.ranges_marks.specs.Bits.{ones};
 ghost use Rattle.ranges_marks.specs.Marks.{words, row_size, Marking, RowMarking};

@@ -4,6 +4,8 @@
 // this port's own and have no fields, but for 34. The number before each variant is the one that the specification gives it, and from 64 on the
 // project's own; `number_of` and `values_of` of specs/ say the same formally, and every promise about a refusal goes through those two. No variant
 // has 5, which request b of document 02 retired.
+#![tactic(auto)]
+
 ghost use Rattle.std.specs.Prelude.{◌≡◌};
 ghost use Rattle.refusal.specs.Refusals.{number_of};
 

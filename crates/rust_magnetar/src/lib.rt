@@ -1,1 +1,2 @@
 // The Rust, transcribed: no code, definitions alone. See specs/.
+#![tactic(auto)]

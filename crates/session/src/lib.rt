@@ -1,6 +1,8 @@
 // The types of a station's session, and what its calls give: see specs/. The calls are the functions of the crates above this one.
 //
 // What the Rust's `ScalableConsumerSession` owns lies in two places: a small record, here, and a store that is lent to each call.
+#![tactic(auto)]
+
 use refusal::Refusal;
 use topic_types::ControllerIncarnation;
 

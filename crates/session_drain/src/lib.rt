@@ -1,4 +1,6 @@
 // Drain: the pushes of the queue handed out one by one, `take_replayed_updates`.
+#![tactic(auto)]
+
 ghost use Rattle.std.specs.Prelude.{◌≡◌, ◌≤◌};
 ghost use Rattle.session.specs.Store.{list_in, queue_in};
 ghost use Rattle.session.specs.Drain.{next_change};

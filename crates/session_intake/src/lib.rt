@@ -1,6 +1,8 @@
 // The assignment of a session's message, an update or a response, taken into a buffer of one slot below the session's topic.
 //
 // A message in its usual form is told in one walk, without a scan before it. Any other is scanned by `wire_messages` first, and `take_assignment` is for what that finds valid.
+#![tactic(auto)]
+
 ghost use Rattle.std.specs.Prelude.{◌≡◌, true, ◌≤◌, length};
 ghost use Rattle.wire.specs.Fields.{fields_of};
 ghost use Rattle.wire_values.specs.Values.{merged_fields};

@@ -1,4 +1,6 @@
 // A session opened on a store (`ScalableConsumerSession::new`), and its registration compared (`matches_registration`).
+#![tactic(auto)]
+
 ghost use Rattle.std.specs.Prelude.{◌≡◌, true, ◌+◌, ◌≤◌, length, leb};
 ghost use Rattle.slice_int.specs.Put.{put};
 ghost use Rattle.packed.specs.Assignment.{slot_size};

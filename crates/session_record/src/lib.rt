@@ -1,4 +1,6 @@
 // A session's record changed by value, one function for each change, and the floor.
+#![tactic(auto)]
+
 ghost use Rattle.std.specs.Prelude.{◌≡◌, ◌<◌};
 ghost use Rattle.session.specs.Session.{position_of, raise};
 ghost use Rattle.session.specs.Update.{with_queue_count, with_floor};

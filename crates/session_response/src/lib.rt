@@ -2,6 +2,8 @@
 //
 // The Rust stages a clone, replays the queue over it, and keeps it only if every push passes. Here the queue's epochs are tested first, and nothing is written before
 // the last test.
+#![tactic(auto)]
+
 ghost use Rattle.std.specs.Prelude.{◌≡◌, true, false, cond, List, ℕ, ◌≤◌, ◌<◌, length};
 ghost use Rattle.wire_schema.specs.FirstFault.{first_fault};
 ghost use Rattle.wire_readers.specs.Messages.{WireResponse, response_of};

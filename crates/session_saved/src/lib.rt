@@ -1,4 +1,6 @@
 // A session saved as bytes, and taken back: record and what is in use of its store, with a length and a checksum (specs/Form).
+#![tactic(auto)]
+
 ghost use Rattle.std.specs.Prelude.{◌≡◌, ◌+◌, ◌≤◌, length};
 ghost use Rattle.slice_int.specs.Be.{be_at};
 ghost use Rattle.slice_int.specs.Put.{put};

@@ -1,6 +1,8 @@
 // The store of a session where it lies: its slots, its queue, and the test that every call makes first, 22.
 //
 // Every slot and entry in use is read on every call, once; a packed assignment whose buckets rise takes one pass.
+#![tactic(auto)]
+
 ghost use Rattle.std.specs.Prelude.{◌≡◌, true, not, ◌+◌, ◌*◌, ◌≤◌, ◌<◌, length};
 ghost use Rattle.slice_int.specs.Put.{put};
 ghost use Rattle.packed.specs.Assignment.{slot_size, encode_assignment, decode_assignment, starts_assignment};

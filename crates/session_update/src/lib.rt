@@ -2,6 +2,8 @@
 //
 // The message's assignment is taken into a buffer of one slot: in its usual form by the walk that tests the message, else behind link and consumer. What is refused
 // before the last test has written nothing to store or output.
+#![tactic(auto)]
+
 ghost use Rattle.std.specs.Prelude.{◌≡◌, true, List, ℕ, ◌≤◌, length};
 ghost use Rattle.wire_schema.specs.FirstFault.{first_fault};
 ghost use Rattle.wire_readers.specs.Messages.{WireUpdate};

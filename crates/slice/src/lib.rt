@@ -1,6 +1,8 @@
 // Parts of byte slices: equality, prefixes, and a byte as a wider number.
 //
 // The laws that every reader of a slice needs stand in proofs/: what `&s[at..]` is as a list, bytes below 256.
+#![tactic(auto)]
+
 ghost use Rattle.std.specs.Prelude.{◌≡◌, ◌+◌, ◌≤◌, ◌<◌, length, take, drop};
 ghost use Rattle.slice.specs.Same.{same_bytes, starts_with};
 

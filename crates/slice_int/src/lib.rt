@@ -2,6 +2,8 @@
 //
 // The caller shows that the bytes lie inside the slice. A number is one of fewer bytes and another behind it, so one law,
 // over the two widths, serves each of them (proofs/BeLaws).
+#![tactic(auto)]
+
 ghost use Rattle.std.specs.Prelude.{◌≡◌, ◌+◌, ◌≤◌, min, max, length};
 ghost use Rattle.slice_int.specs.Be.{be_at, bytes_of};
 ghost use Rattle.slice_int.specs.Put.{put};

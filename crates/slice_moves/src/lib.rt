@@ -1,6 +1,8 @@
 // Bytes moved within a slice, down or up, where the old place and the new one may overlap.
 //
 // 32 bytes at a time, then 8, each one load and one store, and what is left byte by byte. All functions are helpers: the caller shows that both places lie in the slice.
+#![tactic(auto)]
+
 ghost use Rattle.std.specs.Prelude.{◌≡◌, ◌+◌, ◌-◌, ◌≤◌, length, take, drop};
 ghost use Rattle.slice_int.specs.Put.{put};
 ghost use Rattle.slice_moves.specs.Moved.{Lowered, Raised};

@@ -26,6 +26,8 @@
 //
 // The calls are the proved ones. The functions here promise only what keeps them in bounds: what is read and what is
 // written is not proved.
+#![tactic(auto)]
+
 mod arguments;
 mod calls;
 mod help;

@@ -4,6 +4,8 @@
 // A line is a command and its arguments, with a space between two; a line that starts with '#' is passed over. An argument
 // is a decimal number, or bytes: as they stand, or in hexadecimal behind 0x; of a key at most 65,536, of an assignment at
 // most 4,096. What each line should give is reckoned anew by tools/vectors.py, by other means.
+#![tactic(auto)]
+
 ghost use Rattle.std.specs.Prelude.{◌≡◌, length};
 
 use key_for_hash::TestKey;

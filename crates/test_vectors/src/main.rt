@@ -3,6 +3,8 @@
 // A line is a command and its arguments, with a space between two; a line that starts with '#' is passed over. An argument is a decimal number, or bytes: as they
 // stand, or in hexadecimal behind 0x. Names and texts are answered as they stand, other bytes in hexadecimal. Behind the answer of a call that may write stands
 // `same` where all bytes that must stay are so still. What each line should give is reckoned anew by tools/vectors.py, by other means.
+#![tactic(auto)]
+
 mod buffers;
 mod delta_vectors;
 mod intake_vectors;

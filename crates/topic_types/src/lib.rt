@@ -2,6 +2,8 @@
 //
 // Everything here is plain data, passed by value. A `KeyRange` that `KeyRange::new` made lies in the 16-bit key space and is not reversed;
 // the type itself does not say so, and nobody relies on it unasked.
+#![tactic(auto)]
+
 ghost use Rattle.std.specs.Prelude.{◌≡◌, false};
 ghost use Rattle.topic_types.specs.KeyRanges.{new_key_range};
 ghost use Rattle.topic_types.specs.ConsumerTypes.{to_wire, from_wire};

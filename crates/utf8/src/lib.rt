@@ -3,6 +3,8 @@
 // `sequence` is that table, line by line: its rows in their order, each with the spans of its bytes. `is_utf8` goes
 // through the part sequence by sequence; behind one of the first row it passes over what follows of that row, eight
 // bytes at a time.
+#![tactic(auto)]
+
 ghost use Rattle.std.specs.Prelude.{◌≡◌, true, cond, ◌&&◌, [], ◌∷◌, ◌+◌, ◌≤◌, length, drop, ltb};
 ghost use Rattle.utf8.specs.Table.{span, fits, sequence_of, is_utf8};
 ghost use Rattle.utf8.specs.Passes.{Passes, Ascii};

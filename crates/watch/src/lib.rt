@@ -1,4 +1,6 @@
 // The topics watch: takes an update to a lent set of topics, and says what changed. `ScalableTopicsWatch::handle_update`.
+#![tactic(auto)]
+
 ghost use Rattle.std.specs.Prelude.{◌≡◌, true, ◌&&◌, ◌+◌, ◌^◌, ◌≤◌, ◌<◌, length, take, leb, ltb};
 ghost use Rattle.slice_int.specs.Put.{put};
 ghost use Rattle.wire_readers.specs.Messages.{watch_update_of};

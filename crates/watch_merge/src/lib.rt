@@ -1,4 +1,6 @@
 // Changes a packed set in place: the topics of a packed list taken out of it, or merged into it. Each goes once through both.
+#![tactic(auto)]
+
 ghost use Rattle.std.specs.Prelude.{◌≡◌, cond, ◌+◌, ◌≤◌, length, take};
 ghost use Rattle.slice_int.specs.Put.{put};
 ghost use Rattle.watch_topics.specs.Topics.{insert_all};

@@ -1,4 +1,6 @@
 // Topics in byte order, and a packed set of them: each topic a length of 16 bits and its bytes.
+#![tactic(auto)]
+
 ghost use Rattle.std.specs.Prelude.{◌≡◌, true, ◌&&◌, ◌+◌, ◌-◌, ◌≤◌, min, length, take, drop};
 ghost use Rattle.watch_topics.specs.Topics.{order, before, rising};
 ghost use Rattle.watch_topics.specs.Skipped.{Skipped};

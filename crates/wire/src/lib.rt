@@ -2,6 +2,8 @@
 //
 // Every function takes a part of any length and content and answers what stands at its front, with its length, or that it is broken. What a message
 // means, and which of its fields are known, is not known here.
+#![tactic(auto)]
+
 mod varint;
 
 ghost use Rattle.std.specs.Prelude.{◌≡◌};

@@ -3,6 +3,8 @@
 //
 // Only the shell is looked at: its own first fault (3, 4, 6) is refused, the carried message is not read but for its field 1. The calls of the
 // session and of the watch look for its faults. No bytes are copied: the caller lends them the part.
+#![tactic(auto)]
+
 ghost use Rattle.std.specs.Prelude.{◌≡◌, [], ◌∷◌, pos};
 ghost use Rattle.export_reply.specs.Replies.{taken_reply};
 ghost use Rattle.wire.specs.Field.{key_read};

@@ -1,6 +1,8 @@
 // One field of a message: its key, its type, then what stands behind the key.
 //
 // A message that stands in a field is not read here: the answer says where it is.
+#![tactic(auto)]
+
 ghost use Rattle.std.specs.Prelude.{◌≡◌, ◌+◌, ◌<◌, ◌^◌};
 ghost use Rattle.wire.specs.Field.{key_read, body_of};
 ghost use Rattle.wire_field_step.specs.Steps.{field_head, value_step, part_step, refused_with, field_of};

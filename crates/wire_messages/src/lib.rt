@@ -3,6 +3,8 @@
 // `first_fault` reads a message by the table of its fields and gives the refusal of its first fault: 3, 4 and 7 in byte order, then 6 of the message as it is when
 // its parts are merged. It takes a part of any length and content. A message in its usual form is gone over once.
 // What a message's fields hold is read by other crates, which ask nothing of this pass.
+#![tactic(auto)]
+
 ghost use Rattle.std.specs.Prelude.{◌≡◌};
 ghost use Rattle.wire_schema.specs.FirstFault.{fault_within, first_fault};
 

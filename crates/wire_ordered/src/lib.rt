@@ -3,6 +3,8 @@
 //
 // A ordered message has no fault, whatever it is nested in: each of its fields comes once, so that no other part can lend it one that it lacks. A message that
 // is not ordered may have none all the same: `wire_messages` decides.
+#![tactic(auto)]
+
 ghost use Rattle.std.specs.Prelude.{◌≡◌, true, ℕ, ◌<◌};
 ghost use Rattle.wire_schema.specs.FirstFault.{first_fault, Sound};
 ghost use Rattle.wire_ordered.specs.Ordered.{NumberField, NumberAtIs, PartIs, Passed, Carrier};

@@ -3,6 +3,8 @@
 // The readers ask nothing of an earlier pass: see specs/Messages. Each number has a walk of its own: a message has few fields, and its parts are passed over
 // unread. Segments are gone over by `wire_values::next_inner` (field 2 of an update's field 2 or a response's field 4), a segment's own fields by
 // `intake_scan::scan_segment`; texts are parts of the message (`wire_values::text`).
+#![tactic(auto)]
+
 ghost use Rattle.std.specs.Prelude.{◌≡◌};
 ghost use Rattle.wire.specs.Fields.{fields_of};
 ghost use Rattle.wire_values.specs.Values.{numbers_of, last_of};

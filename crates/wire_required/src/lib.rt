@@ -2,6 +2,8 @@
 //
 // Everything is said of the message's row of fields and asks nothing of an earlier pass: see specs/Required of the crate schema. An assignment's fields are looked
 // for in all its parts; a segment, and a bucket range, is looked at by itself. A segment is gone over once.
+#![tactic(auto)]
+
 ghost use Rattle.std.specs.Prelude.{◌≡◌, true, cond, not, ◌&&◌, ◌||◌, eqb};
 ghost use Rattle.wire.specs.Fields.{fields_of};
 ghost use Rattle.wire_values.specs.Values.{numbers_of, parts_of, present, merged_fields};

@@ -1,6 +1,8 @@
 // The eight messages: their kinds, and their fields as the table of specs/Schema has them.
 //
 // What the first fault of a message is stands in specs/FirstFault, over these fields. The reading that finds it is `wire_messages`.
+#![tactic(auto)]
+
 ghost use Rattle.std.specs.Prelude.{◌≡◌};
 ghost use Rattle.wire_schema.specs.Schema.{value_for, fits_wire, levels};
 

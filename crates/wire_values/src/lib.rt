@@ -2,6 +2,8 @@
 //
 // Everything is said of the message's row of fields and asks nothing of an earlier pass: on a message that no reader would take, the answers are those of
 // the fields before its first broken one.
+#![tactic(auto)]
+
 ghost use Rattle.std.specs.Prelude.{◌≡◌, drop};
 ghost use Rattle.wire.specs.Fields.{fields_of};
 ghost use Rattle.wire_values.specs.Integers.{uint32_of, int32_of};

@@ -1,6 +1,8 @@
 // Protocol Buffers fields written into a slice: sizes first, then bytes at a place.
 //
 // All functions are helpers: the caller tests the room by the sizes and shows that the bytes fit.
+#![tactic(auto)]
+
 ghost use Rattle.std.specs.Prelude.{◌≡◌, ◌+◌, ◌*◌, ◌≤◌, ◌<◌, ◌^◌, length};
 ghost use Rattle.slice_int.specs.Put.{put};
 ghost use Rattle.wire_writer.specs.Encode.{varint_bytes, number_field, part_head};

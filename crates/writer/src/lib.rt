@@ -2,6 +2,8 @@
 //
 // Sizes come first: a part's length stands before it, and nothing is written before everything is known to fit. Each segment's buckets are gone over three times in
 // all.
+#![tactic(auto)]
+
 ghost use Rattle.std.specs.Prelude.{◌≡◌, ◌+◌, ◌*◌, ◌≤◌, ◌<◌, ◌++◌, length, drop};
 ghost use Rattle.slice_int.specs.Put.{put};
 ghost use Rattle.name_topic.specs.Names.{decimal, segment_topic};
