@@ -9,12 +9,8 @@ use lib.ListN.{length, take, drop, get_or, length-drop}
 use lib.Dec.{eqb}
 use lib.Seq.{length-take-le, get_or-take, get_or-drop}
 use Rattle.slice.proofs.SameLaws.{Alike, alike-none, alike_next, alike-differs, alike_end}
-use Rattle.slice.proofs.same_at.Statement.{statement}
-use Rattle.slice.proofs.same_at.Tie as tie
-
--- the n bytes from a place on
-abbrev part : ℕ → List ℕ → ℕ → List ℕ
-part n s at = take n (drop at s)
+use Rattle.slice.proofs.same_at.Invariants.{part}
+use Rattle.slice.proofs.same_at.Goals as goal
 
 length_part : (n : ℕ) (s : List ℕ) (at : ℕ) → at + n ≤ length s → length (part n s at) ≡ n
 length_part n s at h = length-take-le n (drop at s) (rw length-drop (omega arith))
@@ -35,38 +31,25 @@ turn n a b at i k ha hb h v =
       λ d. alike-differs _ _ i k (omega arith) (la ∙ sym lb) v (λ e. d (sym ea ∙ e ∙ eb)),
     )
 
-abbrev invariant-loop : tie.invariant-loop
-invariant-loop a b at n alike₀ i₀ alike i = (i ≤ n) × Alike (part n a at) (part n b at) i alike
+pub loop-i-init : goal.loop-i-init
+loop-i-init c = (omega arith, alike-none _ _)
 
-abbrev decreases-loop : tie.decreases-loop
-decreases-loop a b at n alike₀ i₀ alike i = n - i
+pub overflow_add-alike : goal.overflow_add-alike
+overflow_add-alike c = omega (arith, c.loop-i.invariant.1.most)
 
-loop-holds : tie.Need-loop-init invariant-loop decreases-loop
-loop-holds c = (omega arith, alike-none _ _)
-
-add-alike : tie.Need-overflow-add-alike invariant-loop decreases-loop
-add-alike c = omega (arith, c.before.before.before.before.loop.invariant.1.most)
-
-loop-again : tie.Need-loop-preserved invariant-loop decreases-loop
-loop-again c =
-    let l = c.before.before.before.before.loop in
-    let s = c.before.before.before.before.before in
+pub loop-i-preserved : goal.loop-i-preserved
+loop-i-preserved c =
+    let l = c.loop-i in
+    let s = c in
     let t = turn s.args.n s.args.a.now s.args.b.now s.args.at l.i l.alike s.requires.0 s.requires.1 (omega arith) l.invariant.1 in
-    (omega arith, ⊎_elim (λ w. rw w.1 (t.0 w.0.taken)) (λ w. rw w.1 (t.1 w.0.left)) c.if1.branch)
+    (omega arith, (elim c.if-a-at.branch [ goal.then-a-at w ↦ rw w.alike-is (t.0 w.if-a-at.true) | goal.else-a-at w ↦ rw w.alike-is (t.1 w.if-a-at.false) ]))
 
-returns : tie.Need-returns invariant-loop decreases-loop
+pub returns : goal.returns
 returns c =
-    let l = c.before.loop in
-    let s = c.before.before in
+    let l = c.loop-i in
+    let s = c in
     let a = s.args in
     let i : l.i ≡ a.n = omega arith in
     ap (eqb l.alike) (sym i)
     ∙ alike_end _ _ l.i l.alike (omega (arith, length_part a.n a.a.now a.at s.requires.0))
     (omega (arith, length_part a.n a.b.now a.at s.requires.1)) l.invariant.1
-
-pub same-at-spec : {M : Type 1} → statement M
-same-at-spec =
-    tie.close
-    (tie.spec invariant-loop decreases-loop loop-holds
-    (λ c. omega arith) (λ c. omega arith) (λ c. omega arith) (λ c. omega arith) add-alike
-    (λ c. omega arith) (λ c. omega arith) loop-again returns)
