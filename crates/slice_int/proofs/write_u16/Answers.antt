@@ -6,13 +6,12 @@ use mathlib.Core.Path.{◌≡◌}
 use lib.ListN.{length, set, length-set}
 use borrow.Author.Rules.{rules}
 use Rattle.slice_int.proofs.WidthLaws.{write-add, write-one}
-use Rattle.slice_int.proofs.write_u16.Statement.{statement}
-use Rattle.slice_int.proofs.write_u16.Tie as tie
+use Rattle.slice_int.proofs.write_u16.Goals as goal
 
-slice-write-out-2 : tie.Need-slice-write-out-2
-slice-write-out-2 c = rw (length-set c.args.out.now c.args.at (c.args.v / 256)) (omega arith)
+pub bounds-out-at-2 : goal.bounds-out-at-2
+bounds-out-at-2 c = rw (length-set c.args.out.now c.args.at (c.args.v / 256)) (omega arith)
 
-returns : tie.Need-returns
+pub returns : goal.returns
 returns c =
     let o = c.args.out.now in
     let at = c.args.at in
@@ -20,9 +19,3 @@ returns c =
     let l : length (set o at (v / 256)) ≡ length o = length-set o at (v / 256) in
     write-add 1 1 v at o (set o at (v / 256)) _ (omega arith) (write-one o at (v / 256) (omega arith) (omega arith))
     (write-one (set o at (v / 256)) (at + 1) (v % 256) (omega arith) (omega arith))
-
-pub write-u16-spec : {M : Type 1} → statement M
-write-u16-spec =
-    tie.close
-    (tie.spec (λ c. search rules) (λ c. search rules) (λ c. search rules) (λ c. search rules) slice-write-out-2
-    (λ c. search rules) returns)

@@ -1,0 +1,29 @@
+-- `read_u16` meets its contract: two numbers of one byte, by `read-add`.
+-- Assumes nothing.
+use Prim.Native.Nat.{◌+◌}
+use native.Mathlib.Omega.{arith}
+use mathlib.Core.Path.{sym}
+use borrow.Author.Rules.{rules}
+use Rattle.slice_int.proofs.BeLaws.{be-at-one}
+use Rattle.slice_int.proofs.WidthLaws.{read-add}
+use Rattle.slice_int.proofs.read_u16.Goals as goal
+
+pub overflow_cast-result : goal.overflow_cast-result
+overflow_cast-result c = omega (arith, c.shared_slice_known-1.given c.args.at)
+
+pub overflow_mul-result : goal.overflow_mul-result
+overflow_mul-result c = omega (arith, c.shared_slice_known-1.given c.args.at)
+
+pub overflow_cast-result-2 : goal.overflow_cast-result-2
+overflow_cast-result-2 c = omega (arith, c.shared_slice_known-2-1.given (c.args.at + 1))
+
+pub overflow_add-result-2 : goal.overflow_add-result-2
+overflow_add-result-2 c =
+    let at = c.args.at in
+    omega (arith, c.shared_slice_known-2-1.given at, c.shared_slice_known-2-1.given (at + 1))
+
+pub returns : goal.returns
+returns c =
+    let a = c.args in
+    read-add 1 1 a.s.now a.at _ _ (omega arith) (sym (be-at-one a.s.now a.at (omega arith)))
+    (sym (be-at-one a.s.now (a.at + 1) (omega arith)))

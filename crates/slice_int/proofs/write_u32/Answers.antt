@@ -1,0 +1,13 @@
+-- `write_u32` meets its contract: two numbers of 2 bytes, by `write-add`.
+-- Assumes nothing.
+use native.Mathlib.Omega.{arith}
+use borrow.Author.Rules.{rules}
+use Rattle.slice_int.proofs.WidthLaws.{write-add}
+use Rattle.slice_int.proofs.write_u32.Goals as goal
+
+pub returns : goal.returns
+returns c =
+    let second = c.write_u16-2 in
+    let first = c.write_u16 in
+    let a = c.args in
+    write-add 2 2 a.v a.at a.out.now first.new.out second.new.out (omega arith) first.ensures second.ensures
