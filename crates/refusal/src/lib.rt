@@ -11,7 +11,7 @@ ghost use Rattle.refusal.specs.Refusals.{number_of};
 
 use topic_types::{ControllerIncarnation, KeyRangeError, SegmentId};
 
-#[derive(Drop)]
+#[derive(Clone, Copy)]
 pub enum Refusal {
     // 1: the store has fewer than three slots.
     StoreTooShort,

@@ -9,11 +9,11 @@ ghost use Rattle.topic_types.specs.KeyRanges.{new_key_range};
 ghost use Rattle.topic_types.specs.ConsumerTypes.{to_wire, from_wire};
 
 // A segment's id, unique within its topic.
-#[derive(Drop)]
+#[derive(Clone, Copy)]
 pub struct SegmentId(pub u64);
 
 // The number of the link to the controller; only a higher one replaces it.
-#[derive(Drop)]
+#[derive(Clone, Copy)]
 pub struct ControllerIncarnation(pub u64);
 
 // The lowest and the highest value of the 16-bit key space.
@@ -22,14 +22,14 @@ pub const MIN_HASH: u32 = 0;
 pub const MAX_HASH: u32 = 65535;
 
 // The values from start to end, both included.
-#[derive(Drop)]
+#[derive(Clone, Copy)]
 pub struct KeyRange {
     pub start: u32,
     pub end: u32,
 }
 
 // Why two numbers are no range of the key space. The kinds are numbered 1, 2, 3 in this order.
-#[derive(Drop)]
+#[derive(Clone, Copy)]
 pub enum KeyRangeError {
     // The start lies above MAX_HASH.
     StartOutOfBounds { start: u32 },
@@ -40,7 +40,7 @@ pub enum KeyRangeError {
 }
 
 // What `KeyRange::new` answers: the Rust's `Result<KeyRange, KeyRangeError>`.
-#[derive(Drop)]
+#[derive(Clone, Copy)]
 pub enum RangeResult {
     Valid(KeyRange),
     Invalid(KeyRangeError),
@@ -71,7 +71,7 @@ impl KeyRange {
 }
 
 // Which kind of consumer registers with the controller.
-#[derive(Drop)]
+#[derive(Clone, Copy)]
 pub enum ScalableConsumerType {
     Stream,
     Checkpoint,
