@@ -1,6 +1,6 @@
 -- Public: what `overlap` says of ranges that are not reversed: some value lies in both (`common`, and back `shared`).
 -- Assumes nothing.
-use Rattle.std.specs.Prelude.{◌≡◌, refl, ℕ, ◌≤◌, max, Bool, true, false, ◌&&◌, leb}
+use Rattle.std.specs.Prelude.{◌≡◌, ℕ, ◌≤◌, max, true, leb}
 use Rattle.std.proofs.Common.{arith, leb-true, le-leb}
 use Rattle.slice.specs.BoolLaws.{both_true}
 use Rattle.topic_types.specs.declared.KeyRange.{KeyRange}
