@@ -13,7 +13,7 @@ import glob
 import re
 import sys
 
-WORD = re.compile(r"[^\W\d][\w'₀-₉-]*")
+WORD = re.compile(r"(?<![\w])[^\W\d][\w'₀-₉-]*")
 CAMEL = re.compile(r"^[a-z][a-z0-9]*[A-Z]")
 OTHER = {
     "isOpen": "is_open_at",

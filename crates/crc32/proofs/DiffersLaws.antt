@@ -94,7 +94,7 @@ updates-word (b ∷ l) c h p = updates-word l (update c b) (behind b l h) (updat
 
 pub crc-word : (l : List ℕ) → Bytes l → crc32 l < 2 ^ 32
 unfolding crc32
-crc-word l h = xor-word (updates 0x_ffffffff l) 0x_ffffffff (updates-word l 0x_ffffffff h (lit< tt)) (lit< tt)
+crc-word l h = xor-word (updates 0xFFFFFFFF l) 0xFFFFFFFF (updates-word l 0xFFFFFFFF h (lit< tt)) (lit< tt)
 
 updates-state : (l : List ℕ) (c d : ℕ) → Bytes l → c < 2 ^ 32 → d < 2 ^ 32 → updates c l ≡ updates d l → c ≡ d
 unfolding updates
@@ -116,7 +116,7 @@ updates-byte (b ∷ l) c (suc i) v h p q k e =
 pub one-byte-told : OneByteDiffers
 unfolding crc32
 one-byte-told l i v h q k e =
-    updates-byte l 0x_ffffffff i v h (lit< tt) q k
-    (sym (xor-again (updates 0x_ffffffff (set l i v)) 0x_ffffffff)
-    ∙ ap (λ (n : ℕ). xor n 0x_ffffffff) e
-    ∙ xor-again (updates 0x_ffffffff l) 0x_ffffffff)
+    updates-byte l 0xFFFFFFFF i v h (lit< tt) q k
+    (sym (xor-again (updates 0xFFFFFFFF (set l i v)) 0xFFFFFFFF)
+    ∙ ap (λ (n : ℕ). xor n 0xFFFFFFFF) e
+    ∙ xor-again (updates 0xFFFFFFFF l) 0xFFFFFFFF)

@@ -8,7 +8,7 @@ use Rattle.key_murmur3.specs.Words.{xor}
 
 -- the polynomial, lowest power in the highest bit
 abbrev pub polynomial : ℕ
-polynomial = 0x_edb88320
+polynomial = 0xEDB88320
 
 -- one bit
 unfoldable pub step : ℕ → ℕ
@@ -28,7 +28,7 @@ updates c [] = c
 updates c (b ∷ l) = updates (update c b) l
 
 unfoldable pub crc32 : List ℕ → ℕ
-crc32 l = xor (updates 0x_ffffffff l) 0x_ffffffff
+crc32 l = xor (updates 0xFFFFFFFF l) 0xFFFFFFFF
 
 -- Internal, for the contracts of helpers: a table with the eight steps of each byte at its place
 abbrev pub HasSteps : List ℕ → Type 0

@@ -13,8 +13,8 @@ digits = 0x31 ∷ 0x32 ∷ 0x33 ∷ 0x34 ∷ 0x35 ∷ 0x36 ∷ 0x37 ∷ 0x38 ∷
 pub record Rows : Type 0 where
   pub empty : crc32 [] ≡ 0
   -- "a"
-  pub one : crc32 (0x61 ∷ []) ≡ 0x_e8_b7_be43
-  pub check : crc32 digits ≡ 0x_cbf43926
+  pub one : crc32 (0x61 ∷ []) ≡ 0xE8B7BE43
+  pub check : crc32 digits ≡ 0xCBF43926
 
 pub rows : Rows
 unfolding xor step steps update updates crc32

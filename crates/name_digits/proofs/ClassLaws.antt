@@ -32,9 +32,9 @@ marks false false false true n e = (λ h k. omega arith, λ q. absurd (omega ari
 marks false false false false n e = (λ h k. omega arith, λ q. absurd (omega arith), λ q. absurd (omega arith))
 
 module _ (b : ℕ) where
-  mark : (n : ℕ) → cond (eqb b 0x2_f) 3 (cond (eqb b 0x2_d) 4 (cond (eqb b 0x3_f) 5 (cond (eqb b 0x23) 6 0))) ≡ n
-      → (1 ≤ n → n ≤ 2 → ⊥) × (n ≡ 3 → eqb b 0x2_f ≡ true) × (n ≡ 4 → eqb b 0x2_d ≡ true)
-  mark n = marks (eqb b 0x2_f) (eqb b 0x2_d) (eqb b 0x3_f) (eqb b 0x23) n
+  mark : (n : ℕ) → cond (eqb b 0x2F) 3 (cond (eqb b 0x2D) 4 (cond (eqb b 0x3F) 5 (cond (eqb b 0x23) 6 0))) ≡ n
+      → (1 ≤ n → n ≤ 2 → ⊥) × (n ≡ 3 → eqb b 0x2F ≡ true) × (n ≡ 4 → eqb b 0x2D ≡ true)
+  mark n = marks (eqb b 0x2F) (eqb b 0x2D) (eqb b 0x3F) (eqb b 0x23) n
 
   pub letter-bounds : class_of b ≡ 2 → (0x61 ≤ b) × (b ≤ 0x66)
   unfolding class_of
@@ -52,18 +52,18 @@ module _ (b : ℕ) where
       between-bounds 0x30 0x39 b p.0
 
   -- a class behind digits and letters
-  mark-told : (n : ℕ) → 3 ≤ n → class_of b ≡ n → (n ≡ 3 → eqb b 0x2_f ≡ true) × (n ≡ 4 → eqb b 0x2_d ≡ true)
+  mark-told : (n : ℕ) → 3 ≤ n → class_of b ≡ n → (n ≡ 3 → eqb b 0x2F ≡ true) × (n ≡ 4 → eqb b 0x2D ≡ true)
   unfolding class_of
   mark-told n h e =
       let f = (cond-second (between 0x30 0x39 b) 1 _ n (λ q. omega arith) e).1 in
       let p = mark n (cond-second (between 0x61 0x66 b) 2 _ n (λ q. omega arith) f).1 in
       (p.1, p.2)
 
-  pub slash-byte : class_of b ≡ 3 → b ≡ 0x2_f
-  slash-byte e = eqb-true b 0x2_f ((mark-told 3 (omega arith) e).0 refl)
+  pub slash-byte : class_of b ≡ 3 → b ≡ 0x2F
+  slash-byte e = eqb-true b 0x2F ((mark-told 3 (omega arith) e).0 refl)
 
-  pub dash-byte : class_of b ≡ 4 → b ≡ 0x2_d
-  dash-byte e = eqb-true b 0x2_d ((mark-told 4 (omega arith) e).1 refl)
+  pub dash-byte : class_of b ≡ 4 → b ≡ 0x2D
+  dash-byte e = eqb-true b 0x2D ((mark-told 4 (omega arith) e).1 refl)
 
   -- ---- the class of a byte
 

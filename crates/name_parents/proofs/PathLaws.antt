@@ -35,9 +35,9 @@ unfolding class_of
 class-most b =
     cond-most (between 0x30 0x39 b) 1 _ 6 (omega arith)
     (cond-most (between 0x61 0x66 b) 2 _ 6 (omega arith)
-    (cond-most (eqb b 0x2_f) 3 _ 6 (omega arith)
-    (cond-most (eqb b 0x2_d) 4 _ 6 (omega arith)
-    (cond-most (eqb b 0x3_f) 5 _ 6 (omega arith)
+    (cond-most (eqb b 0x2F) 3 _ 6 (omega arith)
+    (cond-most (eqb b 0x2D) 4 _ 6 (omega arith)
+    (cond-most (eqb b 0x3F) 5 _ 6 (omega arith)
     (cond-most (eqb b 0x23) 6 0 6 (omega arith) (omega arith))))))
 
 module _ (b : ℕ) where

@@ -11,9 +11,9 @@ unfoldable pub class_of : ℕ → ℕ
 class_of b =
     cond (between 0x30 0x39 b) 1
     (cond (between 0x61 0x66 b) 2
-    (cond (eqb b 0x2_f) 3
-    (cond (eqb b 0x2_d) 4
-    (cond (eqb b 0x3_f) 5
+    (cond (eqb b 0x2F) 3
+    (cond (eqb b 0x2D) 4
+    (cond (eqb b 0x3F) 5
     (cond (eqb b 0x23) 6 0)))))
 
 abbrev pub is_digit_byte : ℕ → Bool

@@ -8,7 +8,7 @@ use Rattle.name_parents.specs.Classes.{class_of, is_slash, is_dash, is_mark}
 
 -- "topic://"
 abbrev pub topic_scheme : List ℕ
-topic_scheme = 0x74 ∷ 0x6_f ∷ 0x70 ∷ 0x69 ∷ 0x63 ∷ 0x3_a ∷ 0x2_f ∷ 0x2_f ∷ []
+topic_scheme = 0x74 ∷ 0x6F ∷ 0x70 ∷ 0x69 ∷ 0x63 ∷ 0x3A ∷ 0x2F ∷ 0x2F ∷ []
 
 -- its bytes
 abbrev pub topic_scheme_size : ℕ

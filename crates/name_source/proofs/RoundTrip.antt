@@ -60,7 +60,7 @@ unfolding has_slash
 slash-append [] m = refl
 slash-append (b ∷ l) m = rw (slash-append l m) (sym (or_assoc (is_slash b) (has_slash l) (has_slash m)))
 
-slash-dash : (m : List ℕ) → has_slash (0x2_d ∷ m) ≡ has_slash m
+slash-dash : (m : List ℕ) → has_slash (0x2D ∷ m) ≡ has_slash m
 unfolding has_slash class_of
 slash-dash m = refl
 
@@ -68,7 +68,7 @@ slash-dash m = refl
 
 -- what follows the '/' behind the path
 abbrev behind_path : ℕ → ℕ → ℕ → List ℕ
-behind_path s e i = hex4 s ++ (0x2_d ∷ (hex4 e ++ (0x2_d ∷ decimal i)))
+behind_path s e i = hex4 s ++ (0x2D ∷ (hex4 e ++ (0x2D ∷ decimal i)))
 
 word-no-slash : (v : ℕ) → v < 65536 → has_slash (hex4 v) ≡ false
 unfolding is_hex_word
@@ -86,9 +86,9 @@ id-no-slash v h =
 module _ (s e i : ℕ) (hs : s < 65536) (he : e < 65536) (hi : i < 2 ^ 64) where
   behind-no-slash : has_slash (behind_path s e i) ≡ false
   behind-no-slash =
-      slash-append (hex4 s) (0x2_d ∷ (hex4 e ++ (0x2_d ∷ decimal i)))
-      ∙ rw (word-no-slash s hs, slash-dash (hex4 e ++ (0x2_d ∷ decimal i)))
-      (slash-append (hex4 e) (0x2_d ∷ decimal i) ∙ rw (word-no-slash e he, slash-dash (decimal i)) (id-no-slash i hi))
+      slash-append (hex4 s) (0x2D ∷ (hex4 e ++ (0x2D ∷ decimal i)))
+      ∙ rw (word-no-slash s hs, slash-dash (hex4 e ++ (0x2D ∷ decimal i)))
+      (slash-append (hex4 e) (0x2D ∷ decimal i) ∙ rw (word-no-slash e he, slash-dash (decimal i)) (id-no-slash i hi))
 
   behind-read : (n : ℕ) → s ≤ e → descriptor_stage n (behind_path s e i) ≡ Name n (key_range s e) (record { 0 = i })
   unfolding hex4 class_of
@@ -97,14 +97,14 @@ module _ (s e i : ℕ) (hs : s < 65536) (he : e < 65536) (hi : i < 2 ^ 64) where
       ∙ range-valid n i _ (key_range s e) (valid-new s e h (omega arith))
 
 module _ (path : List ℕ) (d : List ℕ) (h : has_slash d ≡ false) where
-  last-slash-append : last_slash (path ++ (0x2_f ∷ d)) ≡ At (length path)
+  last-slash-append : last_slash (path ++ (0x2F ∷ d)) ≡ At (length path)
   unfolding last_slash class_of
   last-slash-append =
-      let l : List ℕ = path ++ (0x2_f ∷ d) in
-      let k : length l ≡ length path + suc (length d) = length-append path (0x2_f ∷ d) in
+      let l : List ℕ = path ++ (0x2F ∷ d) in
+      let k : length l ≡ length path + suc (length d) = length-append path (0x2F ∷ d) in
       let b : drop (suc (length path)) l ≡ d =
-      ap (λ (n : ℕ). drop n l) (sym (add-one (length path))) ∙ drop-append-add path (0x2_f ∷ d) 1 in
-      let p = before-last-at l (length path) (omega arith) (ap is_slash (get_or-append_seam path 0x2_f d 0)) (rw b h) in
+      ap (λ (n : ℕ). drop n l) (sym (add-one (length path))) ∙ drop-append-add path (0x2F ∷ d) 1 in
+      let p = before-last-at l (length path) (omega arith) (ap is_slash (get_or-append_seam path 0x2F d 0)) (rw b h) in
       rw (p.0, p.1, take-append_seam)
 
 starts-append : (p q : List ℕ) → starts_with p (p ++ q) ≡ true
@@ -117,14 +117,14 @@ unfolding segment_topic descriptor
 reads-built path s e id valid h k b =
     let d : List ℕ = behind_path s e id.0 in
     let n : ℕ = length path in
-    let t : List ℕ = segment_scheme ++ (path ++ (0x2_f ∷ d)) in
+    let t : List ℕ = segment_scheme ++ (path ++ (0x2F ∷ d)) in
     let slash : last_slash (drop 10 t) ≡ At n =
     last-slash-append path d (behind-no-slash s e id.0 (omega arith) (omega arith) b) in
     let whole : is_path (take n (drop 10 t)) ≡ true = rw take-append_seam valid in
     let f : 10 + n + 1 ≡ 10 + (n + 1) = omega arith in
     let rest : drop (10 + n + 1) t ≡ d =
-    ap (λ (m : ℕ). drop m t) f ∙ sym (drop-drop (n + 1) 10 t) ∙ drop-append-add path (0x2_f ∷ d) 1 in
-    name-descriptor t (starts-append segment_scheme (path ++ (0x2_f ∷ d))) n slash whole
+    ap (λ (m : ℕ). drop m t) f ∙ sym (drop-drop (n + 1) 10 t) ∙ drop-append-add path (0x2F ∷ d) 1 in
+    name-descriptor t (starts-append segment_scheme (path ++ (0x2F ∷ d))) n slash whole
     ∙ ap (descriptor_stage (10 + n)) rest
     ∙ behind-read s e id.0 (omega arith) (omega arith) b (10 + n) h
 
@@ -135,17 +135,17 @@ unfolding starts_with
 starts-split p s e =
     sym (take-append-drop (length p) s) ∙ ap (λ (l : List ℕ). l ++ drop (length p) s) (same-eq (take (length p) s) p e)
 
-last-split : (s : List ℕ) → has_slash s ≡ true → s ≡ before_last s ++ (0x2_f ∷ drop (suc (length (before_last s))) s)
+last-split : (s : List ℕ) → has_slash s ≡ true → s ≡ before_last s ++ (0x2F ∷ drop (suc (length (before_last s))) s)
 unfolding has_slash before_last
 last-split [] e = absurd (true≢false (sym e))
 last-split (b ∷ l) e = go (has_slash l) e (last-split l)
   where
-    go : (t : Bool) → (is_slash b || t) ≡ true → (t ≡ true → l ≡ before_last l ++ (0x2_f ∷ drop (suc (length (before_last l))) l)) →
+    go : (t : Bool) → (is_slash b || t) ≡ true → (t ≡ true → l ≡ before_last l ++ (0x2F ∷ drop (suc (length (before_last l))) l)) →
         let f = cond t (b ∷ before_last l) [] in
-        b ∷ l ≡ f ++ (0x2_f ∷ drop (suc (length f)) (b ∷ l))
+        b ∷ l ≡ f ++ (0x2F ∷ drop (suc (length f)) (b ∷ l))
     go true q h = ap (λ (m : List ℕ). b ∷ m) (h refl)
     go false q h =
-        let x : b ≡ 0x2_f = slash-byte b (eqb-true (class_of b) 3 (sym (or-false (is_slash b)) ∙ q)) in
+        let x : b ≡ 0x2F = slash-byte b (eqb-true (class_of b) 3 (sym (or-false (is_slash b)) ∙ q)) in
         ap (λ (c : ℕ). c ∷ l) x
 
 descriptor-split : (d : List ℕ) → is_descriptor d ≡ true
@@ -158,13 +158,13 @@ descriptor-split d e =
     let D = both_true (is_dash (get_or d 9 0)) (is_segment_id (id_part d)) C.1 in
     let k = ltb-true 0 (length (id_part d)) (both_true (non_empty (id_part d)) _ D.1).0 in
     let n : 10 < length d = omega (arith, length-drop 10 d) in
-    let x : get_or d 4 0 ≡ 0x2_d = dash-byte (get_or d 4 0) (eqb-true (class_of (get_or d 4 0)) 4 B.0) in
-    let y : get_or d 9 0 ≡ 0x2_d = dash-byte (get_or d 9 0) (eqb-true (class_of (get_or d 9 0)) 4 D.0) in
-    let nine : drop 9 d ≡ 0x2_d ∷ drop 10 d = drop-cons d 9 0 (omega arith) ∙ ap (λ (c : ℕ). c ∷ drop 10 d) y in
-    let five : drop 5 d ≡ end_part d ++ (0x2_d ∷ drop 10 d) =
+    let x : get_or d 4 0 ≡ 0x2D = dash-byte (get_or d 4 0) (eqb-true (class_of (get_or d 4 0)) 4 B.0) in
+    let y : get_or d 9 0 ≡ 0x2D = dash-byte (get_or d 9 0) (eqb-true (class_of (get_or d 9 0)) 4 D.0) in
+    let nine : drop 9 d ≡ 0x2D ∷ drop 10 d = drop-cons d 9 0 (omega arith) ∙ ap (λ (c : ℕ). c ∷ drop 10 d) y in
+    let five : drop 5 d ≡ end_part d ++ (0x2D ∷ drop 10 d) =
     sym (take-append-drop 4 (drop 5 d)) ∙ ap (λ (l : List ℕ). end_part d ++ l) (drop-drop 4 5 d ∙ nine) in
-    let four : drop 4 d ≡ 0x2_d ∷ (end_part d ++ (0x2_d ∷ drop 10 d)) =
-    drop-cons d 4 0 (omega arith) ∙ ap (λ (c : ℕ). c ∷ drop 5 d) x ∙ ap (λ (l : List ℕ). 0x2_d ∷ l) five in
+    let four : drop 4 d ≡ 0x2D ∷ (end_part d ++ (0x2D ∷ drop 10 d)) =
+    drop-cons d 4 0 (omega arith) ∙ ap (λ (c : ℕ). c ∷ drop 5 d) x ∙ ap (λ (l : List ℕ). 0x2D ∷ l) five in
     rw (word_read (start_part d) A.0, word_read (end_part d) C.0, id-read (id_part d) D.1)
     (sym (take-append-drop 4 d) ∙ ap (λ (l : List ℕ). start_part d ++ l) four)
 
@@ -179,7 +179,7 @@ built-reads t n range id e =
     let m : n - 10 ≡ length b = omega (arith, N.place) in
     let path : take (n - 10) p ≡ b = ap (λ (i : ℕ). take i p) m ∙ before-last-take p in
     let made = (new-valid (hex_value (start_part d)) (hex_value (end_part d)) range N.ends).made in
-    let behind : p ≡ b ++ (0x2_f ∷ d) = last-split p N.slash ∙ ap (λ (i : ℕ). b ++ (0x2_f ∷ drop i p)) (sym (add-one (length b))) in
+    let behind : p ≡ b ++ (0x2F ∷ d) = last-split p N.slash ∙ ap (λ (i : ℕ). b ++ (0x2F ∷ drop i p)) (sym (add-one (length b))) in
     rw (path, made, N.number)
     (starts-split segment_scheme t N.scheme
-    ∙ ap (λ (l : List ℕ). segment_scheme ++ l) (behind ∙ ap (λ (l : List ℕ). b ++ (0x2_f ∷ l)) (descriptor-split d N.descriptor)))
+    ∙ ap (λ (l : List ℕ). segment_scheme ++ l) (behind ∙ ap (λ (l : List ℕ). b ++ (0x2F ∷ l)) (descriptor-split d N.descriptor)))

@@ -213,13 +213,13 @@ module _ (id : ℕ) (s : List ℕ) (at e v : ℕ) (E : Ending id s at e v) where
 
 pub descriptor-pieces : (s : List ℕ) (at : ℕ) (range : KeyRange) (id : SegmentId) → at + 12 ≤ length s
     → same_bytes (drop at s) (descriptor range id)
-    ≡ (same_bytes (take 5 (drop at s)) (0x2_f ∷ hex4 range.start)
-    && (same_bytes (take 5 (drop (at + 5) s)) (0x2_d ∷ hex4 range.end) && (eqb (get_or s (at + 10) 0) 0x2_d && same_bytes (drop (at + 11) s) (decimal id.0))))
+    ≡ (same_bytes (take 5 (drop at s)) (0x2F ∷ hex4 range.start)
+    && (same_bytes (take 5 (drop (at + 5) s)) (0x2D ∷ hex4 range.end) && (eqb (get_or s (at + 10) 0) 0x2D && same_bytes (drop (at + 11) s) (decimal id.0))))
 unfolding descriptor starts_with same_bytes hex4
 descriptor-pieces s at range id h =
-    let A : List ℕ = 0x2_f ∷ hex4 range.start in
-    let B : List ℕ = 0x2_d ∷ hex4 range.end in
-    let D : List ℕ = 0x2_d ∷ decimal id.0 in
+    let A : List ℕ = 0x2F ∷ hex4 range.start in
+    let B : List ℕ = 0x2D ∷ hex4 range.end in
+    let D : List ℕ = 0x2D ∷ decimal id.0 in
     let e : suc (at + 10) ≡ at + 11 = omega arith in
     let n : at + 5 + 5 ≡ at + 10 = omega arith in
     let t : drop 5 (drop (at + 5) s) ≡ get_or s (at + 10) 0 ∷ drop (at + 11) s =
@@ -233,29 +233,29 @@ descriptor-pieces s at range id h =
 -- ---- the scheme, and texts that are too short
 
 module _ (text : List ℕ) where
-  pub scheme-other : (be_at 8 text 0 ≡ 0x7365676_d656_e743_a → ⊥) → starts_with segment_scheme text ≡ false
+  pub scheme-other : (be_at 8 text 0 ≡ 0x7365676D656E743A → ⊥) → starts_with segment_scheme text ≡ false
   unfolding starts_with be be_from
   scheme-other e =
       same-part (take 8) (take 10 text) segment_scheme
-      (rw (take-take 8 10 text (omega arith)) (word-other 8 0x7365676_d656_e743_a 0 text (take 8 segment_scheme) refl e))
+      (rw (take-take 8 10 text (omega arith)) (word-other 8 0x7365676D656E743A 0 text (take 8 segment_scheme) refl e))
 
-  pub scheme-word : 10 ≤ length text → Bytes text → be_at 8 text 0 ≡ 0x7365676_d656_e743_a
-      → eqb (be_at 2 text 8) 0x2_f2_f ≡ starts_with segment_scheme text
+  pub scheme-word : 10 ≤ length text → Bytes text → be_at 8 text 0 ≡ 0x7365676D656E743A
+      → eqb (be_at 2 text 8) 0x2F2F ≡ starts_with segment_scheme text
   unfolding starts_with be be_from bytes_of
-  scheme-word h b e = go (ℕ_discrete (be_at 2 text 8) 0x2_f2_f)
+  scheme-word h b e = go (ℕ_discrete (be_at 2 text 8) 0x2F2F)
     where
-      go : Dec (be_at 2 text 8 ≡ 0x2_f2_f) → eqb (be_at 2 text 8) 0x2_f2_f ≡ starts_with segment_scheme text
+      go : Dec (be_at 2 text 8 ≡ 0x2F2F) → eqb (be_at 2 text 8) 0x2F2F ≡ starts_with segment_scheme text
       go (yes k) =
-          let p : take 8 text ≡ take 8 segment_scheme = same-eq _ _ (word_same 8 0x7365676_d656_e743_a 0 text (take 8 segment_scheme) (omega arith) b refl e) in
-          let q : take 2 (drop 8 text) ≡ drop 8 segment_scheme = same-eq _ _ (word_same 2 0x2_f2_f 8 text (drop 8 segment_scheme) (omega arith) b refl k) in
+          let p : take 8 text ≡ take 8 segment_scheme = same-eq _ _ (word_same 8 0x7365676D656E743A 0 text (take 8 segment_scheme) (omega arith) b refl e) in
+          let q : take 2 (drop 8 text) ≡ drop 8 segment_scheme = same-eq _ _ (word_same 2 0x2F2F 8 text (drop 8 segment_scheme) (omega arith) b refl k) in
           let t : take 10 text ≡ segment_scheme = take-add 8 2 text ∙ rw (p, q) in
-          eq-eqb (be_at 2 text 8) 0x2_f2_f k ∙ sym (rw t (same_refl segment_scheme))
+          eq-eqb (be_at 2 text 8) 0x2F2F k ∙ sym (rw t (same_refl segment_scheme))
       go (no k) =
           let t : take 2 (drop 8 (take 10 text)) ≡ take 2 (drop 8 text) = ap (take 2) (drop-take 8 2 text) ∙ take-take 2 2 (drop 8 text) (omega arith) in
-          ne_eqb (be_at 2 text 8) 0x2_f2_f k
+          ne_eqb (be_at 2 text 8) 0x2F2F k
           ∙ sym
           (same-part (λ (l : List ℕ). take 2 (drop 8 l)) (take 10 text) segment_scheme
-          (rw t (word-other 2 0x2_f2_f 8 text (drop 8 segment_scheme) refl k)))
+          (rw t (word-other 2 0x2F2F 8 text (drop 8 segment_scheme) refl k)))
 
   pub name-short : (path : List ℕ) (range : KeyRange) (id : SegmentId) → length text < 22 + length path
       → same_bytes text (segment_topic path range id) ≡ false

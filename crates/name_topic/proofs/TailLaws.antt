@@ -113,23 +113,23 @@ drop-put-at o at A h = drop_at (take at o) (A ++ drop (at + length A) o) at (len
 
 -- the id, then two words and a mark right before it
 pub descriptor-is : (range : KeyRange) (id : SegmentId) (t : Tail) (at : ℕ) (a b : List ℕ) → DecimalIs id.0 t → at + 11 ≡ t.from
-    → a ≡ put t.bytes at (0x2_f ∷ hex4 range.start) → b ≡ put a (at + 5) (0x2_d ∷ hex4 range.end)
-    → DescriptorIs range id (record { bytes = set b (at + 10) 0x2_d; from = at })
+    → a ≡ put t.bytes at (0x2F ∷ hex4 range.start) → b ≡ put a (at + 5) (0x2D ∷ hex4 range.end)
+    → DescriptorIs range id (record { bytes = set b (at + 10) 0x2D; from = at })
 unfolding descriptor
 descriptor-is range id t at a b D f ea eb =
     let o : List ℕ = t.bytes in
-    let A : List ℕ = 0x2_f ∷ hex4 range.start in
-    let B : List ℕ = 0x2_d ∷ hex4 range.end in
-    let W : List ℕ = (A ++ B) ++ (0x2_d ∷ []) in
+    let A : List ℕ = 0x2F ∷ hex4 range.start in
+    let B : List ℕ = 0x2D ∷ hex4 range.end in
+    let W : List ℕ = (A ++ B) ++ (0x2D ∷ []) in
     let la : length A ≡ 5 = ap suc (hex4-length range.start) in
     let lb : length B ≡ 5 = ap suc (hex4-length range.end) in
     let lab : length (A ++ B) ≡ 10 = length-append A B ∙ omega arith in
-    let lw : length W ≡ 11 = length-append (A ++ B) (0x2_d ∷ []) ∙ omega arith in
+    let lw : length W ≡ 11 = length-append (A ++ B) (0x2D ∷ []) ∙ omega arith in
     let lo : length o ≡ 32 = D.room.long in
     let high : t.from ≤ 32 = D.room.high in
-    let e : set b (at + 10) 0x2_d ≡ put o at W =
-    ap (λ (l : List ℕ). set l (at + 10) 0x2_d) (eb ∙ ap (λ (l : List ℕ). put l (at + 5) B) ea ∙ ap (λ (n : ℕ). put (put o at A) (at + n) B) (sym la) ∙ put-after o at A B (omega arith))
-    ∙ put-snoc o at 10 (A ++ B) 0x2_d lab (omega arith) in
+    let e : set b (at + 10) 0x2D ≡ put o at W =
+    ap (λ (l : List ℕ). set l (at + 10) 0x2D) (eb ∙ ap (λ (l : List ℕ). put l (at + 5) B) ea ∙ ap (λ (n : ℕ). put (put o at A) (at + n) B) (sym la) ∙ put-after o at A B (omega arith))
+    ∙ put-snoc o at 10 (A ++ B) 0x2D lab (omega arith) in
     let g : at + length W ≡ t.from = omega arith in
     record {
       room = record { low = omega arith; high = omega arith; long = ap length e ∙ length-put o at W (omega arith) ∙ lo };

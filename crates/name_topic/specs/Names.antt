@@ -7,7 +7,7 @@ use Rattle.topic_types.specs.declared.SegmentId.{SegmentId}
 
 -- "segment://"
 abbrev pub segment_scheme : List ℕ
-segment_scheme = 0x73 ∷ 0x65 ∷ 0x67 ∷ 0x6_d ∷ 0x65 ∷ 0x6_e ∷ 0x74 ∷ 0x3_a ∷ 0x2_f ∷ 0x2_f ∷ []
+segment_scheme = 0x73 ∷ 0x65 ∷ 0x67 ∷ 0x6D ∷ 0x65 ∷ 0x6E ∷ 0x74 ∷ 0x3A ∷ 0x2F ∷ 0x2F ∷ []
 
 -- its bytes
 abbrev pub segment_scheme_size : ℕ
@@ -31,7 +31,7 @@ decimal v = decimal_within 20 v
 
 -- what follows the path
 unfoldable pub descriptor : KeyRange → SegmentId → List ℕ
-descriptor range id = 0x2_f ∷ (hex4 range.start ++ (0x2_d ∷ (hex4 range.end ++ (0x2_d ∷ decimal id.0))))
+descriptor range id = 0x2F ∷ (hex4 range.start ++ (0x2D ∷ (hex4 range.end ++ (0x2D ∷ decimal id.0))))
 
 -- the name of the segment with that range and id below the path
 unfoldable pub segment_topic : List ℕ → KeyRange → SegmentId → List ℕ

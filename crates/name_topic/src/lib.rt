@@ -17,7 +17,7 @@ use topic_types::{KeyRange, RangeResult, SegmentId};
 // "segment:" and "//" as numbers of 8 and of 2 bytes.
 const SEGMENT_COLON: u64 = 0x7365_676D_656E_743A;
 
-const TWO_SLASHES: u16 = 0x2_f2_f;
+const TWO_SLASHES: u16 = 0x2F2F;
 
 // The bytes of "segment://", before the path in a segment's name.
 pub const SCHEME: usize = 10;

@@ -29,7 +29,7 @@ pub record Documented : Type 0 where
   pub map-before : BTreeMap-get number-cmp 37 map ≡ some (0x62 ∷ [])
   pub map-after : BTreeMap-get number-cmp 37 (BTreeMap-insert number-cmp 37 (0x63 ∷ []) map) ≡ some (0x63 ∷ [])
   -- u64::from_str: assert_eq!(u64::from_str("+10"), Ok(10)); assert!(u64::from_str("1 ").is_err());
-  pub parse-sign : parse-u64 (0x2_b ∷ 0x31 ∷ 0x30 ∷ []) ≡ some 10
+  pub parse-sign : parse-u64 (0x2B ∷ 0x31 ∷ 0x30 ∷ []) ≡ some 10
   pub parse-space : parse-u64 (0x31 ∷ 0x20 ∷ []) ≡ none
   -- from_str_radix: assert_eq!(u32::from_str_radix("A", 16), Ok(10));
   pub radix-letter : u32-from-str-radix 16 (0x41 ∷ []) ≡ some 10
@@ -38,9 +38,9 @@ pub record Documented : Type 0 where
   -- LowerHex: assert_eq!(format!("{y:x}"), "2a") of 42
   pub hex : lower-hex 42 ≡ 0x32 ∷ 0x61 ∷ []
   -- no example there: the limits of u64, a sign alone, {:04x} of 255 and 65,536, and a prefix
-  pub parse-largest : parse-u64 (display 0x_ffffffffffffffff) ≡ some 0x_ffffffffffffffff
+  pub parse-largest : parse-u64 (display 0xFFFFFFFFFFFFFFFF) ≡ some 0xFFFFFFFFFFFFFFFF
   pub parse-larger : parse-u64 (display 0x10000000000000000) ≡ none
-  pub sign-alone : parse-u64 (0x2_b ∷ []) ≡ none
+  pub sign-alone : parse-u64 (0x2B ∷ []) ≡ none
   pub hex-4 : lower-hex-4 255 ≡ 0x30 ∷ 0x30 ∷ 0x66 ∷ 0x66 ∷ []
   pub hex-5 : lower-hex-4 65536 ≡ 0x31 ∷ 0x30 ∷ 0x30 ∷ 0x30 ∷ 0x30 ∷ []
   pub prefix-less : str-cmp (0x61 ∷ []) (0x61 ∷ 0x62 ∷ []) ≡ Less

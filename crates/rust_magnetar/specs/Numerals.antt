@@ -44,8 +44,8 @@ and_then (some a) f = f a
 abbrev pub digit_value : ℕ → ℕ
 digit_value b =
     cond (nat_le 0x30 b && nat_le b 0x39) (b - 0x30)
-    (cond (nat_le 0x61 b && nat_le b 0x7_a) (b - 0x57)
-    (cond (nat_le 0x41 b && nat_le b 0x5_a) (b - 0x37)
+    (cond (nat_le 0x61 b && nat_le b 0x7A) (b - 0x57)
+    (cond (nat_le 0x41 b && nat_le b 0x5A) (b - 0x37)
     36))
 
 abbrev pub to-digit : ℕ → ℕ → Option ℕ
@@ -64,7 +64,7 @@ digits_number radix (b ∷ s) = digits-behind radix 0 (b ∷ s)
 -- "an optional + sign followed by only digits"
 abbrev pub without_sign : Text → Text
 without_sign [] = []
-without_sign (b ∷ s) = cond (b == 0x2_b) s (b ∷ s)
+without_sign (b ∷ s) = cond (b == 0x2B) s (b ∷ s)
 
 -- from_str_radix(s, radix).ok() of an unsigned type with so many values
 abbrev pub from-str-radix : (values radix : ℕ) → Text → Option ℕ

@@ -59,33 +59,33 @@ hex-choice false u v w x y = rw digit-choice (letter-choice u v w x y)
 module _ (b : ℕ) where
   pub digit-test : is_digit_byte b ≡ is_ascii_digit b
   unfolding class_of
-  digit-test = digit-choice (between 0x30 0x39 b) (between 0x61 0x66 b) (eqb b 0x2_f) (eqb b 0x2_d) (eqb b 0x3_f) (eqb b 0x23)
+  digit-test = digit-choice (between 0x30 0x39 b) (between 0x61 0x66 b) (eqb b 0x2F) (eqb b 0x2D) (eqb b 0x3F) (eqb b 0x23)
 
   pub hex-test : is_hex_digit b ≡ is-hex-byte b
   unfolding class_of
-  hex-test = hex-choice (between 0x30 0x39 b) (between 0x61 0x66 b) (eqb b 0x2_f) (eqb b 0x2_d) (eqb b 0x3_f) (eqb b 0x23)
+  hex-test = hex-choice (between 0x30 0x39 b) (between 0x61 0x66 b) (eqb b 0x2F) (eqb b 0x2D) (eqb b 0x3F) (eqb b 0x23)
 
   pub slash-test : is_slash b ≡ eqb b slash
   unfolding class_of
-  slash-test = go (eqb b 0x2_f) refl
+  slash-test = go (eqb b 0x2F) refl
     where
-      go : (v : Bool) → eqb b 0x2_f ≡ v → is_slash b ≡ v
-      go true e = rw (eqb-true b 0x2_f e)
-      go false e = rw e (no-slash-choice (between 0x30 0x39 b) (between 0x61 0x66 b) (eqb b 0x2_d) (eqb b 0x3_f) (eqb b 0x23))
+      go : (v : Bool) → eqb b 0x2F ≡ v → is_slash b ≡ v
+      go true e = rw (eqb-true b 0x2F e)
+      go false e = rw e (no-slash-choice (between 0x30 0x39 b) (between 0x61 0x66 b) (eqb b 0x2D) (eqb b 0x3F) (eqb b 0x23))
 
   pub dash-test : is_dash b ≡ eqb b dash
   unfolding class_of
-  dash-test = go (eqb b 0x2_d) refl
+  dash-test = go (eqb b 0x2D) refl
     where
-      go : (w : Bool) → eqb b 0x2_d ≡ w → is_dash b ≡ w
-      go true e = rw (eqb-true b 0x2_d e)
-      go false e = rw e (no-dash-choice (between 0x30 0x39 b) (between 0x61 0x66 b) (eqb b 0x2_f) (eqb b 0x3_f) (eqb b 0x23))
+      go : (w : Bool) → eqb b 0x2D ≡ w → is_dash b ≡ w
+      go true e = rw (eqb-true b 0x2D e)
+      go false e = rw e (no-dash-choice (between 0x30 0x39 b) (between 0x61 0x66 b) (eqb b 0x2F) (eqb b 0x3F) (eqb b 0x23))
 
   pub mark-test : is_mark b ≡ (eqb b question || eqb b hash)
   unfolding class_of
-  mark-test = go (eqb b 0x3_f) refl (eqb b 0x23) refl
+  mark-test = go (eqb b 0x3F) refl (eqb b 0x23) refl
     where
-      go : (x : Bool) → eqb b 0x3_f ≡ x → (y : Bool) → eqb b 0x23 ≡ y → is_mark b ≡ (x || y)
-      go true e y f = rw (eqb-true b 0x3_f e)
+      go : (x : Bool) → eqb b 0x3F ≡ x → (y : Bool) → eqb b 0x23 ≡ y → is_mark b ≡ (x || y)
+      go true e y f = rw (eqb-true b 0x3F e)
       go false e true f = rw (eqb-true b 0x23 f)
-      go false e false f = rw (e, f) (no-mark-choice (between 0x30 0x39 b) (between 0x61 0x66 b) (eqb b 0x2_f) (eqb b 0x2_d))
+      go false e false f = rw (e, f) (no-mark-choice (between 0x30 0x39 b) (between 0x61 0x66 b) (eqb b 0x2F) (eqb b 0x2D))

@@ -101,7 +101,7 @@ module _ (v : ℕ) where
 
 -- bytes that pass the test are digits of that value, and '+' does not pass it
 module _ (radix : ℕ) (test : ℕ → Bool) (value : ℕ → ℕ) (is : (b : ℕ) → test b ≡ true → to-digit radix b ≡ some (value b))
-    (sign : test 0x2_b ≡ false) where
+    (sign : test 0x2B ≡ false) where
   behind-agrees : (a : ℕ) (s : Text) → every test s ≡ true → digits-behind radix a s ≡ some (value_from radix value a s)
   unfolding every value_from
   behind-agrees a [] e = refl
@@ -115,7 +115,7 @@ module _ (radix : ℕ) (test : ℕ → Bool) (value : ℕ → ℕ) (is : (b : �
   number-agrees values [] h e = absurd (omega arith)
   number-agrees values (b ∷ s) h e =
       let p = both_true (test b) (every test s) e in
-      let n : eqb b 0x2_b ≡ false = ne_eqb b 0x2_b (λ q. true≢false (sym p.0 ∙ ap test q ∙ sign)) in
+      let n : eqb b 0x2B ≡ false = ne_eqb b 0x2B (λ q. true≢false (sym p.0 ∙ ap test q ∙ sign)) in
       rw n (ap (λ (o : Option ℕ). and_then o (λ number. cond (ltb number values) (some number) none)) (behind-agrees 0 (b ∷ s) e))
 
 digit-is : (b : ℕ) → is_digit_byte b ≡ true → to-digit 10 b ≡ some (digit_value b)
@@ -133,7 +133,7 @@ hex-is b = go (eqb (class_of b) 1) refl (eqb (class_of b) 2) refl
         rw (le-leb 0x30 b k.0, le-leb b 0x39 k.1, lt-ltb (b - 0x30) 16 (omega arith))
     go false p true q e =
         let k = letter-bounds b (eqb-true (class_of b) 2 q) in
-        rw (lt-leb b 0x39 (omega arith), and-false, le-leb 0x61 b k.0, le-leb b 0x7_a (omega arith), lt-ltb (b - 0x57) 16 (omega arith))
+        rw (lt-leb b 0x39 (omega arith), and-false, le-leb 0x61 b k.0, le-leb b 0x7A (omega arith), lt-ltb (b - 0x57) 16 (omega arith))
     go false p false q e = absurd (true≢false (sym e))
 
 pub decimal-number : (values : ℕ) (s : Text) → 0 < length s → all_digits s ≡ true

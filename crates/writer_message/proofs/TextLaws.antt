@@ -116,10 +116,10 @@ digits-ascii (suc k) v =
 descriptor-ascii : (r : KeyRange) (id : SegmentId) → Each Ascii (descriptor r id)
 unfolding descriptor decimal
 descriptor-ascii r id =
-    let number : List ℕ = 0x2_d ∷ decimal id.0 in
+    let number : List ℕ = 0x2D ∷ decimal id.0 in
     let end : Each Ascii (hex4 r.end ++ number) =
     each_append Ascii (hex4 r.end) number (hex4-ascii r.end) (omega arith, digits-ascii 20 id.0) in
-    (omega arith, each_append Ascii (hex4 r.start) (0x2_d ∷ (hex4 r.end ++ number)) (hex4-ascii r.start) (omega arith, end))
+    (omega arith, each_append Ascii (hex4 r.start) (0x2D ∷ (hex4 r.end ++ number)) (hex4-ascii r.start) (omega arith, end))
 
 -- ---- the name of a segment
 

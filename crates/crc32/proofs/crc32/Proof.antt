@@ -10,7 +10,7 @@ use Rattle.crc32.proofs.crc32.Tie as tie
 
 returns : tie.Need-returns
 unfolding xor crc32
-returns c = ap (λ (n : ℕ). xor n 0x_ffffffff) c.updates.ensures
+returns c = ap (λ (n : ℕ). xor n 0xFFFFFFFF) c.updates.ensures
 
 pub crc32-spec : {M : Type 1} → statement M
 crc32-spec = tie.close (tie.spec (λ c κs. search rules) (λ c κs. c.before.steps-table.ensures) returns)

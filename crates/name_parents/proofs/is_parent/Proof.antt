@@ -18,7 +18,7 @@ unfolding starts_with bytes_of
 scheme c =
     let k = c.before.before.before in
     let s = k.before.args.s.now in
-    word_same 8 0x746_f7069633_a2_f2_f 0 s topic_scheme (omega arith) (λ i. (k.shared-slice-known.given i).fits) refl (sym c.before.read_u64.ensures ∙ c.if2.false)
+    word_same 8 0x746F7069633A2F2F 0 s topic_scheme (omega arith) (λ i. (k.shared-slice-known.given i).fits) refl (sym c.before.read_u64.ensures ∙ c.if2.false)
 
 returns : tie.Need-returns
 returns c = let s = c.before.before.args.s.now in sym (parent-not s (starts-short topic_scheme s (omega arith)))
@@ -28,7 +28,7 @@ unfolding starts_with be be_from
 returns-2 c =
     let s = c.before.before.before.before.args.s.now in
     let word = c.before.read_u64.ensures in
-    sym (parent-not s (word-other 8 0x746_f7069633_a2_f2_f 0 s topic_scheme refl (λ e. c.if2.true (word ∙ e))))
+    sym (parent-not s (word-other 8 0x746F7069633A2F2F 0 s topic_scheme refl (λ e. c.if2.true (word ∙ e))))
 
 returns-3 : tie.Need-returns-3
 returns-3 c = c.is-path-from.ensures ∙ sym (parent_is c.before.before.before.before.before.args.s.now (scheme c.before))

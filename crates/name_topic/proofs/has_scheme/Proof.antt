@@ -17,7 +17,7 @@ returns-2 c =
     let e = c.before in
     let k = e.before.before in
     let word = sym e.before.read_u64.ensures ∙ e.if1.false in
-    ap (λ n. eqb n 0x2_f2_f) c.read-u16.ensures
+    ap (λ n. eqb n 0x2F2F) c.read-u16.ensures
     ∙ scheme-word k.before.args.text.now k.before.requires (λ i. (k.shared-slice-known.given i).fits) word
 
 pub has-scheme-spec : {M : Type 1} → statement M

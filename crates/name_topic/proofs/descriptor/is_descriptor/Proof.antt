@@ -15,12 +15,12 @@ use Rattle.name_topic.proofs.descriptor.is_descriptor.Tie as tie
 
 first : (c : tie.Else1) →
     let a = c.before.before.before.args in
-    same_bytes (take 5 (drop a.at a.s.now)) (0x2_f ∷ hex4 a.range.start) ≡ true
+    same_bytes (take 5 (drop a.at a.s.now)) (0x2F ∷ hex4 a.range.start) ≡ true
 first c = sym c.before.is_IsWord.ensures ∙ not-false _ c.if1.false
 
 second : (c : tie.Else2) →
     let a = c.before.before.before.before.before.args in
-    same_bytes (take 5 (drop (a.at + 5) a.s.now)) (0x2_d ∷ hex4 a.range.end) ≡ true
+    same_bytes (take 5 (drop (a.at + 5) a.s.now)) (0x2D ∷ hex4 a.range.end) ≡ true
 second c = sym c.before.is-word2.ensures ∙ not-false _ c.if2.false
 
 returns : tie.Need-returns
@@ -46,7 +46,7 @@ returns-3 c =
     let a = s.args in
     sym
     (descriptor-pieces a.s.now a.at a.range a.id s.requires
-    ∙ rw (first e, second f, ne_eqb (get_or a.s.now (a.at + 10) 0) 0x2_d c.if3.true))
+    ∙ rw (first e, second f, ne_eqb (get_or a.s.now (a.at + 10) 0) 0x2D c.if3.true))
 
 returns-4 : tie.Need-returns-4
 returns-4 c =
@@ -57,7 +57,7 @@ returns-4 c =
     c.is-decimal.ensures
     ∙ sym
     (descriptor-pieces a.s.now a.at a.range a.id s.requires
-    ∙ rw (first e, second f, eq-eqb (get_or a.s.now (a.at + 10) 0) 0x2_d c.before.if3.false))
+    ∙ rw (first e, second f, eq-eqb (get_or a.s.now (a.at + 10) 0) 0x2D c.before.if3.false))
 
 pub is-descriptor-spec : {M : Type 1} → statement M
 is-descriptor-spec =
