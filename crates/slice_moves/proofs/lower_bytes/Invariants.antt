@@ -1,0 +1,11 @@
+-- `moves::lower_bytes` meets its contract. The invariant is `Lowered` of specs/Moved; the measure is what is left to move.
+-- Assumes nothing.
+use Prim.Native.Nat.{◌-◌}
+use Rattle.slice_moves.specs.Moved.{Lowered}
+use Rattle.slice_moves.proofs.lower_bytes.Given as goal
+
+abbrev pub invariant-loop-i : goal.invariant-loop-i
+invariant-loop-i l = Lowered l.initial.b l.from l.to l.z l.b l.i
+
+abbrev pub decreases-loop-i : goal.decreases-loop-i
+decreases-loop-i l = l.z - l.i

@@ -1,0 +1,14 @@
+-- `moves::move_down` meets its contract: the bytes that the blocks leave are moved next (proofs/MoveLaws).
+-- Assumes nothing.
+use mathlib.Core.Path.{◌∙◌}
+use Rattle.slice_moves.proofs.MoveLaws.{down-rest}
+use Rattle.slice_moves.proofs.move_down.Goals as goal
+
+pub returns : goal.returns
+returns c =
+    let m = c in
+    let w = m in
+    let s = w in
+    let a = s.args in
+    m.lower_rest.ensures
+    ∙ down-rest a.b.now a.from a.to a.z w.lower_blocks-i.new.b w.lower_blocks-i.result w.lower_blocks-i.ensures s.requires.0 s.requires.1

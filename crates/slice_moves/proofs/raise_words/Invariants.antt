@@ -1,0 +1,11 @@
+-- `moves::raise_words` meets its contract. The invariant is what it ensures, and that the elements are bytes; the measure is the place that is reached.
+-- Assumes nothing.
+use Rattle.slice.proofs.PartLaws.{Bytes}
+use Rattle.slice_moves.specs.Moved.{Raised}
+use Rattle.slice_moves.proofs.raise_words.Given as goal
+
+abbrev pub invariant-loop-i : goal.invariant-loop-i
+invariant-loop-i l = Raised l.initial.b l.from l.to l.z l.b l.i × Bytes l.b
+
+abbrev pub decreases-loop-i : goal.decreases-loop-i
+decreases-loop-i l = l.i
