@@ -7,7 +7,7 @@ use refusal::Refusal;
 // The bytes of an entry.
 pub const ENTRY: usize = 9;
 
-#[derive(Drop)]
+#[derive(Clone, Copy)]
 pub enum LogAnswer {
     // Whether the log passes.
     Answered(bool),
@@ -15,7 +15,7 @@ pub enum LogAnswer {
 }
 
 // A segment detached or attached, by its id.
-#[derive(Drop)]
+#[derive(Clone, Copy)]
 pub enum Entry {
     Detach(u64),
     Attach(u64),

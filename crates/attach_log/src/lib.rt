@@ -19,7 +19,7 @@ use packed_delta::FrontRead;
 use refusal::Refusal;
 
 // Ids loaded into a row: how many, and the place behind them.
-#[derive(Drop)]
+#[derive(Clone, Copy)]
 struct Loaded {
     count: usize,
     next: usize,

@@ -17,7 +17,7 @@ use topic_types::KeyRange;
 // below it.
 pub const DIVISOR: u64 = 235929600;
 
-#[derive(Drop)]
+#[derive(Clone, Copy)]
 pub enum ChargeAnswer {
     // The charge in millionths of a euro, and the remainder for the segment's next holding.
     Charged(u64, u64),
@@ -25,7 +25,7 @@ pub enum ChargeAnswer {
 }
 
 // What a lent record holds.
-#[derive(Drop)]
+#[derive(Clone, Copy)]
 pub enum Holds {
     // So many values of the key space.
     Values(u64),
@@ -33,7 +33,7 @@ pub enum Holds {
 }
 
 // A product, where 64 bits hold it.
-#[derive(Drop)]
+#[derive(Clone, Copy)]
 pub enum Product {
     Fits(u64),
     TooLarge,

@@ -22,7 +22,7 @@ mod watch_calls;
 
 // A part of a message.
 #[repr(C)]
-#[derive(Drop)]
+#[derive(Clone, Copy)]
 pub struct Part {
     pub start: usize,
     pub length: usize,

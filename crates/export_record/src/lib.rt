@@ -11,7 +11,7 @@ use topic_types::ControllerIncarnation;
 
 // A session's record. A flag is any byte: 0 says no, all others yes; a call writes 1 or 0.
 #[repr(C)]
-#[derive(Drop)]
+#[derive(Clone, Copy)]
 pub struct Record {
     pub consumer_id: u64,
     pub incarnation: u64,
@@ -26,7 +26,7 @@ pub struct Record {
 
 // What a call of a session gives: the record as it is then, and the answer.
 #[repr(C)]
-#[derive(Drop)]
+#[derive(Clone, Copy)]
 pub struct SessionReply {
     pub state: Record,
     pub reply: Reply,

@@ -29,7 +29,7 @@ pub const FOUND: u8 = 8;
 // Which answer it is, the specification's number of a refusal (0: none), and how many values come with it. A value that may be negative is a word in two's
 // complement.
 #[repr(C)]
-#[derive(Drop)]
+#[derive(Clone, Copy)]
 pub struct Reply {
     pub answer: u8,
     pub number: u8,

@@ -27,14 +27,14 @@ const SPAN: usize = 16;
 // Stands for none: no term holds it, since ends are outside.
 const LARGEST: u64 = u64::MAX;
 
-#[derive(Drop)]
+#[derive(Clone, Copy)]
 pub enum OpenAnswer {
     // Whether the second is open.
     Answered(bool),
     Refused(Refusal),
 }
 
-#[derive(Drop)]
+#[derive(Clone, Copy)]
 pub enum EarliestAnswer {
     At(u64),
     // No second from the one given on is open.
@@ -43,14 +43,14 @@ pub enum EarliestAnswer {
 }
 
 // A term or a weekly window: the start is inside, the end is outside.
-#[derive(Drop)]
+#[derive(Clone, Copy)]
 pub struct Span {
     pub start: u64,
     pub end: u64,
 }
 
 // What bytes are.
-#[derive(Drop)]
+#[derive(Clone, Copy)]
 pub enum Shape {
     // A contract: how many terms and how many windows it has.
     Counts(usize, usize),

@@ -17,7 +17,7 @@ use topic_types::KeyRange;
 use wire_values::PartStep;
 
 // As many ranges as a segment of a packed assignment can have, the place in the segment's bytes behind them.
-#[derive(Drop)]
+#[derive(Clone, Copy)]
 pub struct Loaded {
     pub row: [KeyRange; ROW],
     pub count: usize,

@@ -2,7 +2,7 @@
 #![tactic(auto)]
 
 // The first bucket range of a segment that lies not wholly inside the segment's own, of a message as of a packed list.
-#[derive(Drop)]
+#[derive(Clone, Copy)]
 pub enum Outside {
     // Its place among the segment's buckets.
     At(usize),

@@ -20,7 +20,7 @@ use topic_types::{KeyRange, SegmentId};
 use wire_ordered::{NumberAt, Part};
 
 // The buckets of a segment.
-#[derive(Drop)]
+#[derive(Clone, Copy)]
 enum Buckets {
     // All are taken: the place behind them, and whether they rise.
     All(usize, bool),
@@ -28,7 +28,7 @@ enum Buckets {
 }
 
 // What stands before a segment's buckets.
-#[derive(Drop)]
+#[derive(Clone, Copy)]
 enum Head {
     // Its id, its range's start and end, and where its topic starts and ends.
     Found(u64, u64, u64, usize, usize),
@@ -36,7 +36,7 @@ enum Head {
 }
 
 // One segment.
-#[derive(Drop)]
+#[derive(Clone, Copy)]
 enum Segment {
     // It is taken: its id, and the place behind its record.
     Taken(u64, usize),
@@ -44,7 +44,7 @@ enum Segment {
 }
 
 // The segments of an assignment.
-#[derive(Drop)]
+#[derive(Clone, Copy)]
 enum Segments {
     // All are taken: how many there are, the place behind their records, and whether their ids rise.
     All(usize, usize, bool),
@@ -52,7 +52,7 @@ enum Segments {
 }
 
 // What is told of an assignment.
-#[derive(Drop)]
+#[derive(Clone, Copy)]
 pub enum OrderedIntake {
     // It is valid: its epoch, and the packed assignment's size.
     Taken(u64, usize),

@@ -16,7 +16,7 @@ pub const MAX_HASH: u64 = topic_types::MAX_HASH as u64;
 const WIDE: usize = 10;
 
 // A range that a part is.
-#[derive(Drop)]
+#[derive(Clone, Copy)]
 enum RangeIn {
     // Its start and its end.
     Found(u64, u64),
@@ -24,7 +24,7 @@ enum RangeIn {
 }
 
 // A bucket of a segment.
-#[derive(Drop)]
+#[derive(Clone, Copy)]
 pub enum Bucket {
     // Its start and its end, and the place behind its field.
     Found(u64, u64, usize),

@@ -17,7 +17,7 @@ use wire_readers::{IntRange, SegmentHead};
 use wire_values::Front;
 
 // What is known of the buckets so far.
-#[derive(Drop)]
+#[derive(Clone, Copy)]
 pub struct BucketRun {
     // None has failed.
     pub valid: bool,
@@ -31,7 +31,7 @@ pub struct BucketRun {
     pub rising: bool,
 }
 
-#[derive(Drop)]
+#[derive(Clone, Copy)]
 pub struct SegmentScan {
     pub head: SegmentHead,
     pub run: BucketRun,

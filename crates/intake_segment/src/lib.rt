@@ -18,7 +18,7 @@ use refusal::Refusal;
 use topic_types::{KeyRange, RangeResult, SegmentId};
 use wire_readers::SegmentHead;
 
-#[derive(Drop)]
+#[derive(Clone, Copy)]
 pub enum Verdict {
     Accepted,
     Refused(Refusal),

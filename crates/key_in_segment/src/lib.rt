@@ -18,14 +18,14 @@ use refusal::Refusal;
 use topic_types::{KeyRange, SegmentId};
 
 // The least of some values.
-#[derive(Drop)]
+#[derive(Clone, Copy)]
 pub enum Least {
     Value(u32),
     // There is none.
     NoValue,
 }
 
-#[derive(Drop)]
+#[derive(Clone, Copy)]
 pub enum KeyAnswer {
     Key(TestKey),
     // The id is not in the list, or the segment has buckets and none meets its range.

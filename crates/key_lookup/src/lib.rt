@@ -13,7 +13,7 @@ use topic_types::{KeyRange, SegmentId};
 // The most bytes of a key.
 pub const LONGEST_KEY: usize = 65535;
 
-#[derive(Drop)]
+#[derive(Clone, Copy)]
 pub enum SegmentAnswer {
     // The segment's id.
     Segment(SegmentId),

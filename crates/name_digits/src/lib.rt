@@ -7,7 +7,7 @@ ghost use Rattle.name_digits.specs.Digits.{hex_digit_of, hex_word, segment_id_of
 use name_parents::{DIGIT, HEX_LETTER, class_of};
 
 // What a part of a descriptor is.
-#[derive(Drop)]
+#[derive(Clone, Copy)]
 pub enum Number {
     Is(u64),
     None,

@@ -14,28 +14,28 @@ use refusal::Refusal;
 use topic_types::{KeyRange, RangeResult, SegmentId};
 
 // A segment as its name tells it.
-#[derive(Drop)]
+#[derive(Clone, Copy)]
 pub struct SegmentSource {
     pub segment_id: SegmentId,
     pub key_range: KeyRange,
 }
 
 // What the reader of a segment's name answers.
-#[derive(Drop)]
+#[derive(Clone, Copy)]
 pub enum SourceAnswer {
     Source(SegmentSource),
     Refused(Refusal),
 }
 
 // A name taken apart: the place where its path ends, its range and its id.
-#[derive(Drop)]
+#[derive(Clone, Copy)]
 pub enum Parsed {
     Name(usize, KeyRange, SegmentId),
     Refused(Refusal),
 }
 
 // Where the last '/' of a part stands.
-#[derive(Drop)]
+#[derive(Clone, Copy)]
 pub enum Slash {
     At(usize),
     Nothing,

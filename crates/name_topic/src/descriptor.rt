@@ -10,7 +10,7 @@ ghost use Rattle.name_topic.specs.Answers.{DecimalIs, DescriptorIs};
 use topic_types::{KeyRange, SegmentId};
 
 // The bytes of an array from a place on. A descriptor has at most 31.
-#[derive(Drop)]
+#[derive(Clone, Copy)]
 pub struct Tail {
     pub bytes: [u8; 32],
     pub from: usize,

@@ -23,7 +23,7 @@ const TWO_SLASHES: u16 = 0x2F2F;
 pub const SCHEME: usize = 10;
 
 // What a call that writes a name answers.
-#[derive(Drop)]
+#[derive(Clone, Copy)]
 pub enum NameAnswer {
     // The name stands at the front of the output and is this long.
     Written(usize),

@@ -3,7 +3,7 @@
 
 use refusal::Refusal;
 
-#[derive(Drop)]
+#[derive(Clone, Copy)]
 pub enum WriteAnswer {
     // The result stands at the front of the output and is this long.
     Written(usize),

@@ -43,7 +43,7 @@ const PLACES: u64 = 72057594054705152;
 const LESS: u64 = 72057589759737855;
 
 // What stands at a record's place.
-#[derive(Drop)]
+#[derive(Clone, Copy)]
 pub enum RecordRead {
     // Its id, and its size in bytes.
     Record(u64, usize),
@@ -51,7 +51,7 @@ pub enum RecordRead {
 }
 
 // What bytes are.
-#[derive(Drop)]
+#[derive(Clone, Copy)]
 pub enum Packed {
     // A packed assignment: its size in bytes, and how many segments it has.
     Assignment(usize, usize),

@@ -21,7 +21,7 @@ pub const LOST_COUNT: usize = 8;
 pub const GAINED_COUNT: usize = 10;
 
 // Where a row of records ends.
-#[derive(Drop)]
+#[derive(Clone, Copy)]
 enum RecordsTo {
     // The place behind them.
     End(usize),
@@ -29,7 +29,7 @@ enum RecordsTo {
 }
 
 // What stands at the front of bytes.
-#[derive(Drop)]
+#[derive(Clone, Copy)]
 pub enum FrontRead {
     // A delta: how many ids it loses, how many records it gains, and its size in bytes.
     Delta(usize, usize, usize),
@@ -37,7 +37,7 @@ pub enum FrontRead {
 }
 
 // What bytes are.
-#[derive(Drop)]
+#[derive(Clone, Copy)]
 pub enum DeltaRead {
     // A delta: how many ids it loses, and how many records it gains.
     Delta(usize, usize),

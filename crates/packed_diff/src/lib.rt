@@ -13,7 +13,7 @@ ghost use Rattle.packed_diff.specs.Merge.{merge_step, entries, entry_size, Merge
 pub const LONGEST: usize = 3210;
 
 // How a record stands to the other assignment's records from a place on.
-#[derive(Drop)]
+#[derive(Clone, Copy)]
 enum Step {
     // None of them is identical: the record is kept.
     Keep,
@@ -24,7 +24,7 @@ enum Step {
 }
 
 // How many records were kept, and the place behind what was written.
-#[derive(Drop)]
+#[derive(Clone, Copy)]
 struct Merged {
     count: usize,
     next: usize,

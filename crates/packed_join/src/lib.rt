@@ -17,7 +17,7 @@ use refusal::Refusal;
 const MAX_COUNT: usize = 65535;
 
 // The rows of a delta's lost ids and gained records.
-#[derive(Drop)]
+#[derive(Clone, Copy)]
 struct Rows {
     lost: Row,
     gained: Row,

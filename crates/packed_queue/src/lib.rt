@@ -7,7 +7,7 @@ ghost use Rattle.std.specs.Prelude.{◌≡◌, ◌≤◌, length, drop};
 ghost use Rattle.packed_queue.specs.Answers.{entry_size, entries_read};
 
 // What bytes are that should start with so many entries.
-#[derive(Drop)]
+#[derive(Clone, Copy)]
 pub enum Entries {
     // The place behind the last of them.
     End(usize),

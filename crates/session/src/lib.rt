@@ -10,14 +10,14 @@ use topic_types::ControllerIncarnation;
 pub const READERS: usize = 8;
 
 // The highest epoch that was accepted, kept over every link to the controller.
-#[derive(Drop)]
+#[derive(Clone, Copy)]
 pub enum Floor {
     Unset,
     At(u64),
 }
 
 // The session's own record.
-#[derive(Drop)]
+#[derive(Clone, Copy)]
 pub struct SessionRecord {
     pub consumer_id: u64,
     pub incarnation: ControllerIncarnation,
@@ -30,7 +30,7 @@ pub struct SessionRecord {
 }
 
 // What a call answers.
-#[derive(Drop)]
+#[derive(Clone, Copy)]
 pub enum Answer {
     // Record, store and output are as they were.
     Refused(Refusal),
@@ -45,14 +45,14 @@ pub enum Answer {
 }
 
 // What a call gives: the record as it is then, and the answer.
-#[derive(Drop)]
+#[derive(Clone, Copy)]
 pub struct Changed {
     pub next: SessionRecord,
     pub answer: Answer,
 }
 
 // What `matches_registration` answers.
-#[derive(Drop)]
+#[derive(Clone, Copy)]
 pub enum Match {
     Same,
     Other,

@@ -14,7 +14,7 @@ use session::{Answer, Changed, READERS, SessionRecord};
 use session_store::MIN_STORE;
 
 // What a walk over the queue reached: entry i begins at the byte place `at`, and the list before it lies in `before..until`.
-#[derive(Drop)]
+#[derive(Clone, Copy)]
 struct Reached {
     i: usize,
     at: usize,

@@ -18,7 +18,7 @@ use session_store::IDENTITY_HEAD;
 use wire_ordered::{NumberAt, Part};
 
 // What is told of a message.
-#[derive(Drop)]
+#[derive(Clone, Copy)]
 pub enum OrderedMessage {
     // It is valid, and nothing refuses its assignment: the number of its field 1, and the packed assignment's size.
     Taken(u64, usize),

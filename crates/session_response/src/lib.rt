@@ -29,7 +29,7 @@ use wire_messages::{Checked, MessageKind};
 use wire_readers::ErrorCode;
 
 // An epoch of the queue that lies below the one before it, both; or else where the last entry begins.
-#[derive(Drop)]
+#[derive(Clone, Copy)]
 enum Stale {
     Nowhere(usize),
     At(u64, u64),

@@ -41,7 +41,7 @@ pub const LIST: usize = 2;
 pub const MAX_QUEUE: usize = 1024;
 
 // What the test of a store answers.
-#[derive(Drop)]
+#[derive(Clone, Copy)]
 pub enum Tested {
     // Nothing in use is malformed, and the queue ends at this byte place.
     Sound(usize),

@@ -95,7 +95,7 @@ fn held(r: SessionRecord, store: &mut [u8], b: &[u8], n: usize, out: &mut [u8]) 
 }
 
 // Whom an update is for.
-#[derive(Drop)]
+#[derive(Clone, Copy)]
 enum Address {
     // This session.
     Here,

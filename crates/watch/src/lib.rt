@@ -20,7 +20,7 @@ use watch_window::{Listing, Sorted};
 use wire_readers::{ErrorCode, Event};
 use wire_schema::{Checked, MessageKind};
 
-#[derive(Drop)]
+#[derive(Clone, Copy)]
 pub enum WatchAnswer {
     // The byte lengths of the new set and of the output.
     Changed(usize, usize),
@@ -29,7 +29,7 @@ pub enum WatchAnswer {
 }
 
 // Whether there is room for a diff's set and output.
-#[derive(Drop)]
+#[derive(Clone, Copy)]
 enum Room {
     Fits,
     // The set is longer than its buffer.

@@ -13,7 +13,7 @@ pub const LENGTH: usize = 2;
 pub const MAX_TOPIC: usize = 65535;
 
 // How one topic stands to another.
-#[derive(Drop)]
+#[derive(Clone, Copy)]
 pub enum Order {
     Less,
     Equal,
@@ -21,7 +21,7 @@ pub enum Order {
 }
 
 // Where a topic stands in a packed set, or would stand.
-#[derive(Drop)]
+#[derive(Clone, Copy)]
 pub struct Place {
     pub at: usize,
     pub present: bool,

@@ -22,7 +22,7 @@ use wire_schema::{Checked, MessageKind, ValueKind};
 use wire_values::{Front, Last};
 
 // What a command carries.
-#[derive(Drop)]
+#[derive(Clone, Copy)]
 pub enum Command {
     // CommandScalableTopicAssignmentUpdate: where it starts, its length, and its consumer id.
     Update(usize, usize, u64),
@@ -38,21 +38,21 @@ pub enum Command {
 }
 
 // The message of a field: where it starts, its length and the number of its field 1; or in how many parts it stands.
-#[derive(Drop)]
+#[derive(Clone, Copy)]
 pub enum Message {
     At(usize, usize, u64),
     Parts(usize),
 }
 
 // A field of a command: refused, or its length.
-#[derive(Drop)]
+#[derive(Clone, Copy)]
 pub enum Step {
     Refused(Refusal),
     Next(usize),
 }
 
 // The parts of a field: how many, and where the last starts and its length.
-#[derive(Drop)]
+#[derive(Clone, Copy)]
 pub struct Found {
     pub count: usize,
     pub start: usize,

@@ -12,14 +12,14 @@ use wire::{Body, Key, WireType};
 use wire_schema::{MessageKind, ValueKind};
 
 // A field's key: refused, or the key's length, the field's type and what it holds.
-#[derive(Drop)]
+#[derive(Clone, Copy)]
 pub enum Head {
     Refused(Refusal),
     Field(usize, WireType, ValueKind),
 }
 
 // What stands behind a key: refused, passed over in this many bytes, or a message that starts at a place and has a length.
-#[derive(Drop)]
+#[derive(Clone, Copy)]
 pub enum Step {
     Refused(Refusal),
     Next(usize),
@@ -27,7 +27,7 @@ pub enum Step {
 }
 
 // A field: the length of its key, and what stands behind the key.
-#[derive(Drop)]
+#[derive(Clone, Copy)]
 pub struct FieldStep {
     pub size: usize,
     pub step: Step,

@@ -13,7 +13,7 @@ use wire::{Body, Varint, WireType};
 use wire_schema::{Checked, MessageKind};
 
 // A number that a field holds.
-#[derive(Drop)]
+#[derive(Clone, Copy)]
 pub enum NumberAt {
     // The number, and the place behind the field.
     Found(u64, usize),
@@ -21,7 +21,7 @@ pub enum NumberAt {
 }
 
 // A part that a field holds.
-#[derive(Drop)]
+#[derive(Clone, Copy)]
 pub enum Part {
     // Where it starts and where it ends.
     Found(usize, usize),

@@ -14,21 +14,21 @@ ghost use Rattle.wire_readers.specs.Places.{head_of, UpdateIs, ResponseIs, Event
 use wire_values::{Front, Last};
 
 // The ends of a bucket range, as they came.
-#[derive(Drop)]
+#[derive(Clone, Copy)]
 pub struct IntRange {
     pub start: i32,
     pub end: i32,
 }
 
 // A broker's error code.
-#[derive(Drop)]
+#[derive(Clone, Copy)]
 pub enum ErrorCode {
     Given(i32),
     Absent,
 }
 
 // A segment's numbers, and the place and length of its topic.
-#[derive(Drop)]
+#[derive(Clone, Copy)]
 pub struct SegmentHead {
     pub segment_id: u64,
     pub hash_start: u32,
@@ -38,7 +38,7 @@ pub struct SegmentHead {
 }
 
 // The event of a watch update: the place in the message from which on its parts are those of field 2, or of field 3.
-#[derive(Drop)]
+#[derive(Clone, Copy)]
 pub enum Event {
     Nothing,
     Snapshot(usize),
@@ -70,7 +70,7 @@ pub fn segment_head(numbers: [u64; 4], start: usize, len: usize) -> SegmentHead
 }
 
 // An update's numbers.
-#[derive(Drop)]
+#[derive(Clone, Copy)]
 pub struct UpdateHead {
     pub consumer_id: u64,
     pub layout_epoch: u64,
@@ -99,7 +99,7 @@ fn error_code(m: &[u8], n: u64) -> ErrorCode
 }
 
 // A response's numbers, and whether it has an assignment.
-#[derive(Drop)]
+#[derive(Clone, Copy)]
 pub struct ResponseHead {
     pub request_id: u64,
     pub error: ErrorCode,
@@ -131,7 +131,7 @@ pub fn response_text<'m, 's>(message: &'m [u8], store: &'s [u8]) -> &'m [u8]
 }
 
 // A watch update's numbers and its event.
-#[derive(Drop)]
+#[derive(Clone, Copy)]
 pub struct WatchHead {
     pub watch_id: u64,
     pub event: Event,

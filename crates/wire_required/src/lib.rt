@@ -98,7 +98,7 @@ fn part_complete(f: u64, p: &[u8]) -> bool
 }
 
 // What has been found of an assignment: an epoch, and the required fields of each segment.
-#[derive(Drop)]
+#[derive(Clone, Copy)]
 struct Found {
     epoch: bool,
     segments: bool,

@@ -10,7 +10,7 @@ use refusal::Refusal;
 use wire::WireType;
 
 // The messages, under the names of PulsarApi.proto.
-#[derive(Drop)]
+#[derive(Clone, Copy)]
 pub enum MessageKind {
     CommandScalableTopicAssignmentUpdate,
     CommandScalableTopicSubscribeResponse,
@@ -23,7 +23,7 @@ pub enum MessageKind {
 }
 
 // What a field holds.
-#[derive(Drop)]
+#[derive(Clone, Copy)]
 pub enum ValueKind {
     // The field is unknown.
     Any,
@@ -33,7 +33,7 @@ pub enum ValueKind {
 }
 
 // What a check of a message gives.
-#[derive(Drop)]
+#[derive(Clone, Copy)]
 pub enum Checked {
     Valid,
     Refused(Refusal),

@@ -13,7 +13,7 @@ ghost use Rattle.wire_values.specs.Values.{numbers_of, parts_of, present, last_a
 use wire::{Body, Key};
 
 // The field at the front of a part.
-#[derive(Drop)]
+#[derive(Clone, Copy)]
 pub enum Front {
     // Its number, its value, and the field's length.
     Number(u64, u64, usize),
@@ -40,7 +40,7 @@ pub fn read_front(s: &[u8]) -> Front
 }
 
 // A number that may be absent.
-#[derive(Drop)]
+#[derive(Clone, Copy)]
 pub enum Last {
     Found(u64),
     Absent,
@@ -99,7 +99,7 @@ pub fn number(s: &[u8], n: u64) -> u64
 }
 
 // The next part of a field: where it starts, its length, and the place behind it.
-#[derive(Drop)]
+#[derive(Clone, Copy)]
 pub enum PartStep {
     Found(usize, usize, usize),
     Absent,
@@ -145,7 +145,7 @@ pub fn has_part(s: &[u8], n: u64) -> bool
 }
 
 // A part of a message: where it starts, and its length.
-#[derive(Drop)]
+#[derive(Clone, Copy)]
 pub struct Span {
     pub start: usize,
     pub length: usize,
@@ -203,7 +203,7 @@ pub fn inner_number(m: &[u8], n: u64, k: u64) -> u64
 
 // A place among the parts of a field in a singular message: the message's next part is looked for from `outer` on; in this one, the field's next part is looked
 // for from `at` to `end`.
-#[derive(Drop)]
+#[derive(Clone, Copy)]
 pub struct Cursor {
     pub outer: usize,
     pub at: usize,
@@ -211,7 +211,7 @@ pub struct Cursor {
 }
 
 // The next part: where it starts, its length, and the cursor behind it.
-#[derive(Drop)]
+#[derive(Clone, Copy)]
 pub enum InnerStep {
     Found(usize, usize, Cursor),
     Absent,

@@ -24,7 +24,7 @@ use refusal::Refusal;
 use topic_types::{KeyRange, SegmentId};
 
 // How many bytes the segments need.
-#[derive(Drop)]
+#[derive(Clone, Copy)]
 enum Room {
     Size(usize),
     // More than the limit.
@@ -32,7 +32,7 @@ enum Room {
 }
 
 // Whether every bucket lies wholly inside its segment's range.
-#[derive(Drop)]
+#[derive(Clone, Copy)]
 enum Held {
     Inside,
     // 34, of the first that does not.
