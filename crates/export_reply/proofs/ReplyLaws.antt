@@ -11,14 +11,12 @@ use lib.Signed.{mag}
 use mir.Syntax.{w32}
 use mir.Val.{to_z, of_z}
 use mir.Facts.{to_z-of_z}
-use types.Run.{OneOf, miss}
-use denote.Enum.Declared.{tag_of}
 use Rattle.topic_types.specs.declared.SegmentId.{SegmentId}
+use Rattle.topic_types.specs.declared.ControllerIncarnation.{ControllerIncarnation}
 use Rattle.topic_types.specs.declared.KeyRangeError.{KeyRangeError}
 use Rattle.topic_types.specs.declared.KeyRangeError.TheVariants.{StartOutOfBounds, EndOutOfBounds, Reversed}
 use Rattle.topic_types.specs.KeyRanges.{error_kind, error_numbers}
 use Rattle.refusal.specs.declared.Refusal.{Refusal}
-use Rattle.refusal.specs.contracts.Refusal.{the_type}
 use Rattle.refusal.specs.declared.Refusal.TheVariants as refusal
 use Rattle.refusal.specs.Refusals.{number_of, values_of, source_values}
 use Rattle.export_reply.specs.declared.Reply.{Reply}
@@ -49,7 +47,7 @@ reply-behind n id vs e =
 
 -- the word of an integer that the program handed over as its 32 bits
 word_back : {w : ℕ} (v : ℤ) → mag v < 2 ^ 31 → w ≡ word_of (to_z w32 (of_z w32 v)) → w ≡ word_of v
-word_back v h e = e ∙ ap word_of (to_z-of_z (record { sfits = h }))
+word_back v h e = e ∙ ap word_of (to_z-of_z {w = w32} (record { sfits = h }))
 
 pub broker-reply :
     {x : Refusal} {n w : ℕ} {code : ℤ} → n ≡ number_of x → x ≡ refusal.Broker code → mag code < 2 ^ 31 → w ≡ word_of (to_z w32 (of_z w32 code)) →
@@ -66,11 +64,28 @@ unfolding reply_with word_at word_of
 bucket-reply {x = x} {n = n} {index = index} {id = id} {start = start} {end = end} e f h k p q =
     ap₂ (plain_reply n 4 id.0 index) (word_back start h p) (word_back end k q) ∙ refused-reply x e (ap values_of f)
 
--- the tags of the variants without values
-abbrev bare : List ℕ
-bare = 0 ∷ 1 ∷ 2 ∷ 3 ∷ 4 ∷ 5 ∷ 6 ∷ 11 ∷ 14 ∷ 18 ∷ 20 ∷ 21 ∷ 22 ∷ 30 ∷ 31 ∷ 32 ∷ 33 ∷ 35 ∷ 36 ∷ 37 ∷ 38 ∷ 39 ∷ []
+-- that a refusal is of a variant without values
+pub record IsBare (x : Refusal) : Type 0 where
+  pub invalid_range : (a : SegmentId) (b : KeyRangeError) → x ≡ refusal.InvalidRange a b → ⊥
+  pub invalid_key_range : (a : KeyRangeError) → x ≡ refusal.InvalidKeyRange a → ⊥
+  pub invalid_bucket_range : (a : SegmentId) (b : ℕ) (d : ℤ) (e : ℤ) → x ≡ refusal.InvalidBucketRange a b d e → ⊥
+  pub overlapping : (a : SegmentId) → x ≡ refusal.OverlappingBucketRanges a → ⊥
+  pub attachment : (a : SegmentId) → x ≡ refusal.AttachmentMismatch a → ⊥
+  pub duplicate : (a : SegmentId) → x ≡ refusal.DuplicateSegment a → ⊥
+  pub broker : (a : ℤ) → x ≡ refusal.Broker a → ⊥
+  pub empty : (a : ℕ) → x ≡ refusal.Empty a → ⊥
+  pub empty_update : (a : ℕ) → x ≡ refusal.EmptyUpdate a → ⊥
+  pub segment_id : (a : SegmentId) (b : SegmentId) → x ≡ refusal.SegmentIdMismatch a b → ⊥
+  pub incarnation : (a : ControllerIncarnation) (b : ControllerIncarnation) → x ≡ refusal.IncarnationMismatch a b → ⊥
+  pub consumer : (a : ℕ) (b : ℕ) → x ≡ refusal.ConsumerMismatch a b → ⊥
+  pub non_advancing : (a : ControllerIncarnation) (b : ControllerIncarnation) → x ≡ refusal.NonAdvancingIncarnation a b → ⊥
+  pub regression : (a : ℕ) (b : ℕ) → x ≡ refusal.CrossIncarnationEpochRegression a b → ⊥
+  pub stale : (a : ℕ) (b : ℕ) → x ≡ refusal.StaleEpoch a b → ⊥
+  pub buffer_full : (a : ℕ) → x ≡ refusal.PreBaselineBufferFull a → ⊥
+  pub watch : (a : ℕ) (b : ℕ) → x ≡ refusal.WatchMismatch a b → ⊥
+  pub outside : (a : SegmentId) (b : ℕ) → x ≡ refusal.BucketOutsideSegment a b → ⊥
 
-pub no-values : (x : Refusal) → OneOf bare (tag_of the_type x) → values_of x ≡ []
+pub no-values : (x : Refusal) → IsBare x → values_of x ≡ []
 no-values refusal.StoreTooShort h = refl
 no-values refusal.OutputTooShort h = refl
 no-values refusal.InvalidWireFormat h = refl
@@ -78,34 +93,34 @@ no-values refusal.WrongWireType h = refl
 no-values refusal.MissingField h = refl
 no-values refusal.InvalidUtf8 h = refl
 no-values refusal.IdentityTooLong h = refl
-no-values (refusal.InvalidRange a b) h = absurd (miss bare 7 tt h)
-no-values (refusal.InvalidKeyRange a) h = absurd (miss bare 8 tt h)
-no-values (refusal.InvalidBucketRange a b d e) h = absurd (miss bare 9 tt h)
-no-values (refusal.OverlappingBucketRanges a) h = absurd (miss bare 10 tt h)
+no-values (refusal.InvalidRange a b) h = absurd (h.invalid_range a b refl)
+no-values (refusal.InvalidKeyRange a) h = absurd (h.invalid_key_range a refl)
+no-values (refusal.InvalidBucketRange a b d e) h = absurd (h.invalid_bucket_range a b d e refl)
+no-values (refusal.OverlappingBucketRanges a) h = absurd (h.overlapping a refl)
 no-values refusal.InvalidParent h = refl
-no-values (refusal.AttachmentMismatch a) h = absurd (miss bare 12 tt h)
-no-values (refusal.DuplicateSegment a) h = absurd (miss bare 13 tt h)
+no-values (refusal.AttachmentMismatch a) h = absurd (h.attachment a refl)
+no-values (refusal.DuplicateSegment a) h = absurd (h.duplicate a refl)
 no-values refusal.AssignmentTooLong h = refl
-no-values (refusal.Broker a) h = absurd (miss bare 15 tt h)
-no-values (refusal.Empty a) h = absurd (miss bare 16 tt h)
-no-values (refusal.EmptyUpdate a) h = absurd (miss bare 17 tt h)
+no-values (refusal.Broker a) h = absurd (h.broker a refl)
+no-values (refusal.Empty a) h = absurd (h.empty a refl)
+no-values (refusal.EmptyUpdate a) h = absurd (h.empty_update a refl)
 no-values refusal.InvalidSegment h = refl
-no-values (refusal.SegmentIdMismatch a b) h = absurd (miss bare 19 tt h)
+no-values (refusal.SegmentIdMismatch a b) h = absurd (h.segment_id a b refl)
 no-values refusal.MalformedInput h = refl
 no-values refusal.ResultTooLong h = refl
 no-values refusal.MalformedStore h = refl
-no-values (refusal.IncarnationMismatch a b) h = absurd (miss bare 23 tt h)
-no-values (refusal.ConsumerMismatch a b) h = absurd (miss bare 24 tt h)
-no-values (refusal.NonAdvancingIncarnation a b) h = absurd (miss bare 25 tt h)
-no-values (refusal.CrossIncarnationEpochRegression a b) h = absurd (miss bare 26 tt h)
-no-values (refusal.StaleEpoch a b) h = absurd (miss bare 27 tt h)
-no-values (refusal.PreBaselineBufferFull a) h = absurd (miss bare 28 tt h)
-no-values (refusal.WatchMismatch a b) h = absurd (miss bare 29 tt h)
+no-values (refusal.IncarnationMismatch a b) h = absurd (h.incarnation a b refl)
+no-values (refusal.ConsumerMismatch a b) h = absurd (h.consumer a b refl)
+no-values (refusal.NonAdvancingIncarnation a b) h = absurd (h.non_advancing a b refl)
+no-values (refusal.CrossIncarnationEpochRegression a b) h = absurd (h.regression a b refl)
+no-values (refusal.StaleEpoch a b) h = absurd (h.stale a b refl)
+no-values (refusal.PreBaselineBufferFull a) h = absurd (h.buffer_full a refl)
+no-values (refusal.WatchMismatch a b) h = absurd (h.watch a b refl)
 no-values refusal.MalformedSet h = refl
 no-values refusal.SetTooLong h = refl
 no-values refusal.KeyTooLong h = refl
 no-values refusal.UnknownReader h = refl
-no-values (refusal.BucketOutsideSegment a b) h = absurd (miss bare 34 tt h)
+no-values (refusal.BucketOutsideSegment a b) h = absurd (h.outside a b refl)
 no-values refusal.InvalidContract h = refl
 no-values refusal.ChargeTooLarge h = refl
 no-values refusal.InvalidLog h = refl

@@ -1,7 +1,7 @@
 -- Laws of `word_of` at integers of 32 bits, as a program reckons them: one that is not negative is its own size; one that is, v, is
 -- 2^64 - 1 - (0 - (v + 1)), where nothing wraps.
 -- Assumes nothing.
-use Prim.Native.Nat.{ℕ, zero, suc, ◌-◌, ◌^◌, ◌≤◌}
+use Prim.Native.Nat.{ℕ, zero, suc, ◌-◌, ◌≤◌}
 use native.Mathlib.Nat.{not-suc-le-zero}
 use native.Mathlib.Omega.{arith}
 use mathlib.Core.Path.{◌≡◌, refl, sym, ap, subst, ◌∙◌}
