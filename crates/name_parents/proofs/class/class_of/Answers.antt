@@ -3,12 +3,8 @@
 use borrow.Author.Rules.{rules}
 use Rattle.name_parents.specs.Classes.{class_of}
 use Rattle.name_parents.proofs.Table.{values-at}
-use Rattle.name_parents.proofs.class.class_of.Statement.{statement}
-use Rattle.name_parents.proofs.class.class_of.Tie as tie
+use Rattle.name_parents.proofs.class.class_of.Goals as goal
 
-returns : tie.Need-returns
+pub returns : goal.returns
 unfolding class_of
 returns c = values-at class_of 256 c.args.b (search rules)
-
-pub class-of-spec : {M : Type 1} → statement M
-class-of-spec = tie.close (tie.spec (λ c. search rules) returns)

@@ -2,12 +2,8 @@
 -- Assumes nothing.
 use Rattle.name_parents.specs.Classes.{class_of}
 use Rattle.name_parents.proofs.Table.{values-at}
-use Rattle.name_parents.proofs.class.classes.Statement.{statement}
-use Rattle.name_parents.proofs.class.classes.Tie as tie
+use Rattle.name_parents.proofs.class.classes.Goals as goal
 
-returns : tie.Need-returns
+pub returns : goal.returns
 unfolding class_of
 returns c = values-at class_of 256
-
-pub classes-spec : {M : Type 1} → statement M
-classes-spec = tie.close (tie.spec returns)
