@@ -8,7 +8,7 @@ ghost use Rattle.std.specs.Prelude.{◌≡◌, ◌<◌};
 ghost use Rattle.key_for_hash.specs.Inverse.{undo_shift, undo_fmix, undo_scramble, undo_mix, key_of_block, key_for_hash};
 
 // A key of four bytes.
-#[derive(Drop)]
+#[derive(Clone, Copy)]
 pub struct TestKey {
     pub first: u8,
     pub second: u8,

@@ -10,14 +10,14 @@ ghost use Rattle.ranges_calls.specs.Calls.{pair_by, holds, holds_range, touches,
 use refusal::Refusal;
 use topic_types::{KeyRange, KeyRangeError, RangeResult};
 
-#[derive(Drop)]
+#[derive(Clone, Copy)]
 pub enum LengthAnswer {
     // How many values the range has, 1 to 65,536.
     Length(u32),
     Refused(Refusal),
 }
 
-#[derive(Drop)]
+#[derive(Clone, Copy)]
 pub enum TestAnswer {
     // Whether it is so.
     Answered(bool),
@@ -25,7 +25,7 @@ pub enum TestAnswer {
 }
 
 // Two ranges, or the error of the first that is none.
-#[derive(Drop)]
+#[derive(Clone, Copy)]
 pub enum RangePair {
     Valid(KeyRange, KeyRange),
     Invalid(KeyRangeError),

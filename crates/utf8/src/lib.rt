@@ -10,7 +10,7 @@ ghost use Rattle.utf8.specs.Table.{span, fits, sequence_of, is_utf8};
 ghost use Rattle.utf8.specs.Passes.{Passes, Ascii};
 
 // The byte values from the first to the second.
-#[derive(Drop)]
+#[derive(Clone, Copy)]
 struct Span(u8, u8);
 
 // The byte at the place i is there and lies in the span.

@@ -16,7 +16,7 @@ pub use varint::{Varint, read_short_varint, read_varint};
 const MAX_KEY: u64 = 4294967295;
 
 // The wire types of the encoding page that are in use.
-#[derive(Drop)]
+#[derive(Clone, Copy)]
 pub enum WireType {
     // 0
     Varint,
@@ -28,14 +28,14 @@ pub enum WireType {
     I32,
 }
 
-#[derive(Drop)]
+#[derive(Clone, Copy)]
 pub enum Key {
     // The field's number and type, and the key's length in bytes.
     Found(u64, WireType, usize),
     Broken,
 }
 
-#[derive(Drop)]
+#[derive(Clone, Copy)]
 pub enum Body {
     // A number, and its length in bytes.
     Number(u64, usize),

@@ -7,7 +7,7 @@ ghost use Rattle.wire.specs.Varints.{varint_of};
 
 use slice::wide;
 
-#[derive(Drop)]
+#[derive(Clone, Copy)]
 pub enum Varint {
     // The value, and the varint's length in bytes.
     Value(u64, usize),
