@@ -5,7 +5,7 @@
 -- those of all its parts, in order (`merged_fields`). Of a oneof the last member counts (`member_of`). All this is said here, and asked of no earlier pass.
 -- Assumes nothing.
 use Rattle.std.specs.Prelude.{ℕ, Bool, true, false, cond, List, [], ◌∷◌, ◌++◌, eqb}
-use Rattle.wire.specs.Fields.{Payload, number, bytes, fixed, cut, Field, bad_key, field, fields_of}
+use Rattle.wire.specs.Fields.{number, bytes, fixed, cut, Field, bad_key, field, fields_of}
 use Rattle.wire_values.specs.declared.Last.{Last}
 use Rattle.wire_values.specs.declared.Last.TheVariants as last
 

@@ -1,0 +1,55 @@
+-- `read_front` meets its contract: the answer is `front_from` of the body behind the key, and key and body stand inside the part, so that
+-- no sum wraps. Assumes nothing.
+use Prim.Native.Nat.{◌-◌, ◌≤◌}
+use native.Mathlib.Omega.{arith}
+use mathlib.Core.Path.{◌≡◌, sym, ◌∙◌}
+use lib.ListN.{length}
+use Rattle.wire.specs.declared.Key.TheVariants as key
+use Rattle.wire.specs.declared.Body.{Body}
+use Rattle.wire.specs.Field.{key_read}
+use Rattle.wire.proofs.FieldLaws.{key-size, BodySized, body-size-at}
+use Rattle.wire_values.specs.Places.{front_from, front_of}
+use Rattle.wire_values.proofs.FrontLaws.{front-bad-key, front-of-body}
+use Rattle.wire_values.proofs.read_front.Goals.{After-read_body}
+use Rattle.wire_values.proofs.read_front.Goals as goal
+
+keyed : (c : After-read_body) → key_read (c.args.s.now) ≡ key.Found (c.in-Found.f) (c.in-Found.w) (c.in-Found.n)
+keyed c = sym c.read_key.ensures ∙ c.in-Found.is
+
+fits : (c : After-read_body) (b : Body) → c.read_body.result ≡ b → (c.in-Found.n ≤ length (c.args.s.now)) × BodySized (length (c.args.s.now) - c.in-Found.n) b
+fits c b e =
+    ((key-size _ _ _ _ (keyed c)).1, body-size-at (c.args.s.now) (c.in-Found.n) (c.in-Found.w) b (sym c.read_body.ensures ∙ e))
+
+answers : (c : After-read_body) (b : Body) → c.read_body.result ≡ b → front_from (c.in-Found.f) (c.in-Found.n) b ≡ front_of (c.args.s.now)
+answers c b e = sym (front-of-body (c.args.s.now) (c.in-Found.f) (c.in-Found.w) (c.in-Found.n) b (keyed c) (sym c.read_body.ensures ∙ e))
+
+pub returns-in_default : goal.returns-in_default
+returns-in_default c = sym (front-bad-key _ (sym c.read_key.ensures ∙ c.in_default.is))
+
+pub slice_bounds-read_body-count : goal.slice_bounds-read_body-count
+slice_bounds-read_body-count c = (key-size _ _ _ _ (sym c.read_key.ensures ∙ c.in-Found.is)).1
+
+pub slice_bounds-read_body-start : goal.slice_bounds-read_body-start
+slice_bounds-read_body-start c =
+    omega (arith, (key-size _ _ _ _ (sym c.read_key.ensures ∙ c.in-Found.is)).1)
+
+pub overflow_add-result : goal.overflow_add-result
+overflow_add-result c = let z = fits (goal.at.overflow_add-result c).After-read_body _ c.in-Number.is in omega arith
+
+pub overflow_add-result-in-Part : goal.overflow_add-result-in-Part
+overflow_add-result-in-Part c = let z = fits (goal.at.overflow_add-result-in-Part c).After-read_body _ c.in-Part.is in omega arith
+
+pub overflow_add-result-in-Fixed : goal.overflow_add-result-in-Fixed
+overflow_add-result-in-Fixed c = let z = fits (goal.at.overflow_add-result-in-Fixed c).After-read_body _ c.in-Fixed.is in omega arith
+
+pub returns-in-Number : goal.returns-in-Number
+returns-in-Number c = answers (goal.at.returns-in-Number c).After-read_body _ c.in-Number.is
+
+pub returns-in-Part : goal.returns-in-Part
+returns-in-Part c = answers (goal.at.returns-in-Part c).After-read_body _ c.in-Part.is
+
+pub returns-in-Fixed : goal.returns-in-Fixed
+returns-in-Fixed c = answers (goal.at.returns-in-Fixed c).After-read_body _ c.in-Fixed.is
+
+pub returns-in-Broken : goal.returns-in-Broken
+returns-in-Broken c = answers (goal.at.returns-in-Broken c).After-read_body _ c.in-Broken.is
