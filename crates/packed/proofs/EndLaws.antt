@@ -9,7 +9,7 @@ use native.Mathlib.Omega.{arith}
 use mathlib.Core.Path.{◌≡◌, refl, sym, ap, ◌∙◌}
 use mathlib.Core.Bool.{Bool, true, false, ◌&&◌, and-false}
 use mathlib.Core.List.{List}
-use lib.ListN.{length, drop}
+use lib.ListN.{drop}
 use lib.Dec.{leb}
 use borrow.Author.Tests.{le-leb, lt-leb}
 use Rattle.topic_types.specs.KeyRanges.{key_range}
@@ -17,7 +17,7 @@ use Rattle.slice_int.specs.Be.{be_at}
 use Rattle.ranges.specs.Overlap.{any_overlap}
 use Rattle.packed.specs.Assignment.{num, decode_ranges, decode_segment, decode_segments, size_segment, size_segments, all_in_order, ok_buckets, ok_segment, ok_from}
 use Rattle.packed.specs.Answers.{records_end}
-use Rattle.packed.proofs.AssignmentLaws.{range_at, segments-at, size-least, Seen, seen_size, seen-id, seen-ok, RecordIs, rest, size-turn, ok-turn, id-rises}
+use Rattle.packed.proofs.AssignmentLaws.{range_at, size-least, Seen, seen_size, seen-id, seen-ok, RecordIs, rest, size-turn, ok-turn, id-rises}
 
 -- ---- records at a place
 

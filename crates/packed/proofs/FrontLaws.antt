@@ -8,16 +8,16 @@ use Prim.Native.Nat.{ℕ, ◌+◌, ◌*◌, ◌≤◌, ◌<◌, min}
 use native.Mathlib.Decide.{dec_le}
 use native.Mathlib.Omega.{arith}
 use mathlib.Core.Path.{◌≡◌, refl, sym, ap, ◌∙◌}
-use mathlib.Core.Bool.{Bool, true, false, not, ◌&&◌}
+use mathlib.Core.Bool.{Bool, true, false, not}
 use mathlib.Core.List.{List}
 use lib.ListN.{length, drop}
-use lib.Dec.{leb, eqb}
+use lib.Dec.{eqb}
 use borrow.Author.Tests.{le-leb, lt-leb, leb-true, eq-eqb, ne_eqb}
 use Rattle.slice.specs.BoolLaws.{both_true}
 use Rattle.slice.proofs.TestLaws.{cond-first, cond-second}
 use Rattle.slice_int.specs.Be.{be_at}
-use Rattle.packed.specs.Assignment.{AssignedSegment, slot_size, decode_segments, decode_assignment, size_segments, size_assignment, ok_from}
-use Rattle.packed.specs.Assignment.{ok_assignment, starts_assignment, is_assignment}
+use Rattle.packed.specs.Assignment.{slot_size, decode_segments, decode_assignment, size_segments, size_assignment, ok_from}
+use Rattle.packed.specs.Assignment.{starts_assignment, is_assignment}
 use Rattle.packed.specs.Answers.{records_end, front_size, front_answer, whole_read}
 use Rattle.packed.specs.declared.Packed.TheVariants.{Assignment, Malformed}
 use Rattle.packed.proofs.AssignmentLaws.{length-segments_of, first-segments, starts}

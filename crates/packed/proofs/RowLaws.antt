@@ -1,9 +1,9 @@
 -- One segment with 506 buckets is valid: row H, by the law of buckets that rise.
 -- Assumes nothing.
-use mathlib.Core.Path.{◌≡◌, refl, ap, ◌∙◌}
+use mathlib.Core.Path.{◌≡◌, refl, ap}
 use mathlib.Core.Bool.{Bool, true, ◌&&◌}
 use Rattle.ranges.specs.Overlap.{rising_from}
-use Rattle.packed.specs.Assignment.{size_segment, size_segments, size_assignment, ok_buckets, ok_segment, ok_from, ok_assignment}
+use Rattle.packed.specs.Assignment.{size_segment, size_segments, size_assignment, ok_segment, ok_from, ok_assignment}
 use Rattle.packed.specs.Rows.{points, bucketed}
 use Rattle.packed.proofs.AssignmentLaws.{rising-ok}
 

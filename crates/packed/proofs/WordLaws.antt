@@ -10,7 +10,7 @@ use native.Mathlib.Decide.{dec_le}
 use native.Mathlib.Omega.{arith}
 use mathlib.Core.Path.{◌≡◌, refl, sym, ap, ◌∙◌, subst}
 use mathlib.Core.Bool.{Bool, true, false, ◌&&◌, and-false}
-use mathlib.Core.List.{List, [], ◌∷◌}
+use mathlib.Core.List.{List, ◌∷◌}
 use lib.ListN.{length, take, drop, length-take}
 use lib.Dec.{leb, eqb}
 use lib.Bits.{bit_and, and_le_l}
@@ -19,7 +19,7 @@ use Rattle.topic_types.specs.declared.KeyRange.{KeyRange}
 use Rattle.topic_types.specs.KeyRanges.{key_range}
 use Rattle.ranges.specs.Overlap.{rising_from}
 use Rattle.slice.proofs.PartLaws.{Bytes, Bytes-take, Bytes-drop}
-use Rattle.slice_int.specs.Be.{be, be_at}
+use Rattle.slice_int.specs.Be.{be_at}
 use Rattle.slice_int.proofs.BeLaws.{be-below, be-at-add}
 use Rattle.ranges_marks.specs.Bits.{bit}
 use Rattle.ranges_marks.proofs.BitLaws.{bit-and}

@@ -1,0 +1,19 @@
+-- `packed::read_whole` meets its contract: the answer of `read_front`, and whether bytes are left over, pick the case of `whole_read`.
+-- Assumes nothing.
+use mathlib.Core.Path.{sym, ◌∙◌}
+use Rattle.packed.proofs.FrontLaws.{whole-all, whole-more, whole-refused}
+use Rattle.packed.proofs.read_whole.Goals as goal
+
+pub returns-then-size-s : goal.returns-then-size-s
+returns-then-size-s c =
+    let a = c.in-Assignment in
+    whole-all c.args.s.now a.size a.count (sym a.is ∙ c.read_front.ensures) c.if-size-s.true
+
+pub returns-else-size-s : goal.returns-else-size-s
+returns-else-size-s c =
+    let a = c.in-Assignment in
+    whole-more c.args.s.now a.size a.count (sym a.is ∙ c.read_front.ensures) c.if-size-s.false
+
+pub returns-in-Malformed : goal.returns-in-Malformed
+returns-in-Malformed c =
+    whole-refused c.args.s.now (sym c.in-Malformed.is ∙ c.read_front.ensures)
