@@ -3,21 +3,21 @@
 -- In order: a step is linear (`step-linear`), and so are eight (`steps-linear`); eight steps of a multiple of 256 (`steps_high`); a byte
 -- taken in by the table (`update-table`); bytes taken in one after another (`updates-turn`, `updates-end`).
 -- Assumes nothing.
-use Prim.Native.Nat.{ℕ, zero, suc, ◌+◌, ◌*◌, ◌/◌, ◌%◌, ◌^◌, ◌≤◌, ◌<◌}
+use Prim.Native.Nat.{ℕ, zero, suc, ◌+◌, ◌*◌, ◌/◌, ◌%◌, ◌≤◌, ◌<◌}
 use native.Mathlib.Nat.{mod-lt}
 use native.Mathlib.Numerals.{add-one}
 use native.Mathlib.Omega.{arith}
 use mathlib.Core.Path.{◌≡◌, refl, sym, ap, ap₂, ◌∙◌}
-use mathlib.Core.Bool.{Bool, true, false, cond}
-use mathlib.Core.List.{List, [], ◌∷◌}
+use mathlib.Core.Bool.{cond}
+use mathlib.Core.List.{List}
 use lib.ListN.{length, get_or, drop, drop_of_length-le}
 use lib.Seq.{drop-cons}
 use lib.Dec.{eqb, lit<}
 use lib.Bits.{differ}
 use Rattle.key_murmur3.specs.Words.{xor}
-use Rattle.key_for_hash.proofs.XorLaws.{xor-none-l, xor-word}
+use Rattle.key_for_hash.proofs.XorLaws.{xor-none-l}
 use Rattle.crc32.specs.Crc.{polynomial, step, steps, update, updates}
-use Rattle.crc32.proofs.XorLaws.{xor_assoc, xor_comm, xor-half, xor-odd, xor-high, xor-cut, xor_same, xor-none-r}
+use Rattle.crc32.proofs.XorLaws.{xor_assoc, xor_comm, xor-half, xor-odd, xor-high, xor-cut, xor_same}
 
 -- ---- a step is linear
 

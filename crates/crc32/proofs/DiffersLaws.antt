@@ -1,8 +1,7 @@
 -- What the sum tells: a step loses nothing (`step-zero`, `step-injective`), nor does a byte taken in (`injective`), and so one byte that differs is
 -- told (`one-byte-told`). The sum is a word (`crc-word`).
 -- Assumes nothing.
-use Prim.Native.Nat.{ℕ, zero, suc, ◌+◌, ◌*◌, ◌/◌, ◌%◌, ◌^◌, ◌≤◌, ◌<◌}
-use native.Mathlib.Nat.{mod-lt}
+use Prim.Native.Nat.{ℕ, zero, suc, ◌/◌, ◌%◌, ◌^◌, ◌<◌}
 use native.Mathlib.Omega.{arith}
 use mathlib.Core.Path.{◌≡◌, refl, sym, ap, ◌∙◌}
 use mathlib.Core.Bool.{Bool, true, false, cond}
@@ -15,7 +14,7 @@ use Rattle.key_for_hash.proofs.XorLaws.{xor-again, xor-word}
 use Rattle.slice.specs.Bytes.{Bytes}
 use Rattle.crc32.specs.Crc.{polynomial, step, steps, update, updates, crc32}
 use Rattle.crc32.specs.Differs.{Injective, OneByteDiffers}
-use Rattle.crc32.proofs.XorLaws.{xor_comm, xor_same, xor-zero, xor-cancel}
+use Rattle.crc32.proofs.XorLaws.{xor_same, xor-zero, xor-cancel}
 use Rattle.crc32.proofs.CrcLaws.{step-linear}
 
 -- ---- words

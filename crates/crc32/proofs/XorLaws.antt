@@ -3,7 +3,7 @@
 -- In order: grouping (`xor_assoc`) and exchange (`xor_comm`); halves and lowest bits (`xor-half`, `xor-odd`); a number cut in two (`xor-cut`);
 -- a xor that is 0 (`xor_same`, `xor-zero`).
 -- Assumes nothing.
-use Prim.Native.Nat.{ℕ, zero, suc, ◌+◌, ◌*◌, ◌/◌, ◌%◌, ◌^◌, ◌<◌}
+use Prim.Native.Nat.{ℕ, zero, suc, ◌+◌, ◌*◌, ◌/◌, ◌%◌, ◌<◌}
 use native.Mathlib.Nat.{mod-lt, div-add-mod'}
 use native.Mathlib.Omega.{arith}
 use mathlib.Core.Path.{◌≡◌, refl, sym, ap, ap₂, ◌∙◌}

@@ -3,12 +3,8 @@
 use Rattle.key_murmur3.specs.Words.{xor}
 use Rattle.name_parents.proofs.Table.{values-at}
 use Rattle.crc32.specs.Crc.{step, steps}
-use Rattle.crc32.proofs.steps_table.Statement.{statement}
-use Rattle.crc32.proofs.steps_table.Tie as tie
+use Rattle.crc32.proofs.steps_table.Goals as goal
 
-returns : tie.Need-returns
+pub returns : goal.returns
 unfolding xor step steps
 returns c = values-at steps 256
-
-pub steps-table-spec : {M : Type 1} → statement M
-steps-table-spec = tie.close (tie.spec returns)

@@ -2,23 +2,19 @@
 -- Assumes nothing.
 use Prim.Native.Nat.{ℕ, ◌%◌, ◌/◌}
 use native.Mathlib.Nat.{mod-lt}
-use mathlib.Core.Path.{◌≡◌, sym, ap, ◌∙◌}
+use mathlib.Core.Path.{sym, ap, ◌∙◌}
 use lib.Dec.{lit<}
 use lib.Bits.{bit_xor}
 use borrow.Author.Rules.{rules}
 use Rattle.key_murmur3.specs.Words.{xor}
 use Rattle.crc32.proofs.CrcLaws.{update-table}
-use Rattle.crc32.proofs.update.Statement.{statement}
-use Rattle.crc32.proofs.update.Tie as tie
+use Rattle.crc32.proofs.update.Goals as goal
 
-returns : tie.Need-returns
+pub returns : goal.returns
 unfolding xor
 returns c =
-    let state = c.before.args.c in
-    let b = c.before.args.b in
+    let state = c.args.c in
+    let b = c.args.b in
     let i = bit_xor state b % 256 in
-    ap (λ (n : ℕ). bit_xor n (state / 256)) (c.before.requires i (mod-lt (bit_xor state b) (lit< tt)))
+    ap (λ (n : ℕ). bit_xor n (state / 256)) (c.requires i (mod-lt (bit_xor state b) (lit< tt)))
     ∙ sym (update-table state b (search rules))
-
-pub update-spec : {M : Type 1} → statement M
-update-spec = tie.close (tie.spec (λ c. search rules) (λ c. search rules) (λ c. search rules) returns)
