@@ -20,7 +20,7 @@ use Rattle.slice_int.proofs.BeLaws.{length-bytes_of}
 use Rattle.slice_int.proofs.PutLaws.{length-put}
 use Rattle.churn.specs.declared.Totals.{Totals}
 use Rattle.churn.specs.declared.ChurnAnswer.TheVariants.{Counted, Refused}
-use Rattle.churn.specs.Window.{places, counts_in, mark_of, row_of, is_window, held_in, counts_of, next_mark, pushed, cleared}
+use Rattle.churn.specs.Window.{counts_in, mark_of, row_of, is_window, held_in, counts_of, next_mark, pushed, cleared}
 use Rattle.churn.specs.Churn.{sum_of, largest_of, totals_of, churn_outcome, push, clear, current}
 use Rattle.churn.specs.Fresh.{latest}
 use Rattle.churn.proofs.CountLaws.{counts-row, length-row, take_row, behind-drop, front-first, front-drop, set-counts}

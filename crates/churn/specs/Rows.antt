@@ -1,13 +1,13 @@
 -- Public: worked rows of the fresh reckoning, and that bytes of zero are an empty window, as one proved table, by
 -- computation.
 -- Assumes nothing.
-use Rattle.std.specs.Prelude.{ℕ, zero, suc, ◌+◌, ◌≡◌, refl, cond, List, [], ◌∷◌, ◌++◌, length, drop, ltb}
+use Rattle.std.specs.Prelude.{ℕ, zero, suc, ◌≡◌, refl, List, [], ◌∷◌, ◌++◌}
 use Rattle.refusal.specs.declared.Refusal.TheVariants.{InvalidWindow}
 use Rattle.churn.specs.declared.ChurnAnswer.{ChurnAnswer}
 use Rattle.churn.specs.declared.ChurnAnswer.TheVariants.{Counted, Refused}
 use Rattle.slice_int.specs.Be.{be_from, be, be_at}
-use Rattle.churn.specs.Window.{places, window_size, mark_of, row_of, counts_in, is_window, held_in, counts_of}
-use Rattle.churn.specs.Churn.{sum_of, largest_of, totals_of}
+use Rattle.churn.specs.Window.{window_size, mark_of, row_of, counts_in, is_window, held_in, counts_of}
+use Rattle.churn.specs.Churn.{sum_of, largest_of}
 use Rattle.churn.specs.Fresh.{Step, EmptyWindow, latest, after, kept_after, reckoning, fresh_answer, fresh_answers}
 use Rattle.churn.specs.Fresh.Step.{count, clearing}
 
