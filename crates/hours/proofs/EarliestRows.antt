@@ -1,7 +1,7 @@
 -- Worked cases of `Earliest`: what the program finds, by computation, is the least of all open seconds. The contract is
 -- that of specs/Rows, around the leap day of 2024.
 -- Assumes nothing.
-use mathlib.Core.Path.{◌≡◌, refl}
+use mathlib.Core.Path.{refl}
 use native.Mathlib.Omega.{arith}
 use mathlib.Core.List.{List}
 use Prim.Native.Nat.{ℕ}

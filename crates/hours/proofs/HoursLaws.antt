@@ -19,7 +19,7 @@ use Rattle.hours.specs.declared.Span.{Span}
 use Rattle.hours.specs.declared.OpenAnswer.TheVariants as answer
 use Rattle.hours.specs.declared.EarliestAnswer.{EarliestAnswer}
 use Rattle.hours.specs.declared.EarliestAnswer.TheVariants.{At, NoneOpen, Refused}
-use Rattle.hours.specs.Contract.{week, largest, spans_of, windows_of, ok_spans, is_contract}
+use Rattle.hours.specs.Contract.{largest, spans_of, windows_of, ok_spans, is_contract}
 use Rattle.hours.specs.Hours.{holds, any_holds, open_in, is_open_at, open_answer, Earliest}
 use Rattle.hours.specs.Steps.{wait_for, least_wait, first_from, first_in, first_of}
 use Rattle.hours.proofs.SpanLaws.{Fine, ok-first, holds-found, holds-further, holds-none, wait-first, of-first}
