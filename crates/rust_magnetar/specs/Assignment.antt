@@ -2,7 +2,7 @@
 -- message is decoded. The message's structs are those of the crate readers: `pb::ScalableAssignedSegment` is
 -- `WireSegment`, `pb::ScalableConsumerAssignment` is `WireAssignment`.
 -- Assumes nothing.
-use Rattle.core.specs.Prelude.{ℕ, ◌-◌, ◌^◌, Bool, cond, not, ◌&&◌, leb, List, [], ◌∷◌, ◌++◌, map, ℤ, pos, negsuc, ◌==◌, nat_le, nat_lt}
+use Rattle.std.specs.Prelude.{ℕ, ◌-◌, ◌^◌, Bool, cond, not, ◌&&◌, leb, List, [], ◌∷◌, ◌++◌, map, ℤ, pos, negsuc, ◌==◌, nat_le, nat_lt}
 use Rattle.std.proofs.Math.Option.{Option, some, none}
 use Rattle.topic_types.specs.declared.KeyRange.{KeyRange}
 use Rattle.topic_types.specs.declared.KeyRangeError.{KeyRangeError}

@@ -1,7 +1,7 @@
 -- Public: `BTreeSet` and `BTreeMap` of the Rust, as the standard library's documentation has them: the entries in the
 -- order in which they are iterated, by the order of their keys.
 -- Assumes nothing.
-use Rattle.core.specs.Prelude.{Bool, false, cond, not, ◌||◌, List, [], ◌∷◌}
+use Rattle.std.specs.Prelude.{Bool, false, cond, not, ◌||◌, List, [], ◌∷◌}
 use Rattle.std.proofs.Math.Option.{Option, some, none}
 use Rattle.rust_magnetar.specs.Order.{Ordering, by_ordering, is_eq}
 use Rattle.rust_magnetar.specs.Collections.{filter}

@@ -1,6 +1,6 @@
 -- Public: `Vec`, slices and iterators of the Rust, and the methods that the sources call.
 -- Assumes nothing.
-use Rattle.core.specs.Prelude.{ℕ, ◌+◌, Bool, true, false, cond, ◌&&◌, ◌||◌, List, [], ◌∷◌}
+use Rattle.std.specs.Prelude.{ℕ, ◌+◌, Bool, true, false, cond, ◌&&◌, ◌||◌, List, [], ◌∷◌}
 use Rattle.std.proofs.Math.Option.{Option, some, none}
 use Rattle.rust_magnetar.specs.Result.{Result, Ok, ◌>>=◌}
 

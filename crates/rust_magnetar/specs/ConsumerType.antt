@@ -1,7 +1,7 @@
 -- Public: scalable_consumer.rs: the kind of a consumer, compared, and from and to the wire's integer. The kind itself
 -- is that of the crate types.
 -- Assumes nothing.
-use Rattle.core.specs.Prelude.{zero, suc, Bool, true, false, ℤ, pos, negsuc}
+use Rattle.std.specs.Prelude.{zero, suc, Bool, true, false, ℤ, pos, negsuc}
 use Rattle.topic_types.specs.declared.ScalableConsumerType.{ScalableConsumerType}
 use Rattle.topic_types.specs.declared.ScalableConsumerType.TheVariants.{Stream, Checkpoint}
 use Rattle.rust_magnetar.specs.Result.{Result, Ok, Err}

@@ -2,7 +2,7 @@
 --
 -- The examples that the documentation of the Rust's standard library gives for what is defined here, by computation.
 -- Assumes nothing.
-use Rattle.core.specs.Prelude.{◌≡◌, ℕ, true, false, List, [], ◌∷◌, length}
+use Rattle.std.specs.Prelude.{◌≡◌, ℕ, true, false, List, [], ◌∷◌, length}
 use Rattle.std.specs.Prelude.{refl}
 use Rattle.std.proofs.Math.Option.{some, none}
 use Rattle.rust_magnetar.specs.Text.{Text}

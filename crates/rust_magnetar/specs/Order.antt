@@ -1,7 +1,7 @@
 -- Public: `core::cmp` of the Rust, as the standard library's documentation has it: `Ordering`, and the order of
 -- numbers, of slices and so of `str`.
 -- Assumes nothing.
-use Rattle.core.specs.Prelude.{ℕ, Bool, true, false, cond, List, [], ◌∷◌, ◌==◌, nat_lt}
+use Rattle.std.specs.Prelude.{ℕ, Bool, true, false, cond, List, [], ◌∷◌, ◌==◌, nat_lt}
 use Rattle.rust_magnetar.specs.Text.{Text}
 
 pub data Ordering : Type 0 where

@@ -6,7 +6,7 @@
 -- message's structs are those of the crate readers: `pb::CommandScalableTopicAssignmentUpdate` is `WireUpdate`,
 -- `pb::CommandScalableTopicSubscribeResponse` is `WireResponse`.
 -- Assumes nothing.
-use Rattle.core.specs.Prelude.{ℕ, max, Bool, true, false, cond, not, ◌&&◌, List, [], ◌∷◌, ◌++◌, map, length, ℤ, ◌==◌, nat_le, nat_lt}
+use Rattle.std.specs.Prelude.{ℕ, max, Bool, true, false, cond, not, ◌&&◌, List, [], ◌∷◌, ◌++◌, map, length, ℤ, ◌==◌, nat_le, nat_lt}
 use Rattle.std.proofs.Math.Option.{Option, some, none}
 use Rattle.topic_types.specs.declared.SegmentId.{SegmentId}
 use Rattle.topic_types.specs.declared.ControllerIncarnation.{ControllerIncarnation}

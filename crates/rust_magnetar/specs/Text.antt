@@ -1,7 +1,7 @@
 -- Public: `str` of the Rust, as its bytes, and the methods that the sources call. A `char` is one byte here: those
 -- searched for are ASCII, and no byte of a longer character is one of them.
 -- Assumes nothing.
-use Rattle.core.specs.Prelude.{ℕ, zero, suc, Bool, true, false, cond, ◌&&◌, ◌||◌, List, [], ◌∷◌, ◌==◌}
+use Rattle.std.specs.Prelude.{ℕ, zero, suc, Bool, true, false, cond, ◌&&◌, ◌||◌, List, [], ◌∷◌, ◌==◌}
 use Rattle.std.proofs.Math.Option.{Option, some, none, map}
 
 abbrev pub Text : Type 0

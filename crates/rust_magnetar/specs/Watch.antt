@@ -3,7 +3,7 @@
 -- The message's struct is that of the crate readers: `pb::CommandWatchScalableTopicsUpdate` is `WireWatchUpdate`, whose event is a snapshot or a diff by its fields; the lists
 -- of the part are its fields 1 and 2. The field namespace, which no method here reads or writes, is left out.
 -- Assumes nothing.
-use Rattle.core.specs.Prelude.{ℕ, cond, not, List, [], ◌∷◌, ◌++◌, ℤ, ◌==◌}
+use Rattle.std.specs.Prelude.{ℕ, cond, not, List, [], ◌∷◌, ◌++◌, ℤ, ◌==◌}
 use Rattle.wire_readers.specs.declared.ErrorCode.{ErrorCode}
 use Rattle.wire_readers.specs.declared.ErrorCode.TheVariants.{Given, Absent}
 use Rattle.wire_readers.specs.Messages.{WireEvent, none, snapshot, diff, WireWatchUpdate}
