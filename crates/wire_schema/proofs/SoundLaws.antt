@@ -3,12 +3,10 @@
 -- In order: a range (`range-sound`); the two messages that hold an assignment behind a number (`update-row`, `response-row`).
 -- Assumes nothing.
 use Prim.Native.Nat.{ℕ, zero, suc}
-use mathlib.Core.Path.{◌≡◌, refl, ap, ◌∙◌}
-use mathlib.Core.Bool.{true}
+use mathlib.Core.Path.{◌≡◌, refl, ap}
 use mathlib.Core.List.{List, [], ◌∷◌, append-nil}
 use Rattle.wire.specs.declared.WireType.TheVariants as wire
 use Rattle.wire.specs.Fields.{number, bytes, field, fields_of}
-use Rattle.wire_schema.specs.declared.MessageKind.{MessageKind}
 use Rattle.wire_schema.specs.declared.MessageKind.TheVariants.{CommandScalableTopicAssignmentUpdate, CommandScalableTopicSubscribeResponse}
 use Rattle.wire_schema.specs.declared.MessageKind.TheVariants.{ScalableConsumerAssignment, IntRange}
 use Rattle.wire_schema.specs.declared.Checked.TheVariants.{Valid}
