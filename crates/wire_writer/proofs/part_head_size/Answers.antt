@@ -5,21 +5,15 @@ use borrow.Author.Rules.{rules}
 use lib.ListN.{length-append}
 use Rattle.wire_writer.specs.Encode.{varint_bytes, part_head}
 use Rattle.wire_writer.proofs.EncodeLaws.{length-varint-le}
-use Rattle.wire_writer.proofs.part_head_size.Statement.{statement}
-use Rattle.wire_writer.proofs.part_head_size.Tie as tie
+use Rattle.wire_writer.proofs.part_head_size.Goals as goal
 
-add-result : tie.Need-overflow-add-result
-add-result c =
-    let a = c.before.before.args in
+pub overflow_add-result : goal.overflow_add-result
+overflow_add-result c =
+    let a = c.args in
     omega (arith, length-varint-le (8 * a.f + 2), length-varint-le a.n)
 
-returns : tie.Need-returns
+pub returns : goal.returns
 unfolding part_head
 returns c =
-    let a = c.before.before.args in
+    let a = c.args in
     omega (arith, length-append (varint_bytes (8 * a.f + 2)) (varint_bytes a.n))
-
-pub part-head-size-spec : {M : Type 1} → statement M
-part-head-size-spec =
-    tie.close
-    (tie.spec (λ c. search rules) (λ c. search rules) (λ c κs. search rules) (λ c κs. search rules) add-result returns)

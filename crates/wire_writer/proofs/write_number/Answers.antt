@@ -1,0 +1,31 @@
+-- `write_number` meets its contract: two varints, one right behind the other (`put_two` of proofs/WriteLaws). Assumes nothing.
+use Prim.Native.Nat.{◌*◌}
+use borrow.Author.Rules.{rules}
+use Rattle.wire_writer.specs.Encode.{varint_bytes, number_field}
+use Rattle.wire_writer.proofs.WriteLaws.{room-first, room-second, put_two}
+use Rattle.wire_writer.proofs.write_number.Goals as goal
+
+pub write_varint-next-requires : goal.write_varint-next-requires
+unfolding number_field
+write_varint-next-requires c =
+    let a = c.args in
+    room-first a.out.now a.at (varint_bytes (8 * a.f)) (varint_bytes a.v) c.requires.1
+
+pub write_varint-requires : goal.write_varint-requires
+unfolding number_field
+write_varint-requires c =
+    let s = c in
+    let a = s.args in
+    let first = c.write_varint-next in
+    room-second a.out.now a.at (varint_bytes (8 * a.f)) (varint_bytes a.v) s.requires.1
+    first.result first.new.out first.ensures
+
+pub returns : goal.returns
+unfolding number_field
+returns c =
+    let s = c in
+    let a = s.args in
+    let first = c.write_varint-next in
+    let second = c.write_varint in
+    put_two a.out.now a.at (varint_bytes (8 * a.f)) (varint_bytes a.v) s.requires.1
+    first.result first.new.out first.ensures second.result second.new.out second.ensures
