@@ -1,0 +1,27 @@
+-- `read_bucket` meets its contract: a range in its usual form has the two numbers that are read; any other is left to `read_range`.
+-- Assumes nothing.
+use Prim.Native.Nat.{ℕ, ◌+◌}
+use native.Mathlib.Omega.{arith}
+use mathlib.Core.Path.{◌≡◌, sym, ◌∙◌}
+use mathlib.Core.List.{List}
+use borrow.Author.Rules.{rules}
+use mir.Syntax.{w32}
+use mir.Val.{to_z, of_z}
+use Rattle.intake_scan.proofs.RangeLaws.{VarintAt, varint-at, usual-range}
+use Rattle.intake_scan.proofs.read_bucket.Goals as goal
+
+pub returns : goal.returns
+returns c =
+    let a : to_z w32 (of_z w32 c.int32-a.result) ≡ c.int32-a.result = search rules in
+    let b : to_z w32 (of_z w32 c.int32-b.result) ≡ c.int32-b.result = search rules in
+    let h = c.if-p-lt4.false in
+    rw (a, b, c.int32-a.ensures, c.int32-b.ensures)
+    (usual-range (omega arith) c.if-p-ne8.false (varint-at _ _ _ _ (sym c.read_short_varint.ensures ∙ c.in-Value.is)) c.if-p-second.false c.if-p-second-ne16.false (varint-at _ _ _ _ (sym c.read_short_varint-2.ensures ∙ c.in-Value-read_short_varint.is))
+    c.if-third-n.false)
+
+pub overflow_add-second : goal.overflow_add-second
+overflow_add-second c = let h = varint-at c.args.p.now 1 c.in-Value.start c.in-Value.m (sym c.read_short_varint.ensures ∙ c.in-Value.is) in omega arith
+
+pub overflow_add-third-2 : goal.overflow_add-third-2
+overflow_add-third-2 c = let k = c.in-Value-read_short_varint in
+    let h = varint-at c.args.p.now (1 + c.in-Value.m + 1) k.end k.n (sym c.read_short_varint-2.ensures ∙ k.is) in omega arith
