@@ -1,0 +1,11 @@
+-- `number_end` meets its contract: the place behind the number that `number_at` tells. Assumes nothing.
+use mathlib.Core.Path.{subst}
+use Rattle.wire_ordered.specs.Ordered.{NumberAtIs}
+use Rattle.wire_ordered.proofs.OrderedLaws.{number-some, none_above}
+use Rattle.wire_ordered.proofs.number_end.Goals as goal
+
+pub returns-in-Found : goal.returns-in-Found
+returns-in-Found c = λ h. number-some (subst (NumberAtIs _ _ _) c.in-Found.is c.number_at.ensures)
+
+pub returns-in-Absent : goal.returns-in-Absent
+returns-in-Absent c = none_above
