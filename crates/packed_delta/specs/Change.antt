@@ -1,6 +1,6 @@
 -- Public: what changed from one assignment to the next (`AssignmentDelta` of the Rust).
 -- Assumes nothing.
-use Rattle.std.specs.Prelude.{ℕ, Bool, true, false, not, ◌||◌, List, [], ◌∷◌, map}
+use Rattle.std.specs.Prelude.{ℕ, Bool, false, not, ◌||◌, List, [], ◌∷◌, map}
 use Rattle.keyed.specs.Keyed.{filter}
 use Rattle.packed.specs.Assignment.{AssignedSegment, id_of, ConsumerAssignment}
 use Rattle.packed.specs.Equal.{same_segment}

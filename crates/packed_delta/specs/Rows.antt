@@ -1,6 +1,6 @@
 -- Public: rows C and E of the worked values, and the longest delta that a change can need, by computation.
 -- Assumes nothing.
-use Rattle.std.specs.Prelude.{ℕ, ◌≡◌, refl, true, false, List, [], ◌∷◌, map, length}
+use Rattle.std.specs.Prelude.{ℕ, ◌≡◌, refl, [], ◌∷◌, length}
 use Rattle.slice_int.specs.Be.{bytes_of}
 use Rattle.topic_types.specs.KeyRanges.{key_range}
 use Rattle.packed.specs.Assignment.{ConsumerAssignment, encode_range, encode_ranges, encode_segment, encode_segments, size_segment, size_segments}
