@@ -1,0 +1,48 @@
+-- `first_outside` meets its contract. The invariant is `Within`, the measure the bytes left. Assumes nothing.
+use Prim.Native.Nat.{◌-◌}
+use native.Mathlib.Omega.{arith}
+use mathlib.Core.Path.{◌≡◌, subst}
+use lib.ListN.{length}
+use borrow.Author.Rules.{rules}
+use Rattle.wire_values.specs.declared.PartStep.{PartStep}
+use Rattle.wire_values.specs.Places.{NextPart}
+use Rattle.intake_buckets.proofs.RowLaws.{Within, within-start, within_end, within_low, within-high, within-next}
+use Rattle.intake_buckets.proofs.first_outside.Goals as goal
+
+pub loop-start-init : goal.loop-start-init
+loop-start-init c = within-start _ _
+
+pub returns-in-Absent : goal.returns-in-Absent
+returns-in-Absent c =
+    within_end c.loop-start.invariant (c.in-Absent.ensures)
+
+pub overflow_add-start : goal.overflow_add-start
+overflow_add-start c = let q = c.in-Found.ensures in omega (arith, q.0, q.1, q.2)
+
+pub slice_bounds-read_bucket-end : goal.slice_bounds-read_bucket-end
+slice_bounds-read_bucket-end c = let q = c.in-Found.ensures in omega (arith, q.0, q.1, q.2)
+
+pub returns-then-bucket-range : goal.returns-then-bucket-range
+returns-then-bucket-range c =
+    within_low c.loop-start.invariant c.in-Found.start c.in-Found.len c.in-Found.after (c.in-Found.ensures) c.read_bucket-r.ensures
+    c.key_range_of-bucket.ensures (omega (arith, c.if-bucket-range.true))
+
+pub returns-then-range-bucket : goal.returns-then-range-bucket
+returns-then-range-bucket c =
+    within-high c.loop-start.invariant c.in-Found.start c.in-Found.len c.in-Found.after (c.in-Found.ensures) c.read_bucket-r.ensures
+    c.key_range_of-bucket.ensures (omega (arith, c.if-bucket-range.false)) (omega (arith, c.if-range-bucket.true))
+
+pub overflow_add-index : goal.overflow_add-index
+overflow_add-index c =
+    let n = c.in-Found.ensures in
+    omega (arith, c.loop-start.invariant.few, n.0, n.1, n.2)
+
+pub loop-start-smaller : goal.loop-start-smaller
+loop-start-smaller c =
+    let n = c.in-Found.ensures in
+    omega (arith, n.0, n.1, n.2)
+
+pub loop-start-preserved : goal.loop-start-preserved
+loop-start-preserved c =
+    within-next c.loop-start.invariant c.in-Found.start c.in-Found.len c.in-Found.after (c.in-Found.ensures) c.read_bucket-r.ensures
+    c.key_range_of-bucket.ensures (omega (arith, c.if-bucket-range.false)) (omega (arith, c.if-range-bucket.false))

@@ -1,0 +1,30 @@
+-- `load_row` meets its contract. The invariant is `Loading`, the measure what the row can still take. Assumes nothing.
+use Prim.Native.Nat.{◌-◌}
+use native.Mathlib.Omega.{arith}
+use mathlib.Core.Path.{◌≡◌, refl, subst}
+use borrow.Author.Rules.{rules}
+use Rattle.wire_values.specs.declared.PartStep.{PartStep}
+use Rattle.wire_values.specs.Places.{NextPart}
+use Rattle.intake_buckets.proofs.RowLaws.{Loading, loading-start, loading-next, loaded-none, loaded-full}
+use Rattle.intake_buckets.proofs.load_row.Goals as goal
+
+pub loop-count-init : goal.loop-count-init
+loop-count-init c = loading-start _ _ _ refl
+
+pub returns-in-Absent : goal.returns-in-Absent
+returns-in-Absent c =
+    loaded-none c.loop-count.invariant (c.in-Absent.ensures)
+
+pub overflow_add-start : goal.overflow_add-start
+overflow_add-start c = let q = c.in-Found.ensures in omega (arith, q.0, q.1, q.2)
+
+pub slice_bounds-read_bucket-end : goal.slice_bounds-read_bucket-end
+slice_bounds-read_bucket-end c = let q = c.in-Found.ensures in omega (arith, q.0, q.1, q.2)
+
+pub loop-count-preserved : goal.loop-count-preserved
+loop-count-preserved c =
+    loading-next c.loop-count.invariant c.in-Found.start c.in-Found.len c.in-Found.after (c.in-Found.ensures)
+    c.read_bucket-r.ensures c.key_range_of.ensures (omega arith)
+
+pub returns : goal.returns
+returns c = loaded-full c.loop-count.invariant (omega arith)
