@@ -2,7 +2,7 @@
 --
 -- How src/ finds the least value, by the ends of ranges.
 -- Assumes nothing.
-use Rattle.std.specs.Prelude.{ℕ, min, max, cond, List, [], ◌∷◌, leb}
+use Rattle.std.specs.Prelude.{min, max, cond, List, [], ◌∷◌, leb}
 use Rattle.topic_types.specs.declared.KeyRange.{KeyRange}
 use Rattle.key_in_segment.specs.declared.Least.{Least}
 use Rattle.key_in_segment.specs.declared.Least.TheVariants.{Value, NoValue}
