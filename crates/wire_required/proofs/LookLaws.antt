@@ -4,12 +4,12 @@
 -- there (`number-found`); a segment's walk (`SegmentLeft`), a walk over one part of an assignment (`PartLeft`), the walk over its parts (`PartsLeft`), each with its
 -- start, its steps and its end.
 -- Assumes nothing.
-use Prim.Native.Nat.{ℕ, ◌+◌, ◌-◌, ◌≤◌}
+use Prim.Native.Nat.{ℕ, ◌+◌, ◌-◌}
 use native.Mathlib.Omega.{arith}
 use mathlib.Core.Path.{◌≡◌, refl, sym, ap, ◌∙◌}
 use mathlib.Core.Bool.{Bool, true, false, cond, ◌&&◌, ◌||◌, and-true, and-false, and_assoc, or-false, or_assoc}
 use mathlib.Core.List.{List, [], ◌∷◌, ◌++◌}
-use lib.ListN.{length, take, drop}
+use lib.ListN.{take, drop}
 use lib.Dec.{eqb}
 use Rattle.wire.specs.Fields.{Field, fields_of}
 use Rattle.wire_values.specs.declared.Last.{Last}
