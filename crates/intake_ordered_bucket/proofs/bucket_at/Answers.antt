@@ -1,0 +1,31 @@
+-- `bucket_at` meets its contract: one word tells it, or a part and the range in it. Assumes nothing.
+use Prim.Native.Nat.{◌+◌}
+use native.Mathlib.Omega.{arith}
+use mathlib.Core.Path.{subst}
+use borrow.Author.Rules.{rules}
+use Rattle.wire_ordered.specs.Ordered.{PartField, PartIs}
+use Rattle.intake_ordered_bucket.specs.Buckets.{RangeIs, WideIs, BucketAt}
+use Rattle.intake_ordered_bucket.proofs.bucket_at.Goals as goal
+
+pub returns-in-Found : goal.returns-in-Found
+returns-in-Found c = c.in-Found.ensures
+
+pub returns : goal.returns
+returns c =
+    record {
+      from = c.in-Found-part_at.from;
+      part = c.in-Found-part_at.ensures;
+      range = c.in-Found-range_in.ensures;
+    }
+
+pub overflow_add-result : goal.overflow_add-result
+overflow_add-result c = let h = c.in-Found.ensures in omega (arith, h.part.within)
+
+pub slice_bounds-range_in-count : goal.slice_bounds-range_in-count
+slice_bounds-range_in-count c = let h = c.in-Found-part_at.ensures in omega arith
+
+pub slice_bounds-range_in-start : goal.slice_bounds-range_in-start
+slice_bounds-range_in-start c = let h = c.in-Found-part_at.ensures in omega arith
+
+pub slice_bounds-range_in-end : goal.slice_bounds-range_in-end
+slice_bounds-range_in-end c = let h = c.in-Found-part_at.ensures in omega arith
