@@ -4,7 +4,7 @@
 -- accepted response until a drain of its own answers none (`Owing`); what is to be shown of a call (`Kept`, `Drained`); calls that leave the
 -- queue as it is, and what a delta does to the uploader. That each call keeps it: `DrainLaws`, `KeptLaws`.
 -- Assumes nothing.
-use Prim.Native.Nat.{ℕ, ◌+◌, ◌≤◌}
+use Prim.Native.Nat.{ℕ, ◌≤◌}
 use mathlib.Core.Path.{◌≡◌, ap, sym, ◌∙◌, subst}
 use mathlib.Core.Bool.{Bool, true, false, cond, not, ◌&&◌}
 use mathlib.Core.List.{List, [], ◌∷◌, ◌++◌}
@@ -22,7 +22,7 @@ use Rattle.packed_delta.proofs.BracketLaws.{AllProper, apply_all-append, proper-
 use Rattle.keyed.proofs.EachLaws.{Each}
 use Rattle.session.specs.declared.Floor.{Floor}
 use Rattle.session.specs.declared.Floor.TheVariants.{At}
-use Rattle.session.specs.Session.{Session, accepted, Result, position_of, raise}
+use Rattle.session.specs.Session.{Session, Result, position_of, raise}
 use Rattle.session.specs.Response.{stale_fault, last_list}
 use Rattle.session.specs.Trace.{Call, drain, Event}
 use Rattle.session.specs.Observers.{Sender, sender_step, on_delta, Seen, see, is_response}

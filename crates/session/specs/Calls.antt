@@ -1,7 +1,7 @@
 -- Public: the calls on bytes: what each gives over every record, store, message and output. The contracts of the
 -- programs are these equations.
 -- Assumes nothing.
-use Rattle.std.specs.Prelude.{ℕ, ◌*◌, Bool, false, cond, ◌&&◌, List, length, ltb, leb, eqb}
+use Rattle.std.specs.Prelude.{ℕ, Bool, false, cond, ◌&&◌, List, length, ltb, leb, eqb}
 use Rattle.topic_types.specs.declared.ControllerIncarnation.{ControllerIncarnation}
 use Rattle.refusal.specs.declared.Refusal.{Refusal}
 use Rattle.refusal.specs.declared.Refusal.TheVariants.{StoreTooShort, InvalidUtf8, IdentityTooLong, MalformedStore}
@@ -9,7 +9,6 @@ use Rattle.refusal.specs.Steps.{◌>>◌, refuse_if, refuse_unless}
 use Rattle.slice.specs.Same.{same_bytes}
 use Rattle.utf8.specs.Table.{is_utf8}
 use Rattle.slice_int.specs.Put.{put}
-use Rattle.packed.specs.Assignment.{slot_size}
 use Rattle.packed_delta.specs.Delta.{encode_delta, size_delta}
 use Rattle.session.specs.declared.SessionRecord.{SessionRecord}
 use Rattle.session.specs.declared.Floor.TheVariants.{Unset}
@@ -19,7 +18,7 @@ use Rattle.session.specs.declared.Match.{Match}
 use Rattle.session.specs.declared.Match.TheVariants as match'
 use Rattle.session.specs.Store.{min_store, identity_slot, slot, write_all}
 use Rattle.session.specs.Identity.{Identity, max_texts, kind_byte, texts_length, encode_identity, identity_topic, subscription_of, consumer_name_of, identity_kind, is_identity}
-use Rattle.session.specs.Session.{Session, at_start, view, CallAnswer, refused, accepted, unchanged, changed, replayed, Result}
+use Rattle.session.specs.Session.{at_start, view, CallAnswer, refused, accepted, unchanged, changed, replayed, Result}
 use Rattle.session.specs.Update.{update_call}
 use Rattle.session.specs.Response.{response_call}
 use Rattle.session.specs.Drain.{drain_call}

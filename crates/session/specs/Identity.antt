@@ -1,7 +1,7 @@
 -- Public: the identity slot (01, Store): "topic, subscription and name lengths 16 bits each, kind 8 bits: 0 stream, 1
 -- checkpoint, then the texts".
 -- Assumes nothing.
-use Rattle.std.specs.Prelude.{ℕ, ◌+◌, Bool, ◌&&◌, List, [], ◌∷◌, ◌++◌, length, take, drop, get_or, leb}
+use Rattle.std.specs.Prelude.{ℕ, ◌+◌, Bool, ◌&&◌, List, ◌∷◌, ◌++◌, length, take, drop, get_or, leb}
 use Rattle.topic_types.specs.declared.ScalableConsumerType.{ScalableConsumerType}
 use Rattle.topic_types.specs.declared.ScalableConsumerType.TheVariants.{Stream, Checkpoint}
 use Rattle.slice_int.specs.Be.{bytes_of, be_at}

@@ -4,7 +4,7 @@
 -- set, the queue stays to be drained from position 0. For a registered session the queue counts as empty, and acceptance empties it."
 -- Refused in order: 1, 22, 3, 4, 7, 6, 23, 16 or 17, 9 to 11, 34, 12 to 15, 26, 27.
 -- Assumes nothing.
-use Rattle.std.specs.Prelude.{ℕ, true, cond, not, List, [], ◌∷◌, length, eqb, ltb}
+use Rattle.std.specs.Prelude.{ℕ, true, cond, not, List, [], ◌∷◌, eqb, ltb}
 use Rattle.std.proofs.Math.Option.{Option, some, none}
 use Rattle.topic_types.specs.declared.ControllerIncarnation.{ControllerIncarnation}
 use Rattle.refusal.specs.declared.Refusal.{Refusal}

@@ -1,7 +1,7 @@
 -- Public: a session (01, Session): the record, and what the slots and queue entries in use hold. A call gives a reply,
 -- the next record, and the lists that it writes.
 -- Assumes nothing.
-use Rattle.std.specs.Prelude.{ℕ, zero, suc, ◌+◌, Bool, true, false, cond, not, ◌&&◌, ◌||◌, List, [], ◌∷◌, length, get_or, replicate, ltb}
+use Rattle.std.specs.Prelude.{ℕ, zero, suc, Bool, true, false, cond, not, ◌&&◌, ◌||◌, List, [], length, get_or, replicate, ltb}
 use Rattle.std.proofs.Math.Option.{Option, some, none}
 use Rattle.topic_types.specs.declared.ControllerIncarnation.{ControllerIncarnation}
 use Rattle.refusal.specs.declared.Refusal.{Refusal}

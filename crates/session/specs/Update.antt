@@ -5,7 +5,6 @@
 -- Assumes nothing.
 use Rattle.std.specs.Prelude.{ℕ, ◌+◌, cond, not, List, [], ◌∷◌, eqb, ltb}
 use Rattle.topic_types.specs.declared.ControllerIncarnation.{ControllerIncarnation}
-use Rattle.refusal.specs.declared.Refusal.{Refusal}
 use Rattle.refusal.specs.declared.Refusal.TheVariants.{StoreTooShort, OutputTooShort, MalformedStore, IncarnationMismatch}
 use Rattle.refusal.specs.declared.Refusal.TheVariants.{ConsumerMismatch, StaleEpoch, PreBaselineBufferFull}
 use Rattle.refusal.specs.Steps.{◌>>◌, ◌>>=◌}
