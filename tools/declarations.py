@@ -16,7 +16,7 @@ OF_C = {
     "uint8_t *CUDDREWYN_RESTRICT": "*mut u8", "cuddrewyn_record *CUDDREWYN_RESTRICT": "*mut Record", "cuddrewyn_record": "Record",
     "cuddrewyn_reply": "Reply", "cuddrewyn_session_reply": "SessionReply", "cuddrewyn_part": "Part",
 }
-FN = re.compile(r'#\[no_mangle\]\s+pub extern "C" fn (\w+)\(([^)]*)\)\s*->\s*(\w+)')
+FN = re.compile(r'#\[unsafe\(no_mangle\)\]\s+pub extern "C" fn (\w+)\(([^)]*)\)\s*->\s*(\w+)')
 EXTERN = re.compile(r'(?:#\[link_name = "(\w+)"\]\s+)?pub fn (\w+)\(([^)]*)\)\s*->\s*(\w+);')
 PROTOTYPE = re.compile(r"^(\w+) (cuddrewyn_\w+)\(([^)]*)\);", re.M)
 STRUCT = re.compile(r"#\[repr\(C\)\]\n(?:#\[derive[^\n]*\n)?pub struct (\w+) \{\n(.*?)^\}", re.M | re.S)

@@ -3,9 +3,9 @@
 
     python3 tools/dependencies.py [--check | --write]
 
-A crate is named in code by a path (`slice_int::read_u64`, `use wire::Key`) and in definitions and proofs by its modules (`Rattle·wire.specs`). A value may
-hold one of a type that only its own crate names: the checker asks for the crate that declares it. The kit's libraries (io, libc, os) stay as they are
-written, before the others; what those of a line use besides is found by rt.
+A crate is named in code by a path (`slice_int::read_u64`, `use wire::Key`) and in definitions and proofs by its modules (`Rattle.wire.specs`). A value may
+hold one of a type that only its own crate names: the checker asks for the crate that declares it. What stands before the colon (`export staticlib`) stays
+as it is written, and so do the kit's libraries, before the others; what those of a line use besides is found by rt.
 """
 import functools
 import re
@@ -15,10 +15,11 @@ from pathlib import Path
 import usage
 
 ROOT = Path(__file__).resolve().parent.parent
-LINE = re.compile(r"^(\w+):(.*)$", re.M)
+LINE = re.compile(r"^(\w+)((?: [\w=]+)*):(.*)$", re.M)
 CODE = re.compile(r"(?<![\w:])(\w+)::|^\s*(?:pub )?use (\w+)\b", re.M)
-MODULE = re.compile(r"Rattle·(\w+)")
-TYPE = re.compile(r"(?<![\w:])(\w+)::[A-Z]\w*[a-z]")
+MODULE = re.compile(r"\bRattle\.(\w+)")
+# a type by its path, or among those that one `use` takes
+TYPE = re.compile(r"(?<![\w:])(\w+)::(?:\{(?:[^{}]*[\s,{])?)?[A-Z]\w*[a-z]")
 COMMENT = re.compile(r"^\s*//.*$", re.M)
 
 
@@ -54,12 +55,12 @@ def needed_by(crate, order):
 def lines():
     """crates.txt as the files have it."""
     text = (ROOT / "crates.txt").read_text(encoding="utf-8")
-    order = [name for name, _ in LINE.findall(text)]
+    order = [name for name, *_ in LINE.findall(text)]
 
     def line(m):
-        kit = [d for d in m[2].split() if d not in order]
+        kit = [d for d in m[3].split() if d not in order]
         needed = needed_by(m[1], order)
-        return " ".join([f"{m[1]}:", *kit, *(d for d in order if d in needed)])
+        return " ".join([f"{m[1]}{m[2]}:", *kit, *(d for d in order if d in needed)])
 
     return LINE.sub(line, text)
 

@@ -79,16 +79,16 @@ def check_enum(table, sources):
 
 
 def check_numbers(table, sources):
-    """`numberOf` and `valuesOf`: a clause for each variant, in order; its values are its fields, in order."""
-    have = [(name, len(words.split()), int(n)) for name, words, n in re.findall(CLAUSE.format("numberOf"), sources[NUMBERS], re.M)]
+    """`number_of` and `values_of`: a clause for each variant, in order; its values are its fields, in order."""
+    have = [(name, len(words.split()), int(n)) for name, words, n in re.findall(CLAUSE.format("number_of"), sources[NUMBERS], re.M)]
     faults = differences(NUMBERS, have, [(r.name, len(r.values), r.number) for r in table.refusals])
-    clauses = re.findall(CLAUSE.format("valuesOf"), sources[NUMBERS], re.M)
+    clauses = re.findall(CLAUSE.format("values_of"), sources[NUMBERS], re.M)
     faults += differences(NUMBERS, [(name, len(words.split())) for name, words, _ in clauses], [(r.name, len(r.values)) for r in table.refusals])
     for name, words, values in clauses:
         *terms, last = values.split(" ∷ ")
         told = [term.split()[-1] for term in terms + ([] if last == "[]" else [last])]
         if told != words.split():
-            faults.append(f"{NUMBERS}: valuesOf {name} has {told}, should have {words.split()}")
+            faults.append(f"{NUMBERS}: values_of {name} has {told}, should have {words.split()}")
     return faults
 
 
@@ -244,7 +244,7 @@ def check_ours(table, sources):
 def check_declarations(table, sources):
     """Calls, structs and answers are declared alike in Rattle, C and Rust."""
     calls, faults = declarations.exported(sources), []
-    if len(calls) != sum(text.count("#[no_mangle]") for path, text in sources.items() if path.startswith(declarations.CRATE)):
+    if len(calls) != sum(text.count("#[unsafe(no_mangle)]") for path, text in sources.items() if path.startswith(declarations.CRATE)):
         faults.append(f"{declarations.CRATE}: a call that cannot be read")
     for path, found in ((HEADER, declarations.prototypes(sources)), (RAW, declarations.raw_functions(sources))):
         faults += differences(path, sorted(found.items()), sorted(calls.items()))

@@ -7,7 +7,7 @@
 
 Written (tools/refusal_parts.py): the C header's enum and names; the Rust crate's variants without values, with their numbers, texts and owned forms; the rows of names of
 crates/log_text; the tables of refusals in docs/REFUSALS.md and docs/EXPORTS.md; the calls' orders there; the comparison's columns.
-Held (tools/refusal_checks.py): `Refusal` with its comments, `numberOf` and `valuesOf`; the Rust crate's other variants and texts; orders in comments
+Held (tools/refusal_checks.py): `Refusal` with its comments, `number_of` and `values_of`; the Rust crate's other variants and texts; orders in comments
 of the header and of the crates; what demand 2 takes as ours, and what the Rust's errors have; and that C and Rust declare calls, structs and answers
 as Rattle does (tools/declarations.py).
 """

@@ -14,28 +14,25 @@ SESSIONS = 20
 HEAD = """-- Public: sessions that the Rust has answered (compare/recorded), as equations of its transcription, by computation.
 -- tools/rust_runs.py writes this file.
 -- Assumes nothing.
-use mathlib.Core.Path.{_≡_, refl}
-use mathlib.Core.Bool.{true, false}
-use mathlib.Core.List.{[], _∷_}
-use mathlib.Core.Option.{some, none}
-use lib.IntN.{pos, negsuc}
-use Rattle·topic_types.specs.KeyRanges.{keyRange, errorKind, errorNumbers}
-use Rattle·slice_int.specs.Be.{bytesOf}
-use Rattle·utf8.specs.Table.{table, fits, sequenceIn, sequenceOf, textAfter, isUtf8}
-use Rattle·name_topic.specs.Names.{hex4, decimalWithin, decimal}
-use Rattle·wire.specs.Varints.{varintOf}
-use Rattle·wire.specs.Field.{keyOf, numberBody, partOf}
-use Rattle·wire.specs.Fields.{fieldsOf}
-use Rattle·wire_schema.specs.Schema.{valueFor}
-use Rattle·wire_schema.specs.Required.{isComplete}
-use Rattle·wire_schema.specs.FirstFault.{firstFault}
-use Rattle·wire_values.specs.Integers.{int32Of}
-use Rattle·wire_readers.specs.Messages.{intRangeOf, readSegment, readAssignment, updateOf, responseOf}
-use Rattle·session.specs.Trace.{update, response, drain, begin, invalidate}
-use Rattle·rust_runs·specs.specs.Seen.{refused, accepted, unchanged, changed, runOf, seen, list, segment, on}
+use Rattle.std.specs.Prelude.{◌≡◌, refl, true, false, [], ◌∷◌, pos, negsuc}
+use Rattle.std.proofs.Math.Option.{some, none}
+use Rattle.topic_types.specs.KeyRanges.{key_range, error_kind, error_numbers}
+use Rattle.slice_int.specs.Be.{bytes_of}
+use Rattle.utf8.specs.Table.{table, fits, sequence_in, sequence_of, text_after, is_utf8}
+use Rattle.name_topic.specs.Names.{hex4, decimal_within, decimal}
+use Rattle.wire.specs.Varints.{varint_of}
+use Rattle.wire.specs.Field.{key_read, number_body, part_of}
+use Rattle.wire.specs.Fields.{fields_of}
+use Rattle.wire_schema.specs.Schema.{value_for}
+use Rattle.wire_schema.specs.Required.{is_complete}
+use Rattle.wire_schema.specs.FirstFault.{first_fault}
+use Rattle.wire_values.specs.Integers.{int32_of}
+use Rattle.wire_readers.specs.Messages.{int_range_of, read_segment, read_assignment, update_of, response_of}
+use Rattle.session.specs.Trace.{update, response, drain, begin, invalidate}
+use Rattle.rust_runs.specs.Seen.{refused, accepted, unchanged, changed, run_of, seen, list, segment, on}
 """
-UNFOLD = """unfolding bytesOf table fits sequenceIn sequenceOf textAfter isUtf8 hex4 decimalWithin decimal varintOf keyOf numberBody partOf fieldsOf valueFor
-    isComplete firstFault int32Of intRangeOf readSegment readAssignment updateOf responseOf errorKind errorNumbers
+UNFOLD = """unfolding bytes_of table fits sequence_in sequence_of text_after is_utf8 hex4 decimal_within decimal varint_of key_read number_body part_of fields_of value_for
+    is_complete first_fault int32_of int_range_of read_segment read_assignment update_of response_of error_kind error_numbers
 """
 
 
@@ -44,7 +41,7 @@ def row(items):
 
 
 def octets(data):
-    return f"bytesOf {len(data)} 0x{data.hex()}" if data else "[]"
+    return f"bytes_of {len(data)} 0x{data.hex()}" if data else "[]"
 
 
 def text(word):
@@ -60,7 +57,7 @@ def integer(word):
 
 def ranges(word):
     pairs = [] if word == "-" else [pair.split("-") for pair in word.split(",")]
-    return f"({row([f'keyRange 0x{a} 0x{b}' for a, b in pairs])})"
+    return f"({row([f'key_range 0x{a} 0x{b}' for a, b in pairs])})"
 
 
 def segment(words):
@@ -134,7 +131,7 @@ def written():
     out = HEAD
     for number, (topic, calls, seen) in enumerate(sessions()):
         cells = lambda items: "".join(f"        ({item})\n        ∷ " for item in items) + "[]"
-        out += f"\npub session-{number} : runOf ({octets(topic.encode())})\n        ({cells(calls).strip()})\n    ≡ {cells(seen).strip()}\n{UNFOLD}session-{number} = refl\n"
+        out += f"\npub session-{number} : run_of ({octets(topic.encode())})\n        ({cells(calls).strip()})\n    ≡ {cells(seen).strip()}\n{UNFOLD}session-{number} = refl\n"
     return out
 
 

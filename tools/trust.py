@@ -29,7 +29,7 @@ STATEMENTS = {
     "all that docs/CLAIMS.md cites as a definition": [],
 }
 DEFINITION = re.compile(r"`(crates/\w+/specs/[\w/]+\.antt)[:`]")
-USE = re.compile(r"^(?:ghost )?use Rattle·(\w+?)(?:·specs)?\.(specs|proofs)\.([\w.]+?)(?:\.\{| as |\.?;|$)", re.M)
+USE = re.compile(r"^(?:ghost )?use Rattle\.(\w+)\.(specs|proofs)\.([\w.]+?)(?:\.\{| as |\.?;|$)", re.M)
 
 
 def target(crate, folder, name):
@@ -56,7 +56,7 @@ def reached(starts):
             below = target(crate, folder, name)
             if below:
                 queue.append(below)
-            else:
+            elif (ROOT / "crates" / crate).is_dir():
                 types.add(crate)
     return files, types
 
