@@ -4,15 +4,16 @@
 // it is found. The words of a line that passes are read by the functions of `log_lines`.
 #![tactic(auto)]
 
-use libc::STDOUT_FILENO;
 use log_lines::Decimal;
 use log_text::{decimal, newline, quoted, text};
+use std::io;
+use std::io::Write;
 
-// The most bytes that a word may stand for: those of `io::large_buffer`.
+// The most bytes that a word may stand for: those of `log_lines::large_buffer`.
 const MAX_BYTES: usize = 65536;
 
 // A call of the session.
-#[derive(Drop)]
+#[derive(Clone, Copy)]
 pub enum CallName {
     Open,
     Update,
@@ -25,7 +26,7 @@ pub enum CallName {
 }
 
 // A line that asks and changes nothing.
-#[derive(Drop)]
+#[derive(Clone, Copy)]
 pub enum Question {
     // Which segment of the list that is held takes a key.
     Segment,
@@ -45,7 +46,7 @@ pub enum Question {
     Command,
 }
 
-#[derive(Drop)]
+#[derive(Clone, Copy)]
 pub enum Line {
     Call(CallName),
     Question(Question),
@@ -56,86 +57,86 @@ pub enum Line {
 }
 
 // `LINE damaged: REASON`, where `at` is the line's number. Answers false: the line is no call.
-pub fn damaged(at: u64, reason: &[u8]) -> bool {
-    decimal(at);
-    text(b" damaged: ");
-    text(reason);
-    newline();
-    false
+pub fn damaged<W: Write>(to: &mut W, at: u64, reason: &[u8]) -> io::Result<bool> {
+    decimal(to, at)?;
+    text(to, b" damaged: ")?;
+    text(to, reason)?;
+    newline(to)?;
+    Ok(false)
 }
 
 // The same, with the word that it is about behind the reason.
-fn damaged_word(at: u64, reason: &[u8], word: &[u8]) -> bool {
-    decimal(at);
-    text(b" damaged: ");
-    text(reason);
-    quoted(STDOUT_FILENO, word);
-    newline();
-    false
+fn damaged_word<W: Write>(to: &mut W, at: u64, reason: &[u8], word: &[u8]) -> io::Result<bool> {
+    decimal(to, at)?;
+    text(to, b" damaged: ")?;
+    text(to, reason)?;
+    quoted(to, word)?;
+    newline(to)?;
+    Ok(false)
 }
 
-fn test_number(at: u64, word: &[u8]) -> bool {
+fn test_number<W: Write>(to: &mut W, at: u64, word: &[u8]) -> io::Result<bool> {
     match log_lines::number(word) {
-        Decimal::Value(_) => true,
-        Decimal::Invalid => damaged_word(at, b"not a number: ", word),
+        Decimal::Value(_) => Ok(true),
+        Decimal::Invalid => damaged_word(to, at, b"not a number: ", word),
     }
 }
 
-fn test_length(at: u64, n: usize, most: usize) -> bool {
+fn test_length<W: Write>(to: &mut W, at: u64, n: usize, most: usize) -> io::Result<bool> {
     if n <= most {
-        true
+        Ok(true)
     } else {
-        damaged(at, b"too long")
+        damaged(to, at, b"too long")
     }
 }
 
-fn test_bytes(at: u64, word: &[u8]) -> bool {
+fn test_bytes<W: Write>(to: &mut W, at: u64, word: &[u8]) -> io::Result<bool> {
     if !slice::starts_with(word, b"0x") {
-        return test_length(at, word.len(), MAX_BYTES);
+        return test_length(to, at, word.len(), MAX_BYTES);
     }
     if log_lines::is_hexadecimal(word) {
-        return test_length(at, word.len(), 2 + 2 * MAX_BYTES);
+        return test_length(to, at, word.len(), 2 + 2 * MAX_BYTES);
     }
-    damaged_word(at, b"not hexadecimal: ", word)
+    damaged_word(to, at, b"not hexadecimal: ", word)
 }
 
-fn test_consumer_type(at: u64, word: &[u8]) -> bool {
+fn test_consumer_type<W: Write>(to: &mut W, at: u64, word: &[u8]) -> io::Result<bool> {
     if log_lines::place_of(b"stream checkpoint", word) < 2 {
-        return true;
+        return Ok(true);
     }
-    damaged_word(at, b"unknown kind ", word)
+    damaged_word(to, at, b"unknown kind ", word)
 }
 
 // A word is what its letter in the form of a call says.
-fn test_word(at: u64, word: &[u8], letter: u8) -> bool {
+fn test_word<W: Write>(to: &mut W, at: u64, word: &[u8], letter: u8) -> io::Result<bool> {
     match letter {
-        b'n' => test_number(at, word),
-        b'k' => test_consumer_type(at, word),
-        _ => test_bytes(at, word),
+        b'n' => test_number(to, at, word),
+        b'k' => test_consumer_type(to, at, word),
+        _ => test_bytes(to, at, word),
     }
 }
 
 // A line has as many words as the form of its call has letters.
-fn test_count(at: u64, found: usize, count: usize) -> bool {
+fn test_count<W: Write>(to: &mut W, at: u64, found: usize, count: usize) -> io::Result<bool> {
     if found < count {
-        return damaged(at, b"too few words");
+        return damaged(to, at, b"too few words");
     }
     if count < found {
-        return damaged(at, b"too many words");
+        return damaged(to, at, b"too many words");
     }
-    true
+    Ok(true)
 }
 
 // Each word behind the call's name is what its letter says.
-fn test_words(at: u64, line: &[u8], form: &[u8]) -> bool {
+fn test_words<W: Write>(to: &mut W, at: u64, line: &[u8], form: &[u8]) -> io::Result<bool> {
     let mut k: usize = 1;
     while k < form.len() {
-        if !test_word(at, log_lines::word(line, k), form[k]) {
-            return false;
+        if !test_word(to, at, log_lines::word(line, k), form[k])? {
+            return Ok(false);
         }
         k = k + 1;
     }
-    true
+    Ok(true)
 }
 
 // The lines by the places of their first words among the names.
@@ -162,7 +163,7 @@ fn line_at(place: usize) -> Line {
 }
 
 // Tests line number `at`. The form of a call has a letter for each word: `c` the call's name, `n` a number, `b` bytes, `k` a kind of consumer.
-pub fn tested(at: u64, line: &[u8]) -> Line {
+pub fn tested<W: Write>(to: &mut W, at: u64, line: &[u8]) -> io::Result<Line> {
     let name = log_lines::word(line, 0);
     let place = log_lines::place_of(
         b"open update response drain begin invalidate segment key charge churn is_open earliest_open check_log command save restore",
@@ -173,12 +174,13 @@ pub fn tested(at: u64, line: &[u8]) -> Line {
         place,
     );
     if form.len() == 0 {
-        damaged_word(at, b"unknown call ", name);
-        return Line::Damaged;
+        damaged_word(to, at, b"unknown call ", name)?;
+        return Ok(Line::Damaged);
     }
-    if test_count(at, log_lines::word_count(line), form.len()) && test_words(at, line, form) {
-        line_at(place)
+    let count = log_lines::word_count(line);
+    if test_count(to, at, count, form.len())? && test_words(to, at, line, form)? {
+        Ok(line_at(place))
     } else {
-        Line::Damaged
+        Ok(Line::Damaged)
     }
 }

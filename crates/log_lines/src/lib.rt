@@ -5,11 +5,14 @@
 // reads is not proved.
 #![tactic(auto)]
 
-ghost use Rattle.std.specs.Prelude.{◌≤◌, ◌<◌, length};
-ghost use Rattle.io.specs.Counts.{IsPrefixLen};
+ghost use Rattle.std.specs.Prelude.{◌≡◌, ◌≤◌, ◌<◌, length, take};
+ghost use Rattle.std.specs.Io.{ReadsAtMost};
+
+use std::io;
+use std::io::Read;
 
 // The bytes that stand in a row.
-#[derive(Drop)]
+#[derive(Clone, Copy)]
 pub enum ByteClass {
     // Any byte but this one.
     Not(u8),
@@ -115,7 +118,7 @@ pub fn place_of(row: &[u8], w: &[u8]) -> usize {
 }
 
 // A word as a decimal number.
-#[derive(Drop)]
+#[derive(Clone, Copy)]
 pub enum Decimal {
     Value(u64),
     // It is none, or one that does not fit 64 bits.
@@ -184,7 +187,8 @@ pub fn is_hexadecimal(s: &[u8]) -> bool {
 
 // Writes the bytes of a word in hexadecimal to the output, as many as fit, and answers how many.
 fn unhex(s: &[u8], out: &mut [u8]) -> usize
-    ensures { IsPrefixLen result out.new }
+    ensures in_bounds { result ≤ length out.new }
+    ensures front { result ≡ length (take result out.new) }
 {
     let mut i: usize = 0;
     let mut n: usize = 0;
@@ -201,7 +205,8 @@ fn unhex(s: &[u8], out: &mut [u8]) -> usize
 
 // Writes the bytes of a word as they stand, as many as fit, and answers how many.
 fn copy(s: &[u8], out: &mut [u8]) -> usize
-    ensures { IsPrefixLen result out.new }
+    ensures in_bounds { result ≤ length out.new }
+    ensures front { result ≡ length (take result out.new) }
 {
     let mut n: usize = 0;
     while n < s.len() {
@@ -216,7 +221,8 @@ fn copy(s: &[u8], out: &mut [u8]) -> usize
 
 // Writes the bytes that word k of a line stands for to the output, as many as fit, and answers how many.
 pub fn bytes_at(line: &[u8], k: usize, out: &mut [u8]) -> usize
-    ensures { IsPrefixLen result out.new }
+    ensures in_bounds { result ≤ length out.new }
+    ensures front { result ≡ length (take result out.new) }
 {
     let s = word(line, k);
     if slice::starts_with(s, b"0x") {
@@ -224,4 +230,33 @@ pub fn bytes_at(line: &[u8], k: usize, out: &mut [u8]) -> usize
     } else {
         copy(s, out)
     }
+}
+
+// 4,096 zeros, to read the bytes of a word into. Its length is promised: a proof that meets the array itself would count it out.
+pub fn buffer() -> [u8; 4096]
+    ensures { 4096 ≡ length result }
+{
+    [0; 4096]
+}
+
+// 65,536 zeros, likewise.
+pub fn large_buffer() -> [u8; 65536]
+    ensures { 65536 ≡ length result }
+{
+    [0; 65536]
+}
+
+// Reads until the buffer is full or the input ends, and answers how many bytes it put at the front.
+pub fn read_full<R: Read>(from: &mut R, buffer: &mut [u8]) -> io::Result<usize>
+    ensures { ReadsAtMost result buffer.new }
+{
+    let mut n: usize = 0;
+    while n < buffer.len() {
+        let got = from.read(&mut buffer[n..])?;
+        if got == 0 {
+            return Ok(n);
+        }
+        n = n + got;
+    }
+    Ok(n)
 }

@@ -14,35 +14,37 @@ use churn::ChurnAnswer;
 use hours::{EarliestAnswer, OpenAnswer};
 use log_calls::Question;
 use log_text::{decimal, labelled, refused, text};
+use std::io;
+use std::io::Write;
 
-fn none() -> bool {
-    text(b"none");
-    false
+fn none<W: Write>(to: &mut W) -> io::Result<bool> {
+    text(to, b"none")?;
+    Ok(false)
 }
 
-fn number(n: u64) -> bool {
-    decimal(n);
-    false
+fn number<W: Write>(to: &mut W, n: u64) -> io::Result<bool> {
+    decimal(to, n)?;
+    Ok(false)
 }
 
 // Two numbers, each behind its label.
-fn pair(first: &[u8], n: u64, second: &[u8], m: u64) -> bool {
-    labelled(first, n);
-    labelled(second, m);
-    false
+fn pair<W: Write>(to: &mut W, first: &[u8], n: u64, second: &[u8], m: u64) -> io::Result<bool> {
+    labelled(to, first, n)?;
+    labelled(to, second, m)?;
+    Ok(false)
 }
 
-fn yes(b: bool) -> bool {
+fn yes<W: Write>(to: &mut W, b: bool) -> io::Result<bool> {
     if b {
-        text(b"yes");
+        text(to, b"yes")?;
     } else {
-        text(b"no");
+        text(to, b"no")?;
     }
-    false
+    Ok(false)
 }
 
 // The charge of a holding, and the remainder for the segment's next one.
-fn charge(segment: &[u8], line: &[u8]) -> bool {
+fn charge<W: Write>(to: &mut W, segment: &[u8], line: &[u8]) -> io::Result<bool> {
     let answer = charge::charge(
         segment,
         log_lines::number_at(line, 2),
@@ -50,69 +52,79 @@ fn charge(segment: &[u8], line: &[u8]) -> bool {
         log_lines::number_at(line, 4),
     );
     match answer {
-        ChargeAnswer::Charged(cost, remainder) => pair(
-            b"charged ",
-            cost,
-            b" remainder ",
-            remainder,
-        ),
-        ChargeAnswer::Refused(x) => refused(x),
+        ChargeAnswer::Charged(cost, remainder) => {
+            pair(to, b"charged ", cost, b" remainder ", remainder)
+        }
+        ChargeAnswer::Refused(x) => refused(to, x),
     }
 }
 
 // Sum and largest of the lost counts.
-pub fn churn(window: &[u8]) -> bool {
+pub fn churn<W: Write>(to: &mut W, window: &[u8]) -> io::Result<bool> {
     match churn::current(window) {
-        ChurnAnswer::Counted(t) => pair(b"lost ", t.sum, b" largest ", t.largest),
-        ChurnAnswer::Refused(x) => refused(x),
+        ChurnAnswer::Counted(t) => pair(to, b"lost ", t.sum, b" largest ", t.largest),
+        ChurnAnswer::Refused(x) => refused(to, x),
     }
 }
 
 // Whether a second is open.
-fn is_open(contract: &[u8], second: u64) -> bool {
+fn is_open<W: Write>(to: &mut W, contract: &[u8], second: u64) -> io::Result<bool> {
     match hours::is_open(contract, second) {
-        OpenAnswer::Answered(b) => yes(b),
-        OpenAnswer::Refused(x) => refused(x),
+        OpenAnswer::Answered(b) => yes(to, b),
+        OpenAnswer::Refused(x) => refused(to, x),
     }
 }
 
 // The earliest open second.
-fn earliest_open(contract: &[u8], second: u64) -> bool {
+fn earliest_open<W: Write>(to: &mut W, contract: &[u8], second: u64) -> io::Result<bool> {
     match hours::earliest_open(contract, second) {
-        EarliestAnswer::At(at) => number(at),
-        EarliestAnswer::NoneOpen => none(),
-        EarliestAnswer::Refused(x) => refused(x),
+        EarliestAnswer::At(at) => number(to, at),
+        EarliestAnswer::NoneOpen => none(to),
+        EarliestAnswer::Refused(x) => refused(to, x),
     }
 }
 
 // Whether a log passes.
-fn check_log(deltas: &[u8], line: &[u8]) -> bool {
-    let mut log = io::large_buffer();
+fn check_log<W: Write>(to: &mut W, deltas: &[u8], line: &[u8]) -> io::Result<bool> {
+    let mut log = log_lines::large_buffer();
     let n = log_lines::bytes_at(line, 2, &mut log);
     match attach_log::check(deltas, &log[..n]) {
-        LogAnswer::Answered(b) => yes(b),
-        LogAnswer::Refused(x) => refused(x),
+        LogAnswer::Answered(b) => yes(to, b),
+        LogAnswer::Refused(x) => refused(to, x),
     }
 }
 
 // The answer to a line whose first word behind the name stands for these bytes. The list is what the slot of the list
 // that is held has, and empty where none is held.
-fn answer(question: Question, bytes: &[u8], line: &[u8], list: &[u8], window: &[u8]) -> bool {
+fn answer<W: Write>(
+    to: &mut W,
+    question: Question,
+    bytes: &[u8],
+    line: &[u8],
+    list: &[u8],
+    window: &[u8],
+) -> io::Result<bool> {
     match question {
-        Question::Segment => segments::segment(list, bytes),
-        Question::Key => segments::key(list, log_lines::number_at(line, 1)),
-        Question::Charge => charge(bytes, line),
-        Question::Churn => churn(window),
-        Question::IsOpen => is_open(bytes, log_lines::number_at(line, 2)),
-        Question::EarliestOpen => earliest_open(bytes, log_lines::number_at(line, 2)),
-        Question::CheckLog => check_log(bytes, line),
-        Question::Command => commands::carried(bytes),
+        Question::Segment => segments::segment(to, list, bytes),
+        Question::Key => segments::key(to, list, log_lines::number_at(line, 1)),
+        Question::Charge => charge(to, bytes, line),
+        Question::Churn => churn(to, window),
+        Question::IsOpen => is_open(to, bytes, log_lines::number_at(line, 2)),
+        Question::EarliestOpen => earliest_open(to, bytes, log_lines::number_at(line, 2)),
+        Question::CheckLog => check_log(to, bytes, line),
+        Question::Command => commands::carried(to, bytes),
     }
 }
 
 // Writes the answer to a line.
-pub fn ask(question: Question, line: &[u8], list: &[u8], window: &[u8]) -> bool {
-    let mut bytes = io::large_buffer();
+pub fn ask<W: Write>(
+    to: &mut W,
+    question: Question,
+    line: &[u8],
+    list: &[u8],
+    window: &[u8],
+) -> io::Result<bool> {
+    let mut bytes = log_lines::large_buffer();
     let n = log_lines::bytes_at(line, 1, &mut bytes);
-    answer(question, &bytes[..n], line, list, window)
+    answer(to, question, &bytes[..n], line, list, window)
 }

@@ -5,6 +5,8 @@ use key_in_segment::KeyAnswer;
 use key_lookup::SegmentAnswer;
 use log_text::refused;
 use packed::Packed;
+use std::io;
+use std::io::Write;
 use topic_types::SegmentId;
 
 // The list at the front of a slot, as long as it is; empty where there is none.
@@ -17,33 +19,39 @@ fn list_of(slot: &[u8]) -> &[u8] {
     &slot[..0]
 }
 
-fn key_bytes(first: u8, second: u8, third: u8, fourth: u8) -> bool {
-    log_text::four_bytes(first, second, third, fourth);
-    false
+fn key_bytes<W: Write>(
+    to: &mut W,
+    first: u8,
+    second: u8,
+    third: u8,
+    fourth: u8,
+) -> io::Result<bool> {
+    log_text::four_bytes(to, first, second, third, fourth)?;
+    Ok(false)
 }
 
 // The segment that takes a key.
-pub fn segment(slot: &[u8], key: &[u8]) -> bool {
+pub fn segment<W: Write>(to: &mut W, slot: &[u8], key: &[u8]) -> io::Result<bool> {
     let list = list_of(slot);
     if list.len() == 0 {
-        return none();
+        return none(to);
     }
     match key_lookup::segment_for_key(key, list) {
-        SegmentAnswer::Segment(id) => number(id.0),
-        SegmentAnswer::NoSegment => none(),
-        SegmentAnswer::Refused(x) => refused(x),
+        SegmentAnswer::Segment(id) => number(to, id.0),
+        SegmentAnswer::NoSegment => none(to),
+        SegmentAnswer::Refused(x) => refused(to, x),
     }
 }
 
 // A key that falls in a segment.
-pub fn key(slot: &[u8], id: u64) -> bool {
+pub fn key<W: Write>(to: &mut W, slot: &[u8], id: u64) -> io::Result<bool> {
     let list = list_of(slot);
     if list.len() == 0 {
-        return none();
+        return none(to);
     }
     match key_in_segment::key_in_segment(list, SegmentId(id)) {
-        KeyAnswer::Key(k) => key_bytes(k.first, k.second, k.third, k.fourth),
-        KeyAnswer::NoKey => none(),
-        KeyAnswer::Refused(x) => refused(x),
+        KeyAnswer::Key(k) => key_bytes(to, k.first, k.second, k.third, k.fourth),
+        KeyAnswer::NoKey => none(to),
+        KeyAnswer::Refused(x) => refused(to, x),
     }
 }

@@ -6,5 +6,7 @@
 mod print;
 mod refusals;
 
-pub use print::{attached, decimal, four_bytes, hex4, labelled, newline, quoted, space, text};
+pub use print::{
+    attached, decimal, four_bytes, hex2, hex4, hex8, labelled, newline, quoted, space, text,
+};
 pub use refusals::{attached_as, refused, refused_reply, values};

@@ -1,67 +1,79 @@
-// Texts and numbers.
-use libc::STDOUT_FILENO;
+// Texts and numbers, written to a writer.
 use log_lines::ByteClass;
+use std::io;
+use std::io::Write;
 
-pub fn text(s: &[u8]) {
-    io::write_all(STDOUT_FILENO, s);
+pub fn text<W: Write>(to: &mut W, s: &[u8]) -> io::Result<()> {
+    to.write_all(s)
 }
 
-pub fn decimal(n: u64) {
-    io::print_decimal(STDOUT_FILENO, n);
+pub fn decimal<W: Write>(to: &mut W, n: u64) -> io::Result<()> {
+    write!(to, "{n}")
 }
 
-pub fn space() {
-    text(b" ");
+pub fn space<W: Write>(to: &mut W) -> io::Result<()> {
+    text(to, b" ")
 }
 
-pub fn newline() {
-    text(b"\n");
+pub fn newline<W: Write>(to: &mut W) -> io::Result<()> {
+    text(to, b"\n")
 }
 
 // A label, then a number.
-pub fn labelled(label: &[u8], n: u64) {
-    text(label);
-    decimal(n);
+pub fn labelled<W: Write>(to: &mut W, label: &[u8], n: u64) -> io::Result<()> {
+    text(to, label)?;
+    decimal(to, n)
 }
 
 // A space, then a number.
-pub fn attached(n: u64) {
-    space();
-    decimal(n);
+pub fn attached<W: Write>(to: &mut W, n: u64) -> io::Result<()> {
+    labelled(to, b" ", n)
+}
+
+// Two hexadecimal digits.
+pub fn hex2<W: Write>(to: &mut W, b: u8) -> io::Result<()> {
+    write!(to, "{b:02x}")
 }
 
 // Four hexadecimal digits.
-pub fn hex4(n: u16) {
-    io::print_hex(STDOUT_FILENO, n as u64, 4);
+pub fn hex4<W: Write>(to: &mut W, n: u16) -> io::Result<()> {
+    write!(to, "{n:04x}")
+}
+
+// Eight hexadecimal digits.
+pub fn hex8<W: Write>(to: &mut W, n: u32) -> io::Result<()> {
+    write!(to, "{n:08x}")
 }
 
 // Four bytes in hexadecimal behind 0x, in their order.
-pub fn four_bytes(first: u8, second: u8, third: u8, fourth: u8) {
-    text(b"0x");
-    io::print_hex(STDOUT_FILENO, first as u64, 2);
-    io::print_hex(STDOUT_FILENO, second as u64, 2);
-    io::print_hex(STDOUT_FILENO, third as u64, 2);
-    io::print_hex(STDOUT_FILENO, fourth as u64, 2);
+pub fn four_bytes<W: Write>(
+    to: &mut W,
+    first: u8,
+    second: u8,
+    third: u8,
+    fourth: u8,
+) -> io::Result<()> {
+    write!(to, "0x{first:02x}{second:02x}{third:02x}{fourth:02x}")
 }
 
 // A byte as \xHH.
-fn escaped(fd: i32, b: u8) {
-    io::write_all(fd, b"\\x");
-    io::print_hex(fd, slice::wide(b), 2);
+fn escaped<W: Write>(to: &mut W, b: u8) -> io::Result<()> {
+    text(to, b"\\x")?;
+    hex2(to, b)
 }
 
 // A text between quotes, with every byte that is not plain as \xHH: no byte of it reaches a terminal as a command.
-pub fn quoted(fd: i32, s: &[u8]) {
-    io::write_all(fd, b"\"");
+pub fn quoted<W: Write>(to: &mut W, s: &[u8]) -> io::Result<()> {
+    text(to, b"\"")?;
     let mut at: usize = 0;
     while at < s.len() {
         let end = log_lines::end_of(s, at, ByteClass::Plain);
-        io::write_all(fd, &s[at..end]);
+        text(to, &s[at..end])?;
         at = end;
         if at < s.len() {
-            escaped(fd, s[at]);
+            escaped(to, s[at])?;
             at = at + 1;
         }
     }
-    io::write_all(fd, b"\"");
+    text(to, b"\"")
 }

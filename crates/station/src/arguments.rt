@@ -1,9 +1,11 @@
 // The program's arguments.
-use libc::STDERR_FILENO;
-use log_text::quoted;
+use log_text::{quoted, text};
+use std::env::{Env, FillError};
+use std::io;
+use std::io::Write;
 
 // What the arguments ask of a run.
-#[derive(Drop)]
+#[derive(Clone, Copy)]
 pub struct Options {
     // After each call: what changed, and the list that is held.
     pub lists: bool,
@@ -27,14 +29,14 @@ fn none() -> Options {
     }
 }
 
-fn show_unknown(word: &[u8]) {
-    io::write_all(STDERR_FILENO, b"unknown option ");
-    quoted(STDERR_FILENO, word);
-    io::write_all(STDERR_FILENO, b"; --help lists the options\n");
+fn show_unknown<E: Write>(errors: &mut E, word: &[u8]) -> io::Result<()> {
+    text(errors, b"unknown option ")?;
+    quoted(errors, word)?;
+    text(errors, b"; --help lists the options\n")
 }
 
 // The options with one more argument.
-fn with(options: Options, word: &[u8]) -> Options {
+fn with<E: Write>(errors: &mut E, options: Options, word: &[u8]) -> io::Result<Options> {
     let mut next = options;
     match log_lines::place_of(b"--lists --state --stop --help", word) {
         0 => next.lists = true,
@@ -42,31 +44,37 @@ fn with(options: Options, word: &[u8]) -> Options {
         2 => next.stop = true,
         3 => next.help = true,
         _ => {
-            show_unknown(word);
+            show_unknown(errors, word)?;
             next.is_wrong = true;
         }
     }
-    next
+    Ok(next)
 }
 
-// The options with argument i. One that is longer than the buffer counts as unknown, by its first bytes.
-fn with_argument(options: Options, i: usize) -> Options {
-    let mut word = io::buffer();
-    let n = os::arg(i, &mut word);
-    if os::errno() != 0 {
-        return with(options, &word);
+// The options with argument i, or nothing where there is none. One that is longer than the buffer counts as unknown, by
+// its first bytes.
+fn with_argument<R: Env, E: Write>(
+    rt: &R,
+    errors: &mut E,
+    options: Options,
+    i: usize,
+) -> io::Result<Option<Options>> {
+    let mut word = log_lines::buffer();
+    match rt.arg(i, &mut word) {
+        Ok(n) => Ok(Some(with(errors, options, &word[..n])?)),
+        Err(FillError::TooLong) => Ok(Some(with(errors, options, &word)?)),
+        Err(FillError::NotPresent) => Ok(None),
     }
-    with(options, &word[..n])
 }
 
 // The options that the program was started with.
-pub fn given() -> Options {
-    let count = os::arg_count();
+pub fn given<R: Env, E: Write>(rt: &R, errors: &mut E) -> io::Result<Options> {
     let mut options = none();
-    let mut i: usize = 1;
-    while i < count {
-        options = with_argument(options, i);
-        i = i + 1;
+    for i in 1..usize::MAX {
+        match with_argument(rt, errors, options, i)? {
+            Some(next) => options = next,
+            None => return Ok(options),
+        }
     }
-    options
+    Ok(options)
 }

@@ -25,9 +25,9 @@ fn opened(r: Record, x: SessionReply) -> SessionReply {
 
 // open CONSUMER INCARNATION TOPIC SUBSCRIPTION NAME KIND
 fn open(line: &[u8], store: &mut [u8]) -> SessionReply {
-    let mut topic = io::large_buffer();
-    let mut subscription = io::large_buffer();
-    let mut name = io::large_buffer();
+    let mut topic = log_lines::large_buffer();
+    let mut subscription = log_lines::large_buffer();
+    let mut name = log_lines::large_buffer();
     let n = log_lines::bytes_at(line, 3, &mut topic);
     let m = log_lines::bytes_at(line, 4, &mut subscription);
     let l = log_lines::bytes_at(line, 5, &mut name);

@@ -1,8 +1,11 @@
 // The help page.
 use log_text::text;
+use std::io;
+use std::io::Write;
 
-pub fn show() {
+pub fn show<W: Write>(to: &mut W) -> io::Result<()> {
     text(
+        to,
         b"Runs a log of a station's session calls and prints what each call answers.
 
     station [--lists] [--state] [--stop] < LOG
@@ -83,5 +86,5 @@ At the end C calls: A accepted, R refused; D damaged lines.
 The exit status is always 0: look at the last line, which counts refused calls and damaged
 lines. An option that is not known is named on standard error, and nothing is run.
 ",
-    );
+    )
 }

@@ -1,13 +1,14 @@
-// The lines of standard input, one after the other, and the sum at the end.
+// The lines of the input, one after the other, and the sum at the end.
 //
 // The input is read into a buffer. The lines that are whole are run, and what is left moves to the front. A line that
 // fills the buffer is dropped as it comes, and is damaged at its end.
-ghost use Rattle.std.specs.Prelude.{◌+◌, ◌<◌, ◌≤◌, length};
+ghost use Rattle.std.specs.Prelude.{◌+◌, ◌<◌, ◌≤◌, length, IfOk};
 
 use crate::arguments::Options;
 use crate::step;
 use crate::step::Run;
-use libc::STDIN_FILENO;
+use std::io;
+use std::io::{Read, Write};
 
 // The run with so many bytes left to be run.
 fn with_waiting(run: Run, n: usize) -> Run {
@@ -26,29 +27,30 @@ fn with_end(run: Run, is_last: bool) -> Run {
 }
 
 // Runs the lines that are whole; the bytes behind them wait.
-fn run_lines(
+fn run_lines<W: Write>(
+    to: &mut W,
     options: Options,
     run: Run,
     lines_read: &[u8],
     store: &mut [u8],
     window: &mut [u8],
     kept: &mut [u8],
-) -> Run {
+) -> io::Result<Run> {
     let mut next = run;
     let mut at: usize = 0;
     while at < lines_read.len() {
         let end = log_lines::line_end(lines_read, at);
         if lines_read.len() <= end {
-            return with_waiting(next, lines_read.len() - at);
+            return Ok(with_waiting(next, lines_read.len() - at));
         }
         let behind = end + 1;
-        next = step::run_line(options, next, &lines_read[at..end], store, window, kept);
+        next = step::run_line(to, options, next, &lines_read[at..end], store, window, kept)?;
         if next.is_over {
-            return next;
+            return Ok(next);
         }
         at = behind;
     }
-    with_waiting(next, 0)
+    Ok(with_waiting(next, 0))
 }
 
 // Moves the n bytes from a place on to the front.
@@ -63,21 +65,16 @@ fn move_down(buffer: &mut [u8], from: usize, n: usize)
     }
 }
 
-// Reads once, behind the first n bytes, and answers how many came: none at the end of the input, or where it cannot be
-// read.
-fn read_behind(buffer: &mut [u8], n: usize) -> usize
+// Reads once, behind the first n bytes, and answers how many came: none at the end of the input.
+fn read_behind<R: Read>(from: &mut R, buffer: &mut [u8], n: usize) -> io::Result<usize>
     requires { n ≤ length buffer.old }
-    ensures { n + result ≤ length buffer.old }
+    ensures { IfOk result (λ got. n + got ≤ length buffer.old) }
 {
-    let got = libc::read(STDIN_FILENO, &mut buffer[n..]);
-    if got < 0 {
-        os::fail(b"standard input");
-    }
-    io::count(got, &buffer[n..])
+    from.read(&mut buffer[n..])
 }
 
 // What is to be run: so many bytes at the front of the buffer, with which the input ends or not.
-#[derive(Drop)]
+#[derive(Clone, Copy)]
 struct Filled {
     end: usize,
     is_last: bool,
@@ -85,90 +82,96 @@ struct Filled {
 
 // Reads once, behind the first n bytes. At the end of the input it ends the last line, which no line break ends: there
 // is one where bytes wait, or where its front was dropped.
-fn fill(buffer: &mut [u8], n: usize, is_cut: bool) -> Filled
+fn fill<R: Read>(from: &mut R, buffer: &mut [u8], n: usize, is_cut: bool) -> io::Result<Filled>
     requires { n < length buffer.old }
-    ensures { result.end ≤ length buffer.old }
+    ensures { IfOk result (λ f. f.end ≤ length buffer.old) }
 {
-    let got = read_behind(buffer, n);
+    let got = read_behind(from, buffer, n)?;
     if 0 < got {
-        return Filled {
+        return Ok(Filled {
             end: n + got,
             is_last: false,
-        };
+        });
     }
     if n == 0 && !is_cut {
-        return Filled {
+        return Ok(Filled {
             end: 0,
             is_last: true,
-        };
+        });
     }
     buffer[n] = b'\n';
-    Filled {
+    Ok(Filled {
         end: n + 1,
         is_last: true,
-    }
+    })
 }
 
 // Reads once, behind the bytes that wait, and runs the lines that are whole. Where the bytes that wait fill the buffer
 // they are dropped.
-fn read_and_run(
+fn read_and_run<R: Read, W: Write>(
+    from: &mut R,
+    to: &mut W,
     options: Options,
     run: Run,
     buffer: &mut [u8],
     store: &mut [u8],
     window: &mut [u8],
     kept: &mut [u8],
-) -> Run {
+) -> io::Result<Run> {
     let waiting = run.waiting;
     if buffer.len() <= waiting {
         let mut cut = with_waiting(run, 0);
         cut.is_cut = true;
-        return cut;
+        return Ok(cut);
     }
-    let filled = fill(buffer, waiting, run.is_cut);
+    let filled = fill(from, buffer, waiting, run.is_cut)?;
     let end = filled.end;
     let next = with_end(
-        run_lines(options, run, &buffer[..end], store, window, kept),
+        run_lines(to, options, run, &buffer[..end], store, window, kept)?,
         filled.is_last,
     );
     let left = next.waiting;
     if left <= end {
         move_down(buffer, end - left, left);
     }
-    next
+    Ok(next)
 }
 
 // A proved loop has to end, and nothing says that the input does: the turns are counted down from a number that no run
-// uses up.
-fn run_input(
+// uses up. The answers to what was read are written out before more is read.
+fn run_input<R: Read, W: Write>(
+    from: &mut R,
+    to: &mut W,
     options: Options,
     buffer: &mut [u8],
     store: &mut [u8],
     window: &mut [u8],
     kept: &mut [u8],
-) -> Run {
+) -> io::Result<Run> {
     let mut run = step::at_start();
     let mut turns = u64::MAX;
     while 0 < turns {
-        run = read_and_run(options, run, buffer, store, window, kept);
+        run = read_and_run(from, to, options, run, buffer, store, window, kept)?;
+        to.flush()?;
         if run.is_over {
-            return run;
+            return Ok(run);
         }
         turns = turns - 1;
     }
-    run
+    Ok(run)
 }
 
-// Runs the log in standard input by a buffer on a store, with a window of lost counts and a buffer for a saved session
-// beside it.
-pub fn run_log(
+// Runs the log that is read by a buffer on a store, with a window of lost counts and a buffer for a saved session beside
+// it.
+pub fn run_log<R: Read, W: Write>(
+    from: &mut R,
+    to: &mut W,
     options: Options,
     buffer: &mut [u8],
     store: &mut [u8],
     window: &mut [u8],
     kept: &mut [u8],
-) {
-    if !step::show_sum(run_input(options, buffer, store, window, kept)) {
-        os::fail(b"standard output");
-    }
+) -> io::Result<()> {
+    let run = run_input(from, to, options, buffer, store, window, kept)?;
+    step::show_sum(to, run)
 }

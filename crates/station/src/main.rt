@@ -36,6 +36,10 @@ mod report;
 mod step;
 mod window;
 
+use crate::arguments::Options;
+use std::io;
+use std::io::{BufWriter, Read, Write};
+
 // The bytes of a full-size store: three slots, and a queue of 1,024 lists of up to 2,046 bytes.
 const STORE: usize = 2103296;
 
@@ -46,29 +50,39 @@ const KEPT: usize = STORE + session_saved::FRAME;
 // is.
 const BUFFER: usize = 524288;
 
-// Does what the program's arguments ask: runs the log in standard input by a buffer on a store, with a window of lost
-// counts and a buffer for a saved session beside it, or shows the help page.
-fn start(
-    buffer: &mut [u8; BUFFER],
-    store: &mut [u8; STORE],
-    window: &mut [u8; churn::WINDOW],
-    kept: &mut [u8; KEPT],
-) {
-    let options = arguments::given();
+// Does what the program's arguments ask: runs the log that is read by a buffer on a store, with a window of lost counts
+// and a buffer for a saved session beside it, or shows the help page.
+fn start<R: Read, W: Write>(
+    from: &mut R,
+    to: &mut W,
+    options: Options,
+    buffer: &mut [u8],
+    store: &mut [u8],
+    kept: &mut [u8],
+) -> io::Result<()> {
     if options.is_wrong {
-        return;
+        return Ok(());
     }
     if options.help {
-        help::show();
-        return;
+        return help::show(to);
     }
-    input::run_log(options, buffer, store, window, kept);
+    let mut window = [0u8; churn::WINDOW];
+    input::run_log(from, to, options, buffer, store, &mut window, kept)
 }
 
-fn main() {
-    let mut buffer = [0u8; BUFFER];
-    let mut store = [0u8; STORE];
-    let mut window = [0u8; churn::WINDOW];
-    let mut kept = [0u8; KEPT];
-    start(&mut buffer, &mut store, &mut window, &mut kept);
+fn main(rt: HostRuntime) -> io::Result<()> {
+    let options = arguments::given(&rt, &mut rt.stderr())?;
+    let mut buffer = vec![in rt.alloc(); 0u8; BUFFER]?;
+    let mut store = vec![in rt.alloc(); 0u8; STORE]?;
+    let mut kept = vec![in rt.alloc(); 0u8; KEPT]?;
+    let mut to = BufWriter::new(rt.alloc(), rt.stdout())?;
+    start(
+        &mut rt.reader(),
+        &mut to,
+        options,
+        buffer.as_mut_slice(),
+        store.as_mut_slice(),
+        kept.as_mut_slice(),
+    )?;
+    to.flush()
 }

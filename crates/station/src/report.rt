@@ -1,11 +1,12 @@
 // What stands behind a call's name: its answer, the session's record, what changed, and the list that is held.
 use export_record::Record;
 use export_reply::Reply;
-use libc::STDOUT_FILENO;
 use log_calls::CallName;
 use log_text::{decimal, labelled, newline, quoted, space, text};
 use packed::SLOT;
 use session::READERS;
+use std::io;
+use std::io::Write;
 
 // The slot of the baseline.
 fn baseline(store: &[u8]) -> &[u8] {
@@ -24,131 +25,150 @@ pub fn held(is_registered: bool, store: &[u8]) -> &[u8] {
 }
 
 // The broker's text in the message of a response.
-fn show_broker_text(message: &[u8], store: &[u8]) {
-    text(b" text ");
-    quoted(STDOUT_FILENO, session_response::broker_text(message, store));
+fn show_broker_text<W: Write>(to: &mut W, message: &[u8], store: &[u8]) -> io::Result<()> {
+    text(to, b" text ")?;
+    quoted(to, session_response::broker_text(message, store))
 }
 
 // A refusal; of a broker's, 16, the text too.
-fn show_refused(r: Reply, message: &[u8], store: &[u8]) {
-    log_text::refused_reply(r);
+fn show_refused<W: Write>(to: &mut W, r: Reply, message: &[u8], store: &[u8]) -> io::Result<()> {
+    log_text::refused_reply(to, r)?;
     if r.number == 16 {
-        show_broker_text(message, store);
+        show_broker_text(to, message, store)?;
     }
+    Ok(())
 }
 
 // A delta at the front of the output.
-fn show_delta(out: &[u8]) {
-    text(b"delta ");
-    log_lists::delta_counts(out);
+fn show_delta<W: Write>(to: &mut W, out: &[u8]) -> io::Result<()> {
+    text(to, b"delta ")?;
+    log_lists::delta_counts(to, out)
 }
 
 // The same of a push of the queue, with its place.
-fn show_replay(place: u64, out: &[u8]) {
-    labelled(b"replay at ", place);
-    space();
-    log_lists::delta_counts(out);
+fn show_replay<W: Write>(to: &mut W, place: u64, out: &[u8]) -> io::Result<()> {
+    labelled(to, b"replay at ", place)?;
+    space(to)?;
+    log_lists::delta_counts(to, out)
 }
 
 // `accepted`, and of a response the baseline that it gave.
-fn show_accepted(name: CallName, store: &[u8]) {
-    text(b"accepted");
+fn show_accepted<W: Write>(to: &mut W, name: CallName, store: &[u8]) -> io::Result<()> {
+    text(to, b"accepted")?;
     if let CallName::Response = name {
-        text(b" baseline ");
-        log_lists::list_counts(baseline(store));
+        text(to, b" baseline ")?;
+        log_lists::list_counts(to, baseline(store))?;
     }
+    Ok(())
 }
 
 // The answer; a delta stands at the front of the output.
-pub fn show_answer(name: CallName, r: Reply, message: &[u8], store: &[u8], out: &[u8]) {
+pub fn show_answer<W: Write>(
+    to: &mut W,
+    name: CallName,
+    r: Reply,
+    message: &[u8],
+    store: &[u8],
+    out: &[u8],
+) -> io::Result<()> {
     if r.answer == export_reply::REFUSED {
-        show_refused(r, message, store);
+        show_refused(to, r, message, store)?;
     }
     if r.answer == export_reply::ACCEPTED {
-        show_accepted(name, store);
+        show_accepted(to, name, store)?;
     }
     if r.answer == export_reply::UNCHANGED {
-        text(b"none");
+        text(to, b"none")?;
     }
     if r.answer == export_reply::DELTA {
-        show_delta(out);
+        show_delta(to, out)?;
     }
     if r.answer == export_reply::REPLAY {
-        show_replay(r.first, out);
+        show_replay(to, r.first, out)?;
     }
+    Ok(())
 }
 
-fn show_flag(label: &[u8], b: bool) {
-    text(label);
-    if b {
-        text(b"yes");
-    } else {
-        text(b"no");
-    }
+fn show_flag<W: Write>(to: &mut W, label: &[u8], b: bool) -> io::Result<()> {
+    text(to, label)?;
+    if b { text(to, b"yes") } else { text(to, b"no") }
 }
 
-fn show_floor(r: Record) {
+fn show_floor<W: Write>(to: &mut W, r: Record) -> io::Result<()> {
     if r.has_floor == 0 {
-        text(b"none");
+        text(to, b"none")
     } else {
-        decimal(r.epoch_floor);
+        decimal(to, r.epoch_floor)
     }
 }
 
 // How many pushes of the queue each reader has drained.
-fn show_drained(r: Record) {
+fn show_drained<W: Write>(to: &mut W, r: Record) -> io::Result<()> {
     let positions = r.drain_positions;
-    text(b" drained");
+    text(to, b" drained")?;
     for reader in 0..READERS {
-        labelled(b" ", positions[reader] as u64);
+        labelled(to, b" ", positions[reader] as u64)?;
     }
+    Ok(())
 }
 
 // The record of an open session, and the lost counts beside it.
-pub fn show_state(r: Record, window: &[u8]) {
-    labelled(b"  state incarnation ", r.incarnation);
-    text(b" floor ");
-    show_floor(r);
-    show_flag(b" registered ", r.registered != 0);
-    show_flag(b" invalidated ", r.invalidated != 0);
-    labelled(b" queue ", r.queue_count as u64);
-    show_drained(r);
-    space();
-    log_questions::churn(window);
-    newline();
+pub fn show_state<W: Write>(to: &mut W, r: Record, window: &[u8]) -> io::Result<()> {
+    labelled(to, b"  state incarnation ", r.incarnation)?;
+    text(to, b" floor ")?;
+    show_floor(to, r)?;
+    show_flag(to, b" registered ", r.registered != 0)?;
+    show_flag(to, b" invalidated ", r.invalidated != 0)?;
+    labelled(to, b" queue ", r.queue_count as u64)?;
+    show_drained(to, r)?;
+    space(to)?;
+    log_questions::churn(to, window)?;
+    newline(to)
 }
 
 // The list that is held.
-fn show_held(is_registered: bool, store: &[u8]) {
+fn show_held<W: Write>(to: &mut W, is_registered: bool, store: &[u8]) -> io::Result<()> {
     if !is_registered {
-        text(b"  held none\n");
-        return;
+        return text(to, b"  held none\n");
     }
     let list = held(true, store);
-    text(b"  held ");
-    log_lists::list_counts(list);
-    newline();
-    log_lists::list_rows(list, b"    ");
+    text(to, b"  held ")?;
+    log_lists::list_counts(to, list)?;
+    newline(to)?;
+    log_lists::list_rows(to, list, b"    ")
 }
 
 // The rows below an accepted call: the baseline of a response, and the list that is held, which was set anew.
-fn show_set(name: CallName, is_registered: bool, store: &[u8]) {
+fn show_set<W: Write>(
+    to: &mut W,
+    name: CallName,
+    is_registered: bool,
+    store: &[u8],
+) -> io::Result<()> {
     if let CallName::Response = name {
-        log_lists::list_rows(baseline(store), b"  baseline ");
+        log_lists::list_rows(to, baseline(store), b"  baseline ")?;
     }
-    show_held(is_registered, store);
+    show_held(to, is_registered, store)
 }
 
 // The lists below an answer: what a delta loses and gains, and what is held where it was set anew.
-pub fn show_lists(name: CallName, r: Reply, is_registered: bool, store: &[u8], out: &[u8]) {
+pub fn show_lists<W: Write>(
+    to: &mut W,
+    name: CallName,
+    r: Reply,
+    is_registered: bool,
+    store: &[u8],
+    out: &[u8],
+) -> io::Result<()> {
     if r.answer == export_reply::DELTA {
-        log_lists::changes(out);
-        show_held(is_registered, store);
+        log_lists::changes(to, out)?;
+        show_held(to, is_registered, store)?;
     }
     if r.answer == export_reply::REPLAY {
-        log_lists::changes(out);
+        log_lists::changes(to, out)?;
     }
     if r.answer == export_reply::ACCEPTED {
-        show_set(name, is_registered, store);
+        show_set(to, name, is_registered, store)?;
     }
+    Ok(())
 }

@@ -5,13 +5,14 @@ use crate::arguments::Options;
 use crate::{calls, report, window};
 use export_record::{Record, SessionReply};
 use export_reply::Reply;
-use libc::STDOUT_FILENO;
 use log_calls::{CallName, Line, Question};
 use log_text::{decimal, labelled, newline, space, text};
 use output::WriteAnswer;
+use std::io;
+use std::io::Write;
 
 // What a run has come to.
-#[derive(Drop)]
+#[derive(Clone, Copy)]
 pub struct Run {
     // The number of the line.
     pub line: u64,
@@ -84,7 +85,8 @@ fn settled(run: Run, changed: SessionReply) -> Run {
 }
 
 // The rows below a call that the options ask for: the record, then the lists.
-fn show_details(
+fn show_details<W: Write>(
+    to: &mut W,
     options: Options,
     name: CallName,
     run: Run,
@@ -92,22 +94,24 @@ fn show_details(
     store: &[u8],
     window: &[u8],
     out: &[u8],
-) {
+) -> io::Result<()> {
     let record = run.record;
     if options.state {
         if run.is_open {
-            report::show_state(record, window);
+            report::show_state(to, record, window)?;
         } else {
-            text(b"  state none\n");
+            text(to, b"  state none\n")?;
         }
     }
     if options.lists {
-        report::show_lists(name, told, record.registered != 0, store, out);
+        report::show_lists(to, name, told, record.registered != 0, store, out)?;
     }
+    Ok(())
 }
 
 // Shows what a call gave, and the rows below it; the run behind it.
-fn show_call(
+fn show_call<W: Write>(
+    to: &mut W,
     options: Options,
     name: CallName,
     run: Run,
@@ -116,17 +120,18 @@ fn show_call(
     store: &[u8],
     window: &[u8],
     out: &[u8],
-) -> Run {
+) -> io::Result<Run> {
     let told = changed.reply;
-    report::show_answer(name, told, message, store, out);
-    newline();
+    report::show_answer(to, name, told, message, store, out)?;
+    newline(to)?;
     let next = settled(run, changed);
-    show_details(options, name, next, told, store, window, out);
-    next
+    show_details(to, options, name, next, told, store, window, out)?;
+    Ok(next)
 }
 
 // Runs a call and shows what it gives; of an update or a response with its message.
-fn run_message(
+fn run_message<W: Write>(
+    to: &mut W,
     options: Options,
     run: Run,
     name: CallName,
@@ -135,16 +140,19 @@ fn run_message(
     store: &mut [u8],
     window: &mut [u8],
     kept: &[u8],
-) -> Run {
+) -> io::Result<Run> {
     let mut out = [0u8; packed_diff::LONGEST];
     let record = run.record;
     let changed = calls::call(record, name, line, message, store, kept, &mut out);
     window::after(name, record, changed, &out, window);
-    show_call(options, name, run, changed, message, store, window, &out)
+    show_call(
+        to, options, name, run, changed, message, store, window, &out,
+    )
 }
 
 // Runs a call. Its third word stands for the message, where it has one.
-fn run_call(
+fn run_call<W: Write>(
+    to: &mut W,
     options: Options,
     run: Run,
     name: CallName,
@@ -152,10 +160,11 @@ fn run_call(
     store: &mut [u8],
     window: &mut [u8],
     kept: &[u8],
-) -> Run {
-    let mut message = io::large_buffer();
+) -> io::Result<Run> {
+    let mut message = log_lines::large_buffer();
     let n = log_lines::bytes_at(line, 2, &mut message);
     run_message(
+        to,
         options,
         run,
         name,
@@ -168,20 +177,20 @@ fn run_call(
 }
 
 // Saves the session, in place of the one that was saved before.
-fn run_save(run: Run, store: &[u8], kept: &mut [u8]) -> Run {
+fn run_save<W: Write>(to: &mut W, run: Run, store: &[u8], kept: &mut [u8]) -> io::Result<Run> {
     let record = run.record;
     match session_saved::save(export_record::record_of(record), store, kept) {
         WriteAnswer::Written(n) => {
-            labelled(b"saved ", n as u64);
-            newline();
+            labelled(to, b"saved ", n as u64)?;
+            newline(to)?;
             let mut next = run;
             next.kept = n;
-            counted(next, false)
+            Ok(counted(next, false))
         }
         WriteAnswer::Refused(x) => {
-            log_text::refused(x);
-            newline();
-            counted(run, true)
+            log_text::refused(to, x)?;
+            newline(to)?;
+            Ok(counted(run, true))
         }
     }
 }
@@ -192,16 +201,19 @@ fn front(s: &[u8], n: usize) -> &[u8] {
 }
 
 // Shows the answer to a question. Nothing is changed but the counts.
-fn run_question(run: Run, question: Question, line: &[u8], store: &[u8], window: &[u8]) -> Run {
+fn run_question<W: Write>(
+    to: &mut W,
+    run: Run,
+    question: Question,
+    line: &[u8],
+    store: &[u8],
+    window: &[u8],
+) -> io::Result<Run> {
     let record = run.record;
-    let is_refused = log_questions::ask(
-        question,
-        line,
-        report::held(record.registered != 0, store),
-        window,
-    );
-    newline();
-    counted(run, is_refused)
+    let list = report::held(record.registered != 0, store);
+    let is_refused = log_questions::ask(to, question, line, list, window)?;
+    newline(to)?;
+    Ok(counted(run, is_refused))
 }
 
 // The run behind a damaged line.
@@ -241,7 +253,8 @@ fn needs_session(tested: Line) -> bool {
 }
 
 // Runs a line that was tested, behind its number and its first word, the call's name.
-fn run_tested(
+fn run_tested<W: Write>(
+    to: &mut W,
     options: Options,
     run: Run,
     tested: Line,
@@ -249,61 +262,62 @@ fn run_tested(
     store: &mut [u8],
     window: &mut [u8],
     kept: &mut [u8],
-) -> Run {
-    decimal(run.line);
-    space();
-    text(log_lines::word(line, 0));
-    space();
+) -> io::Result<Run> {
+    decimal(to, run.line)?;
+    space(to)?;
+    text(to, log_lines::word(line, 0))?;
+    space(to)?;
     match tested {
-        Line::Damaged => run,
-        Line::Question(question) => run_question(run, question, line, store, window),
-        Line::Save => run_save(run, store, kept),
-        Line::Call(name) => run_call(options, run, name, line, store, window, kept),
+        Line::Damaged => Ok(run),
+        Line::Question(question) => run_question(to, run, question, line, store, window),
+        Line::Save => run_save(to, run, store, kept),
+        Line::Call(name) => run_call(to, options, run, name, line, store, window, kept),
     }
 }
 
 // The line is no call, or one that cannot be run now; why was written.
-fn is_damaged(run: Run, tested: Line) -> bool {
+fn is_damaged<W: Write>(to: &mut W, run: Run, tested: Line) -> io::Result<bool> {
     if let Line::Damaged = tested {
-        return true;
+        return Ok(true);
     }
     if needs_session(tested) && !run.is_open {
-        return !log_calls::damaged(run.line, b"no session is open");
+        return Ok(!log_calls::damaged(to, run.line, b"no session is open")?);
     }
-    false
+    Ok(false)
 }
 
 // Runs a line, and shows what comes of it.
-pub fn run_line(
+pub fn run_line<W: Write>(
+    to: &mut W,
     options: Options,
     run: Run,
     line: &[u8],
     store: &mut [u8],
     window: &mut [u8],
     kept: &mut [u8],
-) -> Run {
+) -> io::Result<Run> {
     let mut next = run;
     next.line = one_more(run.line);
     if next.is_cut {
         next.is_cut = false;
-        log_calls::damaged(next.line, b"too long");
-        return with_damaged(options, next);
+        log_calls::damaged(to, next.line, b"too long")?;
+        return Ok(with_damaged(options, next));
     }
     if is_passed_over(line) {
-        return next;
+        return Ok(next);
     }
-    let tested = log_calls::tested(next.line, line);
-    if is_damaged(next, tested) {
-        return with_damaged(options, next);
+    let tested = log_calls::tested(to, next.line, line)?;
+    if is_damaged(to, next, tested)? {
+        return Ok(with_damaged(options, next));
     }
-    run_tested(options, next, tested, line, store, window, kept)
+    run_tested(to, options, next, tested, line, store, window, kept)
 }
 
-// `C calls: A accepted, R refused; D damaged lines`. Whether standard output takes it.
-pub fn show_sum(run: Run) -> bool {
-    decimal(std::num::wrapping_add_u64(run.accepted, run.refused));
-    labelled(b" calls: ", run.accepted);
-    labelled(b" accepted, ", run.refused);
-    labelled(b" refused; ", run.damaged);
-    io::write_all(STDOUT_FILENO, b" damaged lines\n")
+// `C calls: A accepted, R refused; D damaged lines`
+pub fn show_sum<W: Write>(to: &mut W, run: Run) -> io::Result<()> {
+    decimal(to, run.accepted.wrapping_add(run.refused))?;
+    labelled(to, b" calls: ", run.accepted)?;
+    labelled(to, b" accepted, ", run.refused)?;
+    labelled(to, b" refused; ", run.damaged)?;
+    text(to, b" damaged lines\n")
 }

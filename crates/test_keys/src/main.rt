@@ -11,77 +11,82 @@ ghost use Rattle.std.specs.Prelude.{◌≡◌, length};
 use key_for_hash::TestKey;
 use key_in_segment::KeyAnswer;
 use key_lookup::SegmentAnswer;
-use libc::{STDIN_FILENO, STDOUT_FILENO};
-use log_text::{decimal, four_bytes, labelled, text};
+use log_text::{decimal, four_bytes, hex8, labelled, text};
+use std::io;
+use std::io::{BufWriter, Write};
 use topic_types::SegmentId;
 
 // The most bytes that are read.
 const INPUT: usize = 262144;
 
 // hash KEY: eight hexadecimal digits
-fn hash(line: &[u8]) {
-    let mut key = io::large_buffer();
+fn hash<W: Write>(to: &mut W, line: &[u8]) -> io::Result<()> {
+    let mut key = log_lines::large_buffer();
     let n = log_lines::bytes_at(line, 1, &mut key);
-    io::print_hex(STDOUT_FILENO, key_murmur3::hash(&key[..n]) as u64, 8);
+    hex8(to, key_murmur3::hash(&key[..n]))
 }
 
 // segment KEY ASSIGNMENT: the id, none, or the number of the refusal
-fn segment(line: &[u8]) {
-    let mut key = io::large_buffer();
+fn segment<W: Write>(to: &mut W, line: &[u8]) -> io::Result<()> {
+    let mut key = log_lines::large_buffer();
     let k = log_lines::bytes_at(line, 1, &mut key);
-    let mut assignment = io::buffer();
+    let mut assignment = log_lines::buffer();
     let n = log_lines::bytes_at(line, 2, &mut assignment);
     match key_lookup::segment_for_key(&key[..k], &assignment[..n]) {
-        SegmentAnswer::Segment(id) => decimal(id.0),
-        SegmentAnswer::NoSegment => text(b"none"),
-        SegmentAnswer::Refused(x) => labelled(b"refused ", refusal::number(x) as u64),
+        SegmentAnswer::Segment(id) => decimal(to, id.0),
+        SegmentAnswer::NoSegment => text(to, b"none"),
+        SegmentAnswer::Refused(x) => labelled(to, b"refused ", refusal::number(x) as u64),
     }
 }
 
-fn show_key(key: TestKey) {
-    four_bytes(key.first, key.second, key.third, key.fourth);
+fn show_key<W: Write>(to: &mut W, key: TestKey) -> io::Result<()> {
+    four_bytes(to, key.first, key.second, key.third, key.fourth)
 }
 
 // key HASH: the four bytes that have the hash
-fn key(line: &[u8]) {
-    show_key(key_for_hash::key_for_hash(log_lines::number32_at(line, 1)));
+fn key<W: Write>(to: &mut W, line: &[u8]) -> io::Result<()> {
+    show_key(
+        to,
+        key_for_hash::key_for_hash(log_lines::number32_at(line, 1)),
+    )
 }
 
 // key_in ASSIGNMENT ID: the key that falls in the segment, none, or the number of the refusal
-fn key_in(line: &[u8]) {
-    let mut assignment = io::buffer();
+fn key_in<W: Write>(to: &mut W, line: &[u8]) -> io::Result<()> {
+    let mut assignment = log_lines::buffer();
     let n = log_lines::bytes_at(line, 1, &mut assignment);
     let id = SegmentId(log_lines::number_at(line, 2));
     match key_in_segment::key_in_segment(&assignment[..n], id) {
-        KeyAnswer::Key(k) => show_key(k),
-        KeyAnswer::NoKey => text(b"none"),
-        KeyAnswer::Refused(x) => labelled(b"refused ", refusal::number(x) as u64),
+        KeyAnswer::Key(k) => show_key(to, k),
+        KeyAnswer::NoKey => text(to, b"none"),
+        KeyAnswer::Refused(x) => labelled(to, b"refused ", refusal::number(x) as u64),
     }
 }
 
-fn run(line: &[u8]) {
+fn run<W: Write>(to: &mut W, line: &[u8]) -> io::Result<()> {
     if slice::starts_with(line, b"#") {
-        return;
+        return Ok(());
     }
     match log_lines::place_of(b"hash segment key", log_lines::word(line, 0)) {
-        0 => hash(line),
-        1 => segment(line),
-        2 => key(line),
-        _ => key_in(line),
+        0 => hash(to, line)?,
+        1 => segment(to, line)?,
+        2 => key(to, line)?,
+        _ => key_in(to, line)?,
     }
-    text(b"\n");
+    text(to, b"\n")
 }
 
-fn run_all(text: &[u8]) {
+fn run_all<W: Write>(to: &mut W, text: &[u8]) -> io::Result<()> {
     let mut at: usize = 0;
     while at < text.len() {
         let end = log_lines::line_end(text, at);
-        run(&text[at..end]);
+        run(to, &text[at..end])?;
         at = end;
         if at < text.len() {
             at = at + 1;
         }
     }
+    Ok(())
 }
 
 // The length is promised: a proof that meets the array itself would count it out.
@@ -91,8 +96,10 @@ fn input() -> [u8; INPUT]
     [0; INPUT]
 }
 
-fn main() {
+fn main(rt: HostRuntime) -> io::Result<()> {
     let mut buffer = input();
-    let n = io::read_full(STDIN_FILENO, &mut buffer);
-    run_all(&buffer[..n]);
+    let n = log_lines::read_full(&mut rt.reader(), &mut buffer)?;
+    let mut to = BufWriter::new(rt.alloc(), rt.stdout())?;
+    run_all(&mut to, &buffer[..n])?;
+    to.flush()
 }

@@ -7,12 +7,14 @@ use crate::output_vectors::written;
 use crate::print;
 use packed::Packed;
 use packed_delta::DeltaRead;
+use std::io;
+use std::io::Write;
 
 // delta BYTES: how many ids it loses and how many records it gains
-fn delta(bytes: &[u8]) {
+fn delta<W: Write>(to: &mut W, bytes: &[u8]) -> io::Result<()> {
     match packed_delta::read_delta(bytes) {
-        DeltaRead::Delta(lost, gained) => print::pair(lost as u64, gained as u64),
-        DeltaRead::Malformed => print::malformed(),
+        DeltaRead::Delta(lost, gained) => print::pair(to, lost as u64, gained as u64),
+        DeltaRead::Malformed => print::malformed(to),
     }
 }
 
@@ -26,23 +28,22 @@ fn is_packed(s: &[u8]) -> bool
 }
 
 // difference OLD NEW
-fn write_between(old: &[u8], new: &[u8]) {
+fn write_between<W: Write>(to: &mut W, old: &[u8], new: &[u8]) -> io::Result<()> {
     if is_packed(old) {
         if is_packed(new) {
             let mut out = [FILL; packed_diff::LONGEST];
             let n = packed_diff::write_delta(old, new, &mut out);
-            written(&out, n);
-            return;
+            return written(to, &out, n);
         }
     }
-    print::malformed();
+    print::malformed(to)
 }
 
-pub fn run(name: &[u8], a: &[u8], b: &[u8]) -> bool {
+pub fn run<W: Write>(to: &mut W, name: &[u8], a: &[u8], b: &[u8]) -> io::Result<bool> {
     match log_lines::place_of(b"delta difference", name) {
-        0 => delta(a),
-        1 => write_between(a, b),
-        _ => return false,
+        0 => delta(to, a)?,
+        1 => write_between(to, a, b)?,
+        _ => return Ok(false),
     }
-    true
+    Ok(true)
 }

@@ -4,6 +4,8 @@ use crate::{buffers, print};
 use intake::Intake;
 use log_text::{newline, text};
 use packed::SLOT;
+use std::io;
+use std::io::Write;
 
 // The assignment of an update: field 2.
 fn of_update(message: &[u8], parent: &[u8], b: &mut [u8; SLOT]) -> Intake {
@@ -24,26 +26,26 @@ fn take_in(field: u64, parent: &[u8], message: &[u8], b: &mut [u8; SLOT]) -> Int
     of_response(message, parent, b)
 }
 
-fn answer(r: Intake, b: &[u8; SLOT]) {
+fn answer<W: Write>(to: &mut W, r: Intake, b: &[u8; SLOT]) -> io::Result<()> {
     match r {
         Intake::Taken(size) => {
-            text(b"taken");
-            print::bytes(buffers::front(b, size));
-            newline();
+            text(to, b"taken")?;
+            print::bytes(to, buffers::front(b, size))?;
+            newline(to)
         }
-        Intake::Refused(x) => print::refused(x),
+        Intake::Refused(x) => print::refused(to, x),
     }
 }
 
 // intake FIELD PARENT MESSAGE: field 2 of an update, else field 4 of a response
-pub fn run(name: &[u8], line: &[u8], parent: &[u8]) -> bool {
+pub fn run<W: Write>(to: &mut W, name: &[u8], line: &[u8], parent: &[u8]) -> io::Result<bool> {
     if !slice::same(name, b"intake") {
-        return false;
+        return Ok(false);
     }
     let mut message = filled(0);
     let mut b = [FILL; SLOT];
     let m = log_lines::bytes_at(line, 3, &mut message);
     let r = take_in(log_lines::number_at(line, 1), parent, &message[..m], &mut b);
-    answer(r, &b);
-    true
+    answer(to, r, &b)?;
+    Ok(true)
 }

@@ -17,71 +17,71 @@ mod watch_vectors;
 mod wire_vectors;
 
 use crate::buffers::{filled, front};
-use libc::STDIN_FILENO;
 use log_text::text;
+use std::io;
+use std::io::{BufWriter, Write};
 
 // The most bytes that are read.
 const INPUT: usize = 1048576;
 
 // Runs a line whose words 1 and 2 stand for the bytes a and b.
-fn run_command(line: &[u8], a: &[u8], b: &[u8]) {
+fn run_command<W: Write>(to: &mut W, line: &[u8], a: &[u8], b: &[u8]) -> io::Result<()> {
     let name = log_lines::word(line, 0);
-    if packed_vectors::run(name, a) {
-        return;
+    if packed_vectors::run(to, name, a)? {
+        return Ok(());
     }
-    if name_vectors::run(name, line, b) {
-        return;
+    if name_vectors::run(to, name, line, b)? {
+        return Ok(());
     }
-    if range_vectors::run(name, line) {
-        return;
+    if range_vectors::run(to, name, line)? {
+        return Ok(());
     }
-    if wire_vectors::run(name, line, a, b) {
-        return;
+    if wire_vectors::run(to, name, line, a, b)? {
+        return Ok(());
     }
-    if delta_vectors::run(name, a, b) {
-        return;
+    if delta_vectors::run(to, name, a, b)? {
+        return Ok(());
     }
-    if output_vectors::run(name, line, a, b) {
-        return;
+    if output_vectors::run(to, name, line, a, b)? {
+        return Ok(());
     }
-    if intake_vectors::run(name, line, b) {
-        return;
+    if intake_vectors::run(to, name, line, b)? {
+        return Ok(());
     }
-    if watch_vectors::run(name, line) {
-        return;
+    if watch_vectors::run(to, name, line)? {
+        return Ok(());
     }
-    text(b"unknown command\n");
+    text(to, b"unknown command\n")
 }
 
-fn run(line: &[u8]) {
+fn run<W: Write>(to: &mut W, line: &[u8]) -> io::Result<()> {
     if slice::starts_with(line, b"#") {
-        return;
+        return Ok(());
     }
     let mut a = filled(0);
     let mut b = filled(0);
     let n = log_lines::bytes_at(line, 1, &mut a);
     let m = log_lines::bytes_at(line, 2, &mut b);
-    run_command(line, &a[..n], &b[..m]);
+    run_command(to, line, &a[..n], &b[..m])
 }
 
-fn run_all(text: &[u8]) {
+fn run_all<W: Write>(to: &mut W, text: &[u8]) -> io::Result<()> {
     let mut at: usize = 0;
     while at < text.len() {
         let end = log_lines::line_end(text, at);
-        run(&text[at..end]);
+        run(to, &text[at..end])?;
         at = end;
         if at < text.len() {
             at = at + 1;
         }
     }
+    Ok(())
 }
 
-fn run_input(buffer: &mut [u8; INPUT]) {
-    let n = io::read_full(STDIN_FILENO, buffer);
-    run_all(front(buffer, n));
-}
-
-fn main() {
-    let mut buffer = [0u8; INPUT];
-    run_input(&mut buffer);
+fn main(rt: HostRuntime) -> io::Result<()> {
+    let mut buffer = vec![in rt.alloc(); 0u8; INPUT]?;
+    let n = log_lines::read_full(&mut rt.reader(), buffer.as_mut_slice())?;
+    let mut to = BufWriter::new(rt.alloc(), rt.stdout())?;
+    run_all(&mut to, front(buffer.as_slice(), n))?;
+    to.flush()
 }

@@ -3,15 +3,17 @@ use crate::{buffers, print};
 use log_text::{attached, decimal, newline, text};
 use name_source::SourceAnswer;
 use name_topic::NameAnswer;
+use std::io;
+use std::io::Write;
 use topic_types::SegmentId;
 
-fn answer(r: NameAnswer, out: &[u8]) {
+fn answer<W: Write>(to: &mut W, r: NameAnswer, out: &[u8]) -> io::Result<()> {
     match r {
         NameAnswer::Written(n) => {
-            text(buffers::front(out, n));
-            newline();
+            text(to, buffers::front(out, n))?;
+            newline(to)
         }
-        NameAnswer::Refused(x) => print::refused(x),
+        NameAnswer::Refused(x) => print::refused(to, x),
     }
 }
 
@@ -24,35 +26,37 @@ fn build(line: &[u8], parent: &[u8], out: &mut [u8]) -> NameAnswer {
 }
 
 // parent ROOM NAME
-fn written(is_build: bool, line: &[u8], b: &[u8]) {
+fn written<W: Write>(to: &mut W, is_build: bool, line: &[u8], b: &[u8]) -> io::Result<()> {
     let mut buffer = [0u8; 256];
     let out = buffers::front_mut(&mut buffer, log_lines::number_at(line, 1) as usize);
     if is_build {
-        answer(build(line, b, out), out);
+        let r = build(line, b, out);
+        answer(to, r, out)
     } else {
-        answer(name_source::parent_topic(b, out), out);
+        let r = name_source::parent_topic(b, out);
+        answer(to, r, out)
     }
 }
 
 // source ID NAME
-fn source(line: &[u8], name: &[u8]) {
+fn source<W: Write>(to: &mut W, line: &[u8], name: &[u8]) -> io::Result<()> {
     match name_source::segment_source(SegmentId(log_lines::number_at(line, 1)), name) {
         SourceAnswer::Source(s) => {
-            decimal(s.segment_id.0);
-            attached(s.key_range.start as u64);
-            attached(s.key_range.end as u64);
-            newline();
+            decimal(to, s.segment_id.0)?;
+            attached(to, s.key_range.start as u64)?;
+            attached(to, s.key_range.end as u64)?;
+            newline(to)
         }
-        SourceAnswer::Refused(x) => print::refused(x),
+        SourceAnswer::Refused(x) => print::refused(to, x),
     }
 }
 
-pub fn run(name: &[u8], line: &[u8], b: &[u8]) -> bool {
+pub fn run<W: Write>(to: &mut W, name: &[u8], line: &[u8], b: &[u8]) -> io::Result<bool> {
     match log_lines::place_of(b"build parent source", name) {
-        0 => written(true, line, b),
-        1 => written(false, line, b),
-        2 => source(line, b),
-        _ => return false,
+        0 => written(to, true, line, b)?,
+        1 => written(to, false, line, b)?,
+        2 => source(to, line, b)?,
+        _ => return Ok(false),
     }
-    true
+    Ok(true)
 }

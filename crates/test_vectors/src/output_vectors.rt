@@ -4,6 +4,8 @@ use crate::{buffers, print};
 use log_text::labelled;
 use output::WriteAnswer;
 use refusal::Refusal;
+use std::io;
+use std::io::Write;
 
 // apply ASSIGNMENT DELTA, join DELTA DELTA, to_pb ASSIGNMENT PARENT
 fn call(place: usize, a: &[u8], b: &[u8], out: &mut [u8]) -> WriteAnswer {
@@ -15,29 +17,29 @@ fn call(place: usize, a: &[u8], b: &[u8], out: &mut [u8]) -> WriteAnswer {
 }
 
 // A result of n bytes at the front of an output.
-pub fn written(out: &[u8], n: usize) {
-    labelled(b"written ", n as u64);
-    print::bytes(buffers::front(out, n));
-    print::stayed(buffers::blank(n, out));
+pub fn written<W: Write>(to: &mut W, out: &[u8], n: usize) -> io::Result<()> {
+    labelled(to, b"written ", n as u64)?;
+    print::bytes(to, buffers::front(out, n))?;
+    print::stayed(to, buffers::blank(n, out))
 }
 
 // A refusal that leaves the output as it was.
-fn unwritten(x: Refusal, out: &[u8]) {
-    print::refusal(x);
-    print::stayed(buffers::blank(0, out));
+fn unwritten<W: Write>(to: &mut W, x: Refusal, out: &[u8]) -> io::Result<()> {
+    print::refusal(to, x)?;
+    print::stayed(to, buffers::blank(0, out))
 }
 
 // Behind the command's two arguments stands the room that it has for its result.
-pub fn run(name: &[u8], line: &[u8], a: &[u8], b: &[u8]) -> bool {
+pub fn run<W: Write>(to: &mut W, name: &[u8], line: &[u8], a: &[u8], b: &[u8]) -> io::Result<bool> {
     let place = log_lines::place_of(b"apply join to_pb", name);
     if 3 <= place {
-        return false;
+        return Ok(false);
     }
     let mut out = filled(FILL);
     let room = log_lines::number_at(line, 3) as usize;
     match call(place, a, b, buffers::front_mut(&mut out, room)) {
-        WriteAnswer::Written(len) => written(&out, len),
-        WriteAnswer::Refused(x) => unwritten(x, &out),
+        WriteAnswer::Written(len) => written(to, &out, len)?,
+        WriteAnswer::Refused(x) => unwritten(to, x, &out)?,
     }
-    true
+    Ok(true)
 }

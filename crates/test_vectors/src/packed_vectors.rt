@@ -1,21 +1,23 @@
 // Packed assignments read: alone, and at the front of a slot.
 use crate::print;
 use packed::Packed;
+use std::io;
+use std::io::Write;
 
 // The size and the count of segments.
-fn answer(r: Packed) {
+fn answer<W: Write>(to: &mut W, r: Packed) -> io::Result<()> {
     match r {
-        Packed::Assignment(size, count) => print::pair(size as u64, count as u64),
-        Packed::Malformed => print::malformed(),
+        Packed::Assignment(size, count) => print::pair(to, size as u64, count as u64),
+        Packed::Malformed => print::malformed(to),
     }
 }
 
 // assignment BYTES, front BYTES
-pub fn run(name: &[u8], bytes: &[u8]) -> bool {
+pub fn run<W: Write>(to: &mut W, name: &[u8], bytes: &[u8]) -> io::Result<bool> {
     match log_lines::place_of(b"assignment front", name) {
-        0 => answer(packed::read_whole(bytes)),
-        1 => answer(packed::read_front(bytes)),
-        _ => return false,
+        0 => answer(to, packed::read_whole(bytes))?,
+        1 => answer(to, packed::read_front(bytes))?,
+        _ => return Ok(false),
     }
-    true
+    Ok(true)
 }

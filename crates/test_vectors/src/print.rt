@@ -1,59 +1,61 @@
-// Answers written to standard output.
-use libc::STDOUT_FILENO;
-use log_text::{attached, decimal, labelled, newline, text};
+// Answers, written to a writer.
+use log_text::{attached, decimal, hex2, labelled, newline, text};
 use refusal::Refusal;
+use std::io;
+use std::io::Write;
 
-pub fn number(n: u64) {
-    decimal(n);
-    newline();
+pub fn number<W: Write>(to: &mut W, n: u64) -> io::Result<()> {
+    decimal(to, n)?;
+    newline(to)
 }
 
-pub fn pair(a: u64, b: u64) {
-    decimal(a);
-    attached(b);
-    newline();
+pub fn pair<W: Write>(to: &mut W, a: u64, b: u64) -> io::Result<()> {
+    decimal(to, a)?;
+    attached(to, b)?;
+    newline(to)
 }
 
-pub fn yes(b: bool) {
+pub fn yes<W: Write>(to: &mut W, b: bool) -> io::Result<()> {
     if b {
-        text(b"yes\n");
+        text(to, b"yes\n")
     } else {
-        text(b"no\n");
+        text(to, b"no\n")
     }
 }
 
-pub fn malformed() {
-    text(b"malformed\n");
+pub fn malformed<W: Write>(to: &mut W) -> io::Result<()> {
+    text(to, b"malformed\n")
 }
 
 // Bytes in hexadecimal.
-pub fn bytes(s: &[u8]) {
-    text(b" 0x");
+pub fn bytes<W: Write>(to: &mut W, s: &[u8]) -> io::Result<()> {
+    text(to, b" 0x")?;
     let mut i: usize = 0;
     while i < s.len() {
-        io::print_hex(STDOUT_FILENO, slice::wide(s[i]), 2);
+        hex2(to, s[i])?;
         i = i + 1;
     }
+    Ok(())
 }
 
 // A refusal's number and the numbers attached to it, one that is negative as a word of 64 bits in two's complement.
-pub fn refusal(x: Refusal) {
+pub fn refusal<W: Write>(to: &mut W, x: Refusal) -> io::Result<()> {
     let r = export_reply::refused(x);
-    labelled(b"refused ", r.number as u64);
-    log_text::values(r);
+    labelled(to, b"refused ", r.number as u64)?;
+    log_text::values(to, r)
 }
 
 // A refusal of a call that writes nothing.
-pub fn refused(x: Refusal) {
-    refusal(x);
-    newline();
+pub fn refused<W: Write>(to: &mut W, x: Refusal) -> io::Result<()> {
+    refusal(to, x)?;
+    newline(to)
 }
 
 // Whether the bytes that must stay are as they were.
-pub fn stayed(b: bool) {
+pub fn stayed<W: Write>(to: &mut W, b: bool) -> io::Result<()> {
     if b {
-        text(b" same\n");
+        text(to, b" same\n")
     } else {
-        text(b" changed\n");
+        text(to, b" changed\n")
     }
 }

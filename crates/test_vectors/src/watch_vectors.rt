@@ -13,6 +13,8 @@ use crate::buffers::{FILL, blank, filled, front, front_mut, stay};
 use crate::print;
 use log_text::{attached, labelled};
 use refusal::Refusal;
+use std::io;
+use std::io::Write;
 use watch::WatchAnswer;
 
 // What the bytes behind a set are before a call.
@@ -43,44 +45,68 @@ fn call(line: &[u8], buffer: &mut [u8], message: &[u8], out: &mut [u8]) -> Watch
     )
 }
 
-fn refused(x: Refusal, broker: &[u8]) {
-    print::refusal(x);
+fn refused<W: Write>(to: &mut W, x: Refusal, broker: &[u8]) -> io::Result<()> {
+    print::refusal(to, x)?;
     if refusal::number(x) == 16 {
-        print::bytes(broker);
+        print::bytes(to, broker)?;
     }
+    Ok(())
 }
 
 // The lengths of the new set and of the output, and both unless they are long.
-fn changed(long: bool, n: usize, m: usize, buffer: &[u8], out: &[u8]) {
-    labelled(b"changed ", n as u64);
-    attached(m as u64);
+fn changed<W: Write>(
+    to: &mut W,
+    long: bool,
+    n: usize,
+    m: usize,
+    buffer: &[u8],
+    out: &[u8],
+) -> io::Result<()> {
+    labelled(to, b"changed ", n as u64)?;
+    attached(to, m as u64)?;
     if !long {
-        print::bytes(front(buffer, n));
-        print::bytes(front(out, m));
+        print::bytes(to, front(buffer, n))?;
+        print::bytes(to, front(out, m))?;
     }
+    Ok(())
 }
 
 // Whether the bytes of the buffer from n on and those of the output from m on are as they were before.
-fn stayed(n: usize, m: usize, before: &[u8], buffer: &[u8], out: &[u8]) {
-    print::stayed(stay(n, before, buffer) && blank(m, out));
+fn stayed<W: Write>(
+    to: &mut W,
+    n: usize,
+    m: usize,
+    before: &[u8],
+    buffer: &[u8],
+    out: &[u8],
+) -> io::Result<()> {
+    print::stayed(to, stay(n, before, buffer) && blank(m, out))
 }
 
 // Writes an answer, and whether the bytes that must stay are as they were before.
-fn told(r: WatchAnswer, long: bool, message: &[u8], before: &[u8], buffer: &[u8], out: &[u8]) {
+fn told<W: Write>(
+    to: &mut W,
+    r: WatchAnswer,
+    long: bool,
+    message: &[u8],
+    before: &[u8],
+    buffer: &[u8],
+    out: &[u8],
+) -> io::Result<()> {
     match r {
         WatchAnswer::Changed(n, m) => {
-            changed(long, n, m, buffer, out);
-            stayed(n, m, before, buffer, out);
+            changed(to, long, n, m, buffer, out)?;
+            stayed(to, n, m, before, buffer, out)
         }
         WatchAnswer::Refused(x) => {
-            refused(x, watch::broker_text(message, buffer));
-            stayed(0, 0, before, buffer, out);
+            refused(to, x, watch::broker_text(message, buffer))?;
+            stayed(to, 0, 0, before, buffer, out)
         }
     }
 }
 
 // watch, long: the message, and then the call on a buffer that is filled like the one before
-fn run_watch(line: &[u8], long: bool, message: &[u8]) {
+fn run_watch<W: Write>(to: &mut W, line: &[u8], long: bool, message: &[u8]) -> io::Result<()> {
     let fill = fill_of(long);
     let mut before = filled(fill);
     let mut buffer = filled(fill);
@@ -88,20 +114,20 @@ fn run_watch(line: &[u8], long: bool, message: &[u8]) {
     log_lines::bytes_at(line, 2, &mut before);
     log_lines::bytes_at(line, 2, &mut buffer);
     let r = call(line, &mut buffer, message, &mut out);
-    told(r, long, message, &before, &buffer, &out);
+    told(to, r, long, message, &before, &buffer, &out)
 }
 
-fn with_message(line: &[u8], long: bool) {
+fn with_message<W: Write>(to: &mut W, line: &[u8], long: bool) -> io::Result<()> {
     let mut message = filled(b'a');
     let n = log_lines::bytes_at(line, 5, &mut message);
-    run_watch(line, long, front(&message, length_of(line, long, n)));
+    run_watch(to, line, long, front(&message, length_of(line, long, n)))
 }
 
-pub fn run(name: &[u8], line: &[u8]) -> bool {
+pub fn run<W: Write>(to: &mut W, name: &[u8], line: &[u8]) -> io::Result<bool> {
     match log_lines::place_of(b"watch long", name) {
-        0 => with_message(line, false),
-        1 => with_message(line, true),
-        _ => return false,
+        0 => with_message(to, line, false)?,
+        1 => with_message(to, line, true)?,
+        _ => return Ok(false),
     }
-    true
+    Ok(true)
 }

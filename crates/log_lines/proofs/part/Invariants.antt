@@ -1,0 +1,11 @@
+-- `part` stays in bounds and ends. The measure is the parts left to pass over.
+-- Assumes nothing.
+use Prim.Native.Nat.{◌≤◌}
+use lib.ListN.{length}
+use Rattle.log_lines.proofs.part.Given as goal
+
+abbrev pub invariant-loop-left : goal.invariant-loop-left
+invariant-loop-left l = l.at ≤ length l.s
+
+abbrev pub decreases-loop-left : goal.decreases-loop-left
+decreases-loop-left l = l.left
