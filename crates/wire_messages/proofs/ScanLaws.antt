@@ -38,7 +38,7 @@ use Rattle.wire_field_step.specs.declared.Head.TheVariants as head
 use Rattle.wire_field_step.specs.declared.Step.{Step}
 use Rattle.wire_field_step.specs.declared.Step.TheVariants as step
 use Rattle.wire_field_step.specs.declared.FieldStep.{FieldStep}
-use Rattle.wire_field_step.specs.Steps.{field_head, part_step, value_step, refused_with, field_of}
+use Rattle.wire_field_step.specs.Steps.{field_head, part_step, value_step, field_of}
 
 -- ---- the two looks at a message
 
