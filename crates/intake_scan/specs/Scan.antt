@@ -2,8 +2,8 @@
 --
 -- What one walk over a segment's message gives: its head, and its buckets tested one after the other and written as in a packed assignment.
 -- Assumes nothing.
-use Rattle.std.specs.Prelude.{ℕ, ◌+◌, ◌*◌, ◌≤◌, ◌≡◌, Bool, true, false, cond, ◌&&◌, length, take, pos, leb, ltb}
-use mathlib.Core.List.{List, [], ◌∷◌, map, foldl}
+use Rattle.std.specs.Prelude.{ℕ, ◌+◌, ◌*◌, ◌≤◌, ◌≡◌, true, false, cond, ◌&&◌, length, take, pos, leb, ltb}
+use mathlib.Core.List.{List, foldl}
 use Rattle.topic_types.specs.declared.KeyRange.{KeyRange}
 use Rattle.slice_int.specs.Put.{put}
 use Rattle.packed.specs.Assignment.{bucket_size, encode_range, encode_ranges}

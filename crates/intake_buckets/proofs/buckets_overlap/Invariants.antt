@@ -1,12 +1,8 @@
 -- `buckets_overlap` meets its contract. The invariant: the ranges before `at` are marked, and no two share a value (`Marked`).
 -- The measure is how many ranges are left. Assumes nothing.
-use native.Mathlib.Omega.{arith}
 use lib.ListN.{length}
-use mathlib.Core.Path.{sym}
-use borrow.Author.Rules.{rules}
-use Rattle.ranges_marks.proofs.RowLaws.{apart_none}
 use Rattle.intake_buckets.specs.Rows.{buckets_from}
-use Rattle.intake_buckets.proofs.RowLaws.{fewer, Marked, marked_start, marked-found, marked-last, marked_next}
+use Rattle.intake_buckets.proofs.RowLaws.{Marked}
 use Rattle.intake_buckets.proofs.buckets_overlap.Given as goal
 
 abbrev pub invariant-loop-words : goal.invariant-loop-words

@@ -1,12 +1,6 @@
 -- `first_outside` meets its contract. The invariant is `Within`, the measure the bytes left. Assumes nothing.
-use Prim.Native.Nat.{◌-◌}
 use native.Mathlib.Omega.{arith}
-use mathlib.Core.Path.{◌≡◌, subst}
-use lib.ListN.{length}
-use borrow.Author.Rules.{rules}
-use Rattle.wire_values.specs.declared.PartStep.{PartStep}
-use Rattle.wire_values.specs.Places.{NextPart}
-use Rattle.intake_buckets.proofs.RowLaws.{Within, within-start, within_end, within_low, within-high, within-next}
+use Rattle.intake_buckets.proofs.RowLaws.{within-start, within_end, within_low, within-high, within-next}
 use Rattle.intake_buckets.proofs.first_outside.Goals as goal
 
 pub loop-start-init : goal.loop-start-init

@@ -1,11 +1,7 @@
 -- `load_row` meets its contract. The invariant is `Loading`, the measure what the row can still take. Assumes nothing.
-use Prim.Native.Nat.{◌-◌}
 use native.Mathlib.Omega.{arith}
-use mathlib.Core.Path.{◌≡◌, refl, subst}
-use borrow.Author.Rules.{rules}
-use Rattle.wire_values.specs.declared.PartStep.{PartStep}
-use Rattle.wire_values.specs.Places.{NextPart}
-use Rattle.intake_buckets.proofs.RowLaws.{Loading, loading-start, loading-next, loaded-none, loaded-full}
+use mathlib.Core.Path.{refl}
+use Rattle.intake_buckets.proofs.RowLaws.{loading-start, loading-next, loaded-none, loaded-full}
 use Rattle.intake_buckets.proofs.load_row.Goals as goal
 
 pub loop-count-init : goal.loop-count-init

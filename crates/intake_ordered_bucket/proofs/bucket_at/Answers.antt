@@ -1,10 +1,5 @@
 -- `bucket_at` meets its contract: one word tells it, or a part and the range in it. Assumes nothing.
-use Prim.Native.Nat.{◌+◌}
 use native.Mathlib.Omega.{arith}
-use mathlib.Core.Path.{subst}
-use borrow.Author.Rules.{rules}
-use Rattle.wire_ordered.specs.Ordered.{PartField, PartIs}
-use Rattle.intake_ordered_bucket.specs.Buckets.{RangeIs, WideIs, BucketAt}
 use Rattle.intake_ordered_bucket.proofs.bucket_at.Goals as goal
 
 pub returns-in-Found : goal.returns-in-Found

@@ -1,8 +1,5 @@
 -- `range_in` meets its contract: two numbers, and nothing behind them. Assumes nothing.
-use mathlib.Core.Path.{subst}
-use Rattle.wire_ordered.specs.Ordered.{NumberAtIs}
 use Rattle.intake_ordered_bucket.proofs.BucketLaws.{range-row, range-told}
-use borrow.Author.Rules.{rules}
 use Rattle.intake_ordered_bucket.proofs.range_in.Goals as goal
 
 pub returns : goal.returns

@@ -1,7 +1,6 @@
 -- `wide_bucket` meets its contract: each test of the word is one of a byte. Assumes nothing.
 use native.Mathlib.Omega.{arith}
 use mathlib.Core.Path.{refl}
-use borrow.Author.Rules.{rules}
 use Rattle.intake_ordered_bucket.specs.Buckets.{WordIs}
 use Rattle.intake_ordered_bucket.proofs.BucketLaws.{wide-bucket, wide-told}
 use Rattle.intake_ordered_bucket.proofs.wide_bucket.Goals as goal

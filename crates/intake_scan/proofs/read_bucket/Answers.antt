@@ -1,13 +1,12 @@
 -- `read_bucket` meets its contract: a range in its usual form has the two numbers that are read; any other is left to `read_range`.
 -- Assumes nothing.
-use Prim.Native.Nat.{ℕ, ◌+◌}
+use Prim.Native.Nat.{◌+◌}
 use native.Mathlib.Omega.{arith}
 use mathlib.Core.Path.{◌≡◌, sym, ◌∙◌}
-use mathlib.Core.List.{List}
 use borrow.Author.Rules.{rules}
 use mir.Syntax.{w32}
 use mir.Val.{to_z, of_z}
-use Rattle.intake_scan.proofs.RangeLaws.{VarintAt, varint-at, usual-range}
+use Rattle.intake_scan.proofs.RangeLaws.{varint-at, usual-range}
 use Rattle.intake_scan.proofs.read_bucket.Goals as goal
 
 pub returns : goal.returns

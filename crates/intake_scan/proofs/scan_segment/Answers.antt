@@ -1,19 +1,14 @@
 -- `scan_segment` meets its contract. The invariant: the numbers and the topic's place are those so far, and the buckets so far are tested,
 -- and written where there is room. The measure is what is left of the part. Assumes nothing.
-use Prim.Native.Nat.{ℕ, ◌-◌}
 use native.Mathlib.Omega.{arith}
-use mathlib.Core.Logic.{⊎_elim}
-use mathlib.Core.Path.{◌≡◌, sym, ap, ◌∙◌}
-use mathlib.Core.List.{List, map}
-use lib.ListN.{length}
-use borrow.Author.Rules.{rules}
-use Rattle.wire_values.specs.declared.Front.{Front}
-use Rattle.wire_values.proofs.FrontLaws.{PartAt, FrontAt, front_at, numbers-end, parts-end, part-other}
+use mathlib.Core.Path.{sym, ap, ◌∙◌}
+use mathlib.Core.List.{map}
+use Rattle.wire_values.proofs.FrontLaws.{front_at, numbers-end, parts-end, part-other}
 use Rattle.wire_readers.specs.Messages.{int_range_of}
-use Rattle.intake_scan.proofs.HeadLaws.{NumbersKept, numbers-start, numbers-stays, numbers-other, numbers-set}
-use Rattle.intake_scan.proofs.HeadLaws.{TopicKept, topic-start, topic-stays, topic-set, topic-other, head-says}
-use Rattle.intake_scan.proofs.ScanLaws.{ranges_from, ranges_in, ranges-next}
-use Rattle.intake_scan.proofs.ScanLaws.{Scanned, scanned-start, scanned-stays, scanned-next, scanned-done}
+use Rattle.intake_scan.proofs.HeadLaws.{numbers-start, numbers-stays, numbers-other, numbers-set}
+use Rattle.intake_scan.proofs.HeadLaws.{topic-start, topic-stays, topic-set, topic-other, head-says}
+use Rattle.intake_scan.proofs.ScanLaws.{ranges-next}
+use Rattle.intake_scan.proofs.ScanLaws.{scanned-start, scanned-stays, scanned-next, scanned-done}
 use Rattle.intake_scan.proofs.scan_segment.Goals as goal
 
 pub loop-from-init : goal.loop-from-init

@@ -1,5 +1,4 @@
 -- `segment_scan` meets its contract, with what `segment_head` gives. Assumes nothing.
-use borrow.Author.Rules.{rules}
 use Rattle.intake_scan.proofs.segment_scan.Goals as goal
 
 pub returns : goal.returns

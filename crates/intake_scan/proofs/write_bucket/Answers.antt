@@ -1,5 +1,4 @@
 -- `write_bucket` meets its contract: with no room, nothing is written. Assumes nothing.
-use borrow.Author.Rules.{rules}
 use borrow.Author.Tests.{lt-ltb, le-ltb}
 use Rattle.intake_scan.proofs.write_bucket.Goals as goal
 

@@ -1,5 +1,4 @@
 -- `write_range` meets its contract: two bytes, and two behind them. Assumes nothing.
-use borrow.Author.Rules.{rules}
 use Rattle.intake_scan.proofs.ScanLaws.{range-written}
 use Rattle.intake_scan.proofs.write_range.Goals as goal
 

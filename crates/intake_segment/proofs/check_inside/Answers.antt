@@ -1,6 +1,4 @@
 -- `check_inside` meets its contract. Assumes nothing.
-use mathlib.Core.Path.{sym, ◌∙◌}
-use borrow.Author.Rules.{rules}
 use Rattle.intake_segment.proofs.CheckLaws.{outside-found, outside-none}
 use Rattle.intake_segment.proofs.check_inside.Goals as goal
 

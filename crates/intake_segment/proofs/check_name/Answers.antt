@@ -1,12 +1,6 @@
 -- `check_name` meets its contract: the parent's length lets its path be cut off. Assumes nothing.
 use native.Mathlib.Omega.{arith}
-use mathlib.Core.Path.{◌≡◌, sym, ◌∙◌}
-use mathlib.Core.Bool.{true}
-use lib.ListN.{length}
-use Prim.Native.Nat.{◌≤◌}
-use borrow.Author.Tests.{not-true, not-false}
-use borrow.Author.Rules.{rules}
-use Rattle.name_parents.specs.Parents.{is_parent}
+use mathlib.Core.Path.{sym, ◌∙◌}
 use Rattle.name_parents.proofs.PathLaws.{parent-long}
 use Rattle.intake_segment.proofs.CheckLaws.{name-no-parent, name-valid, name-other}
 use Rattle.intake_segment.proofs.check_name.Goals as goal

@@ -1,6 +1,5 @@
 -- `check_segment` meets its contract. Assumes nothing.
 use mathlib.Core.Path.{sym, ◌∙◌}
-use borrow.Author.Rules.{rules}
 use Rattle.intake_segment.proofs.CheckLaws.{range-bad, range-valid}
 use Rattle.intake_segment.proofs.check_segment.Goals as goal
 
