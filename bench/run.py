@@ -10,6 +10,7 @@ import math
 import os
 import pathlib
 import re
+import shutil
 import subprocess
 import sys
 import tempfile
@@ -162,10 +163,12 @@ class Bench:
         self.rust = self.built()
 
     def proved(self):
+        """The folder of both archives, which rt writes each into its crate's own."""
         for library in ("bench_speed", "export"):
-            say(f"rt staticlib {library}")
-            run("rt", "staticlib", library, cwd=ROOT)
-        return ROOT / "target/staticlib"
+            say(f"rt lib, in crates/{library}")
+            run("rt", "lib", cwd=ROOT / "crates" / library)
+            shutil.copy(ROOT / f"crates/{library}/out/lib{library}.a", self.folder)
+        return self.folder
 
     def compiled(self, name, library, *more):
         run("gcc", "-O2", *more, HERE / f"{name}.c", self.archives / f"lib{library}.a", "-o", self.folder / name)

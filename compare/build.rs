@@ -62,7 +62,7 @@ fn main() {
     fs::write(out.join("sources.rs"), lines).expect("sources.rs");
     fs::write(out.join("windows.rs"), row("WINDOWS", &WINDOWS) + &row("LENGTHS", &LENGTHS)).expect("windows.rs");
     fs::write(out.join("ours.rs"), ours()).expect("ours.rs");
-    let library = folder("CUDDREWYN_LIB", "target/staticlib");
+    let library = folder("CUDDREWYN_LIB", "crates/export/out");
     println!("cargo:rerun-if-changed={}", library.join("libexport.a").display());
     println!("cargo:rustc-link-search=native={}", library.display());
     println!("cargo:rustc-link-lib=static=export");

@@ -36,7 +36,7 @@ from pass_picture import picture
 from pass_spans import span_text
 from pass_words import MANY, answer_text, bar
 
-STATION = usage.ROOT / "target" / "bin" / "station"
+STATION = usage.ROOT / "crates" / "station" / "out" / "station"
 
 
 def as_data(entry):
@@ -188,7 +188,7 @@ def arguments(words):
     add_forms(many, "the timelines, with what two held in red,")
     many.set_defaults(run=compare)
     for command in (one, many):
-        command.add_argument("--station", default=STATION, help="the program station (default: target/bin/station)")
+        command.add_argument("--station", default=STATION, help="the program station (default: crates/station/out/station)")
     text = commands.add_parser("make", help="lines of a log from a layout in text")
     text.add_argument("layout")
     text.set_defaults(run=make)

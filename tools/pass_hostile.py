@@ -85,7 +85,7 @@ def log_faults(folder, name, data, status, page_faults):
 def lines_told(data):
     """The numbers of the lines that station answers."""
     plain = b"".join(line.removesuffix(b"\r") + b"\n" for line in data.removesuffix(b"\n").split(b"\n")) if data else b""
-    told = subprocess.run([usage.ROOT / "target/bin/station"], input=plain, capture_output=True, check=True).stdout
+    told = subprocess.run([usage.ROOT / "crates/station/out/station"], input=plain, capture_output=True, check=True).stdout
     return [int(line.split(b" ")[0]) for line in told.split(b"\n")[:-2]]
 
 

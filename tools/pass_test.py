@@ -129,14 +129,14 @@ def run_faults(folder):
     plain = (folder / "north.log").read_bytes()
     (folder / "marked.log").write_bytes(b"\xef\xbb\xbf" + plain.replace(b"\n", b"\r\n"))
     (folder / "damaged.log").write_bytes(plain + b"udpate 1 0x00")
-    station = subprocess.run([ROOT / "target/bin/station", "--lists"], input=plain, capture_output=True, check=True).stdout
+    station = subprocess.run([ROOT / "crates/station/out/station", "--lists"], input=plain, capture_output=True, check=True).stdout
     cases = {
         "a log": (answered([folder / "north.log", "--lists"]), (0, station)),
         "standard input": (answered(["-", "--lists"], input=plain), (0, station)),
         "CR LF and a byte-order mark": (answered([folder / "marked.log", "--lists"]), (0, station)),
         "the same in another locale": (answered([folder / "marked.log", "--lists"], env={**os.environ, "LC_ALL": "C.UTF-8"}), (0, station)),
         "a log of the folder at hand": (answered(["north.log", "--lists"], cwd=folder), (0, station)),
-        "the help page": (answered(["--help"]), (0, subprocess.run([ROOT / "target/bin/station", "--help"], capture_output=True, check=True).stdout)),
+        "the help page": (answered(["--help"]), (0, subprocess.run([ROOT / "crates/station/out/station", "--help"], capture_output=True, check=True).stdout)),
         "the recorded answers": (answered(["--recorded"]), (0, (EXAMPLE / "stdout").read_bytes())),
         "a damaged log": (answered([folder / "damaged.log"])[0], 1),
         "no log": (answered([folder / "none.log"])[0] != 0, True),
@@ -149,8 +149,8 @@ def run_faults(folder):
 
 # a toolchain that proves nothing: what it prints, and a program that answers
 TOOLCHAIN = """#!/bin/sh
-printf 'rt: parts proved (unchanged since it was last proved)\\naxioms os: os::c::__xpg_strerror_r\\nrt: station proved (3 s)\\nrt: ok, 2 crates proved\\n'
-mkdir -p target/bin && printf '#!/bin/sh\\necho answered\\n' >target/bin/station && chmod +x target/bin/station
+printf 'crate parts: modules loaded=0 checked=3\\nlogic=proved functions=2\\ncrate station: modules loaded=0 checked=9\\naxioms os: os::c::read\\nlogic=proved functions=1\\n' >&2
+mkdir -p out && printf '#!/bin/sh\\necho answered\\n' >out/station && chmod +x out/station
 """
 
 

@@ -1,5 +1,5 @@
 #!/usr/bin/env python3
-"""Check: holds the log of each must-fail edit to what the edit says: every wrong line is refused in its own function, at a fact.
+"""Check: holds what the prover says of each must-fail edit to what the edit says: every wrong line is refused in its own function, at a fact.
 
 An edit may change several functions, one wrong line (or pair of lines) in each: a round. A comment before each change names the function, or the
 definition where the file is one of specs/, and says what is wrong:
@@ -9,29 +9,48 @@ definition where the file is one of specs/, and says what is wrong:
     old:     if number == 0 {
     new:     if number == 1 {
 
-rt demands that the whole is refused. This script demands of target/must-fail/CRATE/LABEL/.log that each function named is refused by an error of its own:
-one in its own proof that is neither the echo of another refusal ("was not admitted") nor that of a proof file which no longer fits the code's shape
-("has no `Need-..`", "has no field"); or, where rattle makes the proof, that its `search` does not close a need. A callee's contract stays as it was, so
-what a caller's proof is asked is not changed by a wrong line in a function that it calls: each function's refusal is the one that it has alone. An edit of
-a definition, or of a constant, that stands alone in its file has to be refused at a fact anywhere in the crate. Where definitions share a file, or one
-function is wrong in two ways, each names the declaration that refuses it alone, no two the same one, and a fact has to fail there (tools/rounds.py tells which):
+rt demands that the whole is refused, and prints the first error alone. So this script checks a copy of the crate with the edit (`rt check`), and demands
+that each function named is refused by an error of its own: one in its own proof that is neither the echo of another refusal ("was not admitted") nor that
+of a proof file which no longer fits the code's shape ("has no `..`", "has no field"); or, where rattle makes the proof, that a goal of it is left open. A
+callee's contract stays as it was, so what a caller's proof is asked is not changed by a wrong line in a function that it calls: each function's refusal is
+the one that it has alone. rattle tries no made goal of a function that calls one which is not proved: so the wrong lines that a check has not shown are
+checked again, without those that it has, and in the end each alone. An edit of a definition, or of a constant, that stands alone in its check has to be
+refused at a fact anywhere in the crate. Where definitions share a file, or one function is wrong in two ways, each may name the declaration that refuses it
+alone, or the goal of a function's proof, no two the same one, and a fact has to fail there (tools/rounds.py tells which):
 
     # followed at proofs/ObserverLaws.drain-follows: a reader's uploader applies the deltas of every reader's drains
+    # segment at proofs/segment/Answers.returns-else-a-b: ..
 
-    python3 tools/refused.py [ROOT]      the last line is 'N wrong programs in M edits, K not refused in their own function'
+What was found of an edit is kept in the folder CUDDREWYN_KEPT (~/.cache/cuddrewyn where it is not set), by a sum of all that it rests on: the toolchain, the
+crate, those below it, the edit, this script. What every check wrote, and the facts that it failed at, are left in target/must-fail/CRATE/EDIT/.
+
+    python3 tools/refused.py [ROOT] [--only CRATE..] [--jobs N]      the last line is 'N wrong programs in M edits, K not refused in their own function'
 """
+import hashlib
+import json
+import os
+import queue
 import re
+import shutil
+import subprocess
 import sys
+import tempfile
+import threading
 from pathlib import Path
 
 import usage
 
 NAMED = re.compile(r"^# ((?:[^\s:]+::)*[^\s:]+)(?: at ((?:proofs|specs)/\S+)\.([^\s.]+))?: (.+)$")
 DECLARED = re.compile(r"\s*(?:(?:abbrev|unfoldable|opaque|pub) +)*([^\s:(){}]+) :(?: |$)")
+# An echo of a refusal elsewhere; a file that names what is not there any more.
 ECHO = ("was not admitted", "were not admitted", "so this cannot be checked")
-UNFIT = re.compile(r"has no `Need-|that can be named from here|has no field\s+`|expected type `tie\.Need-[^`]*`,? but this has type `tie\.Need-")
-LIST = re.compile(r"`[^`]*-spec`: ")
-ERROR = re.compile(r"^(\S*?)((?:proofs|specs)/\S+?\.antt:\d+:\d+): error: (.*?)(?=^\S+: (?:error|note)|^fn |^enum |^struct |\Z)", re.M | re.S)
+UNFIT = re.compile(r"has no `|is not in scope|that can be named from here|has no field\b|expected type `goal\.[^`]*`,? but this has type `goal\.")
+ERROR = re.compile(r"^(\S*?)((?:proofs|specs)/\S+?\.antt):(\d+):\d+: error: (.*?)(?=^(?:\S+:\d+:\d+: )?(?:error|note|help)\b|^checked |^fn |^enum |^struct |\Z)", re.M | re.S)
+LABEL = re.compile(r"`([^`]+)`: ")
+# A goal that rattle was to answer, and the function that it is of: the next line `fn ..`.
+OPEN = re.compile(r"^note: src/\S+:\d+:\d+: .*\(`([^`]+)`\)")
+OF_FUNCTION = re.compile(r"^(?:fn|enum|struct) (\S+?):? ")
+UNREAD = re.compile(r"\berror\[[\w-]+\]")
 
 
 def named(edit):
@@ -52,26 +71,41 @@ def unnamed(edit):
     return not pairs or len(set(names)) < len(names) or len(set(places)) < len(places) or any(f in names for f, at, _ in pairs if at)
 
 
-def facts(log):
-    """The errors of a log at a fact: where each stands, and its words. In a file that no longer fits the shape, the list of needs tells nothing."""
-    errors = [(m[2], m[3]) for m in ERROR.finditer(log)]
-    unfit = {place.split(":")[0] for place, words in errors if UNFIT.search(words)}
-    return [(place, words) for place, words in errors if not any(e in words for e in ECHO) and not UNFIT.search(words)
-            and not (LIST.match(words) and place.split(":")[0] in unfit)]
+class Wrong:
+    """A wrong program of an edit: what it is wrong in, the declaration named, what is wrong, and its changes (file, old, new)."""
+
+    def __init__(self, name, at, what):
+        self.name, self.at, self.what, self.changes = name, at, what, []
+
+    def in_function(self):
+        """Whether it is a line of one function, and no definition or constant."""
+        return all(f.startswith("src/") for f, _, _ in self.changes) and self.name.split("::")[-1][:1].islower()
 
 
-def folder(function):
-    """The start of the paths of a function's own proof."""
-    *above, last = map(re.escape, function.split("::"))
-    # functions that call one another have one proof, in a folder `+even+odd`
-    return re.compile("proofs/" + "".join(a + "/" for a in above) + rf"(?:{last}|(?:\+\w+)*\+{last}(?:\+\w+)*)/")
+def wrongs(edit):
+    """The wrong programs of an edit, in order."""
+    found, file, old = [], None, None
+    for line in edit.read_text(encoding="utf-8").split("\n"):
+        if m := NAMED.match(line):
+            found.append(Wrong(m[1], (m[2] + ".antt", m[3]) if m[2] else None, m[4]))
+        elif line.startswith("file: "):
+            file = line.removeprefix("file: ").strip()
+        elif line.startswith("old: "):
+            old = line.removeprefix("old: ")
+        elif line.startswith("new:") and found:
+            found[-1].changes.append((file, old, line.removeprefix("new:").removeprefix(" ")))
+    return found
 
 
-def own_errors(log, crate, function):
-    """The places at which the function's own proof is refused."""
-    places = [place for place, _ in facts(log) if folder(function).match(place)]
-    made = re.search(rf"^fn {crate}::{re.escape(function)}: no proof: .*`search` does not close (.*)$", log, re.M)
-    return places + (["made proof: " + made[1]] if made else [])
+def edited(crate, some):
+    """The texts of the files that these wrong programs change, or None where an old text does not stand once."""
+    texts = {}
+    for file, old, new in (change for wrong in some for change in wrong.changes):
+        text = texts.setdefault(file, (crate / file).read_text(encoding="utf-8"))
+        if text.count(old) != 1:
+            return None
+        texts[file] = text.replace(old, new)
+    return texts
 
 
 def declaration(text, line):
@@ -80,39 +114,232 @@ def declaration(text, line):
     return next((m[1] for m in above if m), None)
 
 
-def refused_at(log, copy, at):
-    """Whether a fact fails in the declaration named."""
+def facts(log, read):
+    """The errors of a log at a fact: the file, its declaration and goal, and the words. `read` gives the text of a file that was checked."""
+    found = []
+    for m in ERROR.finditer(log):
+        if not any(e in m[4] for e in ECHO) and not UNFIT.search(m[4]):
+            label = LABEL.match(m[4])
+            found.append([m[2], declaration(read(m[2]), int(m[3])), label[1] if label else None, " ".join(m[4].split())[:300]])
+    return found
+
+
+def left_open(log, crate):
+    """The goals that rattle made a proof for and left open, each as a fact of the function's own folder."""
+    found, goals = [], []
+    for line in log.splitlines():
+        if m := OPEN.match(line):
+            goals.append((m[1], line))
+        elif m := OF_FUNCTION.match(line):
+            path = m[1].removeprefix(crate + "::").replace("::", "/")
+            found += [[f"proofs/{path}/made", None, goal, words[:300]] for goal, words in goals]
+            goals = []
+    return found
+
+
+def folder(function):
+    """The start of the paths of a function's own proof."""
+    *above, last = map(re.escape, function.split("::"))
+    # functions that call one another have one proof, in a folder `+even+odd`; a cycle may have a name, `+name`
+    return re.compile("proofs/" + "".join(a + "/" for a in above) + rf"(?:{last}|(?:\+\w+)*\+{last}(?:\+\w+)*)/")
+
+
+def fails_at(found, at):
+    """Whether a fact fails in the declaration named, or at the goal of that name in the function's own proof."""
     file, name = at
-    lines = [int(place.split(":")[1]) for place, _ in facts(log) if place.split(":")[0] == file]
-    text = (copy / file).read_text(encoding="utf-8") if lines else ""
-    return any(declaration(text, line) == name for line in lines)
+    own = re.compile(re.escape(file.rsplit("/", 1)[0]) + r"/[^/]+$") if file.count("/") > 1 else re.compile(re.escape(file) + "$")
+    return any(own.match(path) and name in (declared, goal) for path, declared, goal, _ in found)
 
 
-def main(root):
-    edits = sorted(root.glob("crates/*/must-fail/*.edit"))
+def shown(found, some):
+    """Those of the wrong programs that are refused in their own place by a check of them together."""
+    alone = len(some) == 1
+
+    def is_shown(wrong):
+        if wrong.at and not (alone and wrong.in_function()):
+            return fails_at(found, wrong.at)
+        if alone and not wrong.in_function():
+            return bool(found)
+        return any(folder(wrong.name).match(path) for path, *_ in found)
+
+    return [wrong for wrong in some if is_shown(wrong)]
+
+
+def refusal(found, wrong):
+    """The fact that refuses a wrong program, for whoever asks: of its own proof or declaration, else the first."""
+    own = [f for f in found if folder(wrong.name).match(f[0])] or [f for f in found if wrong.at and fails_at([f], wrong.at)] or found
+    return f"{own[0][0]}: {own[0][2] or own[0][1]}" if own else ""
+
+
+class Lane:
+    """A copy of the repository that edits are tried in, one after the other; rt keeps there what one check proved for the next."""
+
+    def __init__(self, root):
+        self.root, self.top = root, Path(tempfile.mkdtemp(prefix="cuddrewyn-refused-"))
+        for name in ("crates.txt", "HANDLES"):
+            if (root / name).is_file():
+                shutil.copy(root / name, self.top)
+        shutil.copytree(root / "crates", self.top / "crates", ignore=lambda _, names: [n for n in names if n == "out"])
+        # the top of a repository
+        (self.top / ".git").mkdir()
+
+    def check(self, crate, texts):
+        """What `rt check` writes of the crate with these texts in the place of its own."""
+        folder = self.top / "crates" / crate
+        for path, text in texts.items():
+            (folder / path).write_text(text, encoding="utf-8")
+        try:
+            for _ in range(2):
+                done = subprocess.run(["rt", "check", "--jobs", "1"], cwd=folder, stdin=subprocess.DEVNULL, capture_output=True, text=True, errors="replace")
+                if re.search(r"^logic=", done.stdout, re.M) or done.returncode == 1:
+                    break
+            return done.stdout + done.stderr
+        finally:
+            for path in texts:
+                shutil.copy(self.root / "crates" / crate / path, folder / path)
+
+    def forget(self, crate):
+        shutil.rmtree(self.top / "crates" / crate / "out/incremental", ignore_errors=True)
+
+    def close(self):
+        shutil.rmtree(self.top, ignore_errors=True)
+
+
+def attempt(lane, crate, some, logs):
+    """Checks wrong programs together: the facts that fail, or why nothing was checked."""
+    texts = edited(lane.root / "crates" / crate, some)
+    if texts is None:
+        return None, "an old text does not stand once"
+    log = lane.check(crate, texts)
+
+    def read(file):
+        path = lane.root / "crates" / crate / file
+        return texts[file] if file in texts else path.read_text(encoding="utf-8") if path.is_file() else ""
+
+    found = facts(log, read) + left_open(log, crate)
+    number = len(list(logs.glob("*.log"))) + 1
+    (logs / f"{number}.log").write_text(log, encoding="utf-8")
+    (logs / f"{number}.json").write_text(json.dumps({"wrong": [w.name for w in some], "facts": found}, ensure_ascii=False, indent=1), encoding="utf-8")
+    if UNREAD.search(log) or not re.search(r"^logic=", log, re.M):
+        return None, "the check did not come to a verdict, " + next((x for x in log.splitlines() if "error" in x), "with no error")[:200]
+    return found, None
+
+
+def tried(lane, crate, edit):
+    """Each wrong program of an edit with the fact that refuses it, or with None."""
+    logs = lane.root / "target/must-fail" / crate / edit.stem
+    shutil.rmtree(logs, ignore_errors=True)
+    logs.mkdir(parents=True)
+    every = wrongs(edit)
+    told, rest, alone = {}, list(every), []
+    while rest:
+        found, why = attempt(lane, crate, rest, logs)
+        good = shown(found, rest) if found is not None else []
+        told.update({w: refusal(found, w) for w in good})
+        if not good:
+            alone = rest if len(rest) > 1 else []
+            break
+        rest = [w for w in rest if w not in good]
+    for wrong in alone:
+        found, why = attempt(lane, crate, [wrong], logs)
+        if found is not None and shown(found, [wrong]):
+            told[wrong] = refusal(found, wrong)
+    return [(w.name, told.get(w)) for w in every]
+
+
+def sum_of(root, crate, below, edit):
+    """A sum of all that the verdict on an edit rests on."""
+    told = hashlib.sha256(Path(__file__).read_bytes())
+    told.update(subprocess.run(["rt", "version"], capture_output=True).stdout + edit.read_bytes())
+    for name in (crate, *sorted(below)):
+        for path in sorted(p for part in ("src", "specs", "proofs") for p in (root / "crates" / name / part).rglob("*") if p.is_file()):
+            told.update(f"\n{path.relative_to(root)}\n".encode() + path.read_bytes())
+    return told.hexdigest()
+
+
+def below(root):
+    """The crates below each, as crates.txt has them."""
+    lines = re.findall(r"^(\w+)[^:#\n]*:(.*)$", (root / "crates.txt").read_text(encoding="utf-8"), re.M)
+    uses, found = {name: words.split() for name, words in lines}, {}
+    for name, words in uses.items():
+        queued, seen = list(words), set()
+        while queued:
+            d = queued.pop()
+            if d in uses and d not in seen:
+                seen.add(d)
+                queued += uses[d]
+        found[name] = seen
+    return found
+
+
+def judge(root, crates, jobs):
+    """For each edit what was found of it, kept or now."""
+    kept = Path(os.environ.get("CUDDREWYN_KEPT") or Path.home() / ".cache/cuddrewyn") / "refused"
+    kept.mkdir(parents=True, exist_ok=True)
+    uses, results, waiting = below(root), {}, {}
+    for edit in sorted(root.glob("crates/*/must-fail/*.edit")):
+        crate = edit.parts[-3]
+        if crates and crate not in crates:
+            continue
+        place = kept / sum_of(root, crate, uses.get(crate, ()), edit)
+        if place.is_file():
+            results[edit] = [tuple(x) for x in json.loads(place.read_text(encoding="utf-8"))]
+        else:
+            waiting.setdefault(crate, []).append((edit, place))
+    order = queue.Queue()
+    for crate in sorted(waiting, key=lambda c: -len(waiting[c])):
+        order.put(crate)
+
+    def work():
+        lane = Lane(root)
+        try:
+            while True:
+                crate = order.get_nowait()
+                for edit, place in waiting[crate]:
+                    results[edit] = tried(lane, crate, edit)
+                    print(f"refused: {crate}/{edit.name}: {sum(x is not None for _, x in results[edit])} of {len(results[edit])}", file=sys.stderr, flush=True)
+                    if all(where is not None for _, where in results[edit]):
+                        place.write_text(json.dumps(results[edit], ensure_ascii=False), encoding="utf-8")
+                lane.forget(crate)
+        except queue.Empty:
+            pass
+        finally:
+            lane.close()
+
+    lanes = [threading.Thread(target=work) for _ in range(min(jobs, len(waiting)))]
+    for lane in lanes:
+        lane.start()
+    for lane in lanes:
+        lane.join()
+    return results, sum(map(len, waiting.values()))
+
+
+def main(root, crates, jobs):
+    results, new = judge(root, crates, jobs)
     wrong = bad = 0
-    for edit in edits:
-        where, crate, copy = edit.relative_to(root), edit.parts[-3], root / "target/must-fail" / edit.parts[-3] / edit.stem
+    for edit, found in sorted(results.items()):
+        where = edit.relative_to(root)
         if unnamed(edit):
             bad += 1
             print(f"{where}: a change without a name of its own before it")
-        if not (copy / ".log").is_file():
-            bad += 1
-            print(f"{where}: no log")
-            continue
-        text, pairs = (copy / ".log").read_text(encoding="utf-8", errors="replace"), named(edit)
-        of_code = not re.search(r"^file: specs/", edit.read_text(encoding="utf-8"), re.M)
-        for function, at, what in pairs:
+        for (function, at, what), (name, refused) in zip(named(edit), found):
             wrong += 1
-            alone = len(pairs) == 1 and (not of_code or not function[:1].islower())
-            if not (refused_at(text, copy, at) if at else facts(text) if alone else own_errors(text, crate, function)):
+            if refused is None:
                 bad += 1
                 print(f"{where}: {function} is not refused at a fact of its own: {what}")
-    print(f"{wrong} wrong programs in {len(edits)} edits, {bad} not refused in their own function")
+    lost = [e for e in root.glob("crates/*/must-fail/*.edit") if e not in results and (not crates or e.parts[-3] in crates)]
+    for edit in lost:
+        bad += 1
+        print(f"{edit.relative_to(root)}: not tried")
+    print(f"{new} of {len(results)} edits were checked in this run")
+    print(f"{wrong} wrong programs in {len(results)} edits, {bad} not refused in their own function")
     return 1 if bad else 0
 
 
 if __name__ == "__main__":
     parser = usage.Parser(__doc__)
     parser.add_argument("root", nargs="?", type=Path, default=Path("."), help="the repository; by default the folder that it is run in")
-    sys.exit(main(parser.parse_args().root.resolve()))
+    parser.add_argument("--only", nargs="+", default=[], metavar="CRATE", help="the edits of these crates alone")
+    parser.add_argument("--jobs", type=int, default=os.cpu_count() or 1, metavar="N", help="how many checks side by side")
+    args = parser.parse_args()
+    sys.exit(main(args.root.resolve(), args.only, args.jobs))

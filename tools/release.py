@@ -5,7 +5,7 @@
     python3 tools/release.py --install PREFIX    writes the same tree to PREFIX, a folder of its own, such as /opt/cuddrewyn
     python3 tools/release.py --check-version     holds all places that repeat the version to the file VERSION; makes nothing
 
-The gate leaves a proved tree: target/staticlib/libexport.a, target/bin/station, target/archive.log. Where one is missing, or the log's verdict is not
+The gate leaves a proved tree: crates/export/out/libexport.a, crates/station/out/station, target/archive.log. Where one is missing, or the log's verdict is not
 what docs/TRUST.md says of it, nothing is made. The same commit, compiler and proof give the same bytes. docs/RELEASE.md has what is in it.
 """
 import argparse

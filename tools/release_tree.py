@@ -11,7 +11,7 @@ import release_version
 import verdicts
 
 ROOT = release_version.ROOT
-ARCHIVE, STATION, LOG, GATE = "target/staticlib/libexport.a", "target/bin/station", "target/archive.log", "target/gate.log"
+ARCHIVE, STATION, LOG, GATE = "crates/export/out/libexport.a", "crates/station/out/station", "target/archive.log", "target/gate.log"
 COPIES = {"lib/libcuddrewyn.a": ARCHIVE, "bin/station": STATION, "include/cuddrewyn.h": release_version.HEADER,
           "include/cuddrewyn_read.h": "bindings/c/cuddrewyn_read.h",
           **{f"fuzz/{name}": f"bindings/c/{name}" for name in ("fuzz.c", "fuzz_main.c", "messages.h")}}
@@ -161,15 +161,17 @@ def proof_text(root, folder, version):
     commit = said(["git", "rev-parse", "HEAD"], root) or "unknown"
     changed = ", with changes that are not committed" if said(["git", "status", "--porcelain"], root) else ""
     logic = re.search(rb"rattle (logic=[0-9a-f]+)", (root / ARCHIVE).read_bytes())
-    log, station = (root / LOG).read_text(encoding="utf-8", errors="replace"), root / "target/log/station.out"
-    verdict = re.findall(r"^logic=.*$", station.read_text(encoding="utf-8", errors="replace"), re.M) if station.is_file() else []
+    log, gate = ((root / path).read_text(encoding="utf-8", errors="replace") if (root / path).is_file() else "" for path in (LOG, GATE))
+    # the station's part of the gate's log; where the gate took it from an earlier run, that has it
+    station = re.search(r"^== station\n(.*?)^rt: station (?:NOT )?proved|^rt: (station is kept: .*)$", gate, re.M | re.S)
+    verdict = re.findall(r"^logic=.*$", station[1], re.M) if station and station[1] else [station[2]] if station else []
     lines = [f"Cuddrewyn {version} for x86-64 Linux: what the proof said. docs/RELEASE.md tells how to read it.", "",
              f"commit: {commit}{changed}", f"rt version: {said(['rt', 'version'], root) or 'not at hand'}",
              f"the archive's own record: {logic[1].decode() if logic else 'none'}",
              f"lib/libcuddrewyn.a: sha256 {digest(folder / 'lib/libcuddrewyn.a')}", "",
              "The archive, every call against its definition:", *re.findall(r"^logic=.*$", log, re.M), "",
              "The program station; `axioms=` counts its reading and writing, which is trusted:", *(verdict[-1:] or ["not recorded"]), "",
-             "Every crate and every wrong program, from nothing (rt ci):", last_line(root / GATE) or "not recorded", ""]
+             "Every crate and every wrong program (rt ci):", *re.findall(r"^rt: ok; .*$", gate, re.M), last_line(root / GATE) or "not recorded", ""]
     return "\n".join(lines)
 
 

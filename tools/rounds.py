@@ -8,9 +8,10 @@ An edit costs a whole check of its crate, whatever it changes, and the checker j
 with one wrong line in each of several functions costs one check, and each gets the refusal that it has alone (tools/refused.py holds the log to that).
 A definition, a constant, or a second wrong line of a function reaches further. It joins a round where a declaration tells it from the others: a fact that
 fails there by it alone, and by none of the others when they are alone. Where a changed definition answers a wrong line, so that the round is not refused for
-both, --kinds keeps definitions and lines in rounds of their own. That is read off target/must-fail, so `rt must-fail CRATE` comes first,
+both, --kinds keeps definitions and lines in rounds of their own. That is read off target/must-fail, so `tools/refused.py --only CRATE` comes first,
 with the programs apart or in the rounds that they have; what joined before stands by its declaration and is not joined anew.
 """
+import json
 import re
 from pathlib import Path
 
@@ -36,7 +37,8 @@ class Program:
         return all(not p.at and (not kinds or p.in_function() == self.in_function()) for p in some)
 
     def text(self, at):
-        lines, last = [f"# {self.name}{f' at {at[0][:-5]}.{at[1]}' if at else ''}: {self.what}"], None
+        place = f" at {at[0].removesuffix('.antt')}.{at[1]}" if at else ""
+        lines, last = [f"# {self.name}{place}: {self.what}"], None
         for f, old, new in self.changes:
             lines += ([f"file: {f}"] if f != last else []) + [f"old: {old}", f"new: {new}".rstrip()]
             last = f
@@ -60,23 +62,19 @@ def programs_of(edit):
     return out
 
 
-def failing(copy):
-    """The declarations, with their files, at which a fact fails in the copy of an edit."""
-    out = set()
-    log = (copy / ".log").read_text(encoding="utf-8", errors="replace") if (copy / ".log").is_file() else ""
-    for place, _ in refused.facts(log):
-        file, line, _ = place.rsplit(":", 2)
-        if (copy / file).is_file():
-            out.add((file, refused.declaration((copy / file).read_text(encoding="utf-8"), int(line))))
-    return out
+def failing(logs, name):
+    """The declarations, or else the goals, with their files, at which a fact fails in the checks that this wrong program was in."""
+    checks = [json.loads(path.read_text(encoding="utf-8")) for path in sorted(logs.glob("*.json"))]
+    return {(file, declared or goal) for check in checks if name in check["wrong"] for file, declared, goal, _ in check["facts"]}
 
 
 def measured(crate):
     """A crate's wrong programs with what fails by each: in a function of a round, what fails in its own proof."""
     out = []
     for edit in sorted((crate / "must-fail").glob("*.edit")):
-        fails, programs = failing(ROOT / "target/must-fail" / crate.name / edit.stem), programs_of(edit)
+        programs = programs_of(edit)
         for p in programs:
+            fails = failing(ROOT / "target/must-fail" / crate.name / edit.stem, p.name)
             p.fails = {x for x in fails if refused.folder(p.name).match(x[0])} if p.in_function() else fails
             p.reach = fails if len(programs) == 1 else p.fails
         out += programs

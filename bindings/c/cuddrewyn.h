@@ -1,4 +1,4 @@
-/* The exported calls of the port, for C on x86-64 Linux. Link target/staticlib/libexport.a, or a release's libcuddrewyn
+/* The exported calls of the port, for C on x86-64 Linux. Link crates/export/out/libexport.a, or a release's libcuddrewyn
  * (docs/RELEASE.md). cuddrewyn_read.h, beside this header, reads what they write: lists, deltas, the watch's output.
  *
  * Every call takes any bytes and any numbers. A refusal changes nothing: record, store and output stay, byte by byte.

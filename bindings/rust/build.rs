@@ -1,6 +1,6 @@
 //! Finds the archive of the proved library, sees that it is of the version that this crate is for, and links it.
 //!
-//! It stands beside this file in a release. Else the folder is that of the setting CUDDREWYN_LIB, or target/staticlib of the repository.
+//! It stands beside this file in a release. Else the folder is that of the setting CUDDREWYN_LIB, or crates/export/out of the repository.
 
 use std::env;
 use std::fs;
@@ -22,7 +22,7 @@ fn main() {
     let mut places = folders.iter().flat_map(|folder| NAMES.map(|name| (folder, name)));
     let Some((folder, name)) = places.find(|(folder, name)| archive(folder, name).is_file()) else {
         println!("cargo::error=the proved library is neither beside build.rs nor in {}", folders[1].display());
-        println!("cargo::error=make it with `rt staticlib export` in the repository's root,");
+        println!("cargo::error=make it with `rt lib` in the repository's folder crates/export,");
         println!("cargo::error=or set CUDDREWYN_LIB to the folder that holds libcuddrewyn.a or libexport.a");
         return;
     };
@@ -50,7 +50,7 @@ fn folders() -> [PathBuf; 2] {
     let here = PathBuf::from(setting("CARGO_MANIFEST_DIR"));
     let other = match env::var_os("CUDDREWYN_LIB") {
         Some(folder) if !folder.is_empty() => here.join(folder),
-        _ => here.join("../../target/staticlib"),
+        _ => here.join("../../crates/export/out"),
     };
     [here, other]
 }

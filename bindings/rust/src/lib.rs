@@ -111,7 +111,7 @@
 //! # Building
 //!
 //! The crate of a release has the archive, for x86-64 Linux, inside: it needs no setting. Where there is none beside `build.rs`, it is looked
-//! for in the folder that the setting `CUDDREWYN_LIB` names, else in `target/staticlib` of the repository, where `rt staticlib export` puts it.
+//! for in the folder that the setting `CUDDREWYN_LIB` names, else in `crates/export/out` of the repository, where `rt lib` puts it.
 //! It is named `libcuddrewyn.a` in a release, `libexport.a` in the repository, and has to be of this crate's version, [`raw::ABI`].
 //! Features: `alloc` is what needs an allocator, the module `owned` and names as `String`; `std` (default) is `alloc`, and nothing more today;
 //! `watch` (default) is the topics watch. Without any the crate needs `core` alone.
