@@ -31,7 +31,7 @@ use Rattle.wire_command.specs.declared.Message.TheVariants as message
 use Rattle.wire_command.specs.declared.Command.{Command}
 use Rattle.wire_command.specs.declared.Command.TheVariants as command
 use Rattle.wire_command.specs.Shell.{shell_fields, shell_fault}
-use Rattle.wire_command.specs.Places.{Place, places_of, part_at}
+use Rattle.wire_command.specs.Places.{Place, places_of}
 use Rattle.wire_command.specs.Steps.{found_after, found_in}
 use Rattle.wire_command.specs.Commands.{message_by, message_in, answer_for, command_by, command_of}
 use Rattle.wire_command.specs.Replies.{command_reply}
@@ -127,7 +127,7 @@ module _ (l : List ℕ) where
 
 -- the word of a type that the program handed over as its 32 bits
 word_back : {w : ℕ} (t : ℤ) → mag t < 2 ^ 31 → w ≡ word_of (to_z w32 (of_z w32 t)) → w ≡ word_of t
-word_back t h e = e ∙ ap word_of (to_z-of_z (record { sfits = h }))
+word_back t h e = e ∙ ap word_of (to_z-of_z {w = w32} (record { sfits = h }))
 
 module _ {x : Command} {r : Reply} {t : ℤ} {w : ℕ} (h : mag t < 2 ^ 31) (g : w ≡ word_of (to_z w32 (of_z w32 t))) where
   pub parts-reply : (k : ℕ) → x ≡ command.Parts t k → r ≡ taken_reply no (pos w ∷ pos k ∷ []) → r ≡ command_reply x

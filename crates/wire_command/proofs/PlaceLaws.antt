@@ -6,7 +6,7 @@
 -- Assumes nothing.
 use Prim.Native.Nat.{ℕ, zero, suc, ◌+◌, ◌-◌, ◌≤◌, ◌<◌}
 use native.Mathlib.Omega.{arith}
-use mathlib.Core.Path.{◌≡◌, refl, sym, ap, subst, ◌∙◌}
+use mathlib.Core.Path.{◌≡◌, refl, sym, ap, ◌∙◌}
 use mathlib.Core.Bool.{Bool, true, false, cond}
 use mathlib.Core.List.{List, [], ◌∷◌, map}
 use lib.ListN.{length, take, drop, length-drop}
@@ -14,12 +14,10 @@ use lib.Seq.{drop-drop}
 use lib.Dec.{eqb, ltb}
 use borrow.Author.Tests.{ltb-true, ltb-false, eq-eqb, ne_eqb}
 use Rattle.slice.proofs.PartLaws.{rest}
-use Rattle.wire.specs.Fields.{fields_of}
 use Rattle.wire_values.specs.declared.Front.{Front}
 use Rattle.wire_values.specs.declared.Front.TheVariants as front
-use Rattle.wire_values.specs.Values.{parts_of}
 use Rattle.wire_values.specs.Places.{front_of}
-use Rattle.wire_values.proofs.FrontLaws.{parts_from, FrontAt, NumberAt, PartAt, FixedAt, BrokenAt, front_at, parts-end}
+use Rattle.wire_values.proofs.FrontLaws.{parts_from, FrontAt, front_at, parts-end}
 use Rattle.wire_command.specs.declared.Found.{Found}
 use Rattle.wire_command.specs.Places.{Place, size_of, places_by, places_after, places_of, part_at, PlacesAreParts}
 use Rattle.wire_command.specs.Steps.{found_after, found_in}

@@ -1,6 +1,6 @@
 -- Internal: cited by the contracts of helpers alone; whoever reads the claims may skip it.
 -- Assumes nothing.
-use Rattle.std.specs.Prelude.{ℕ, suc, ◌+◌, cond, List, [], ◌∷◌, drop}
+use Rattle.std.specs.Prelude.{ℕ, ◌+◌, cond, List, [], ◌∷◌, drop}
 use Rattle.refusal.specs.declared.Refusal.TheVariants.{InvalidWireFormat, WrongWireType}
 use Rattle.wire.specs.declared.Key.{Key}
 use Rattle.wire.specs.declared.Key.TheVariants as key

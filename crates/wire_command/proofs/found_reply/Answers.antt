@@ -1,12 +1,8 @@
 -- `found_reply` meets its contract: four values, none of which is negative. Assumes nothing.
 use mathlib.Core.Path.{refl}
 use Rattle.export_reply.specs.Replies.{reply_with, word_at, word_of}
-use Rattle.wire_command.proofs.found_reply.Statement.{statement}
-use Rattle.wire_command.proofs.found_reply.Tie as tie
+use Rattle.wire_command.proofs.found_reply.Goals as goal
 
-returns : tie.Need-returns
+pub returns : goal.returns
 unfolding reply_with word_at word_of
 returns c = refl
-
-pub found-reply-spec : {M : Type 1} → statement M
-found-reply-spec = tie.close (tie.spec returns)
