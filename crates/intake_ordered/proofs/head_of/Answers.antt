@@ -1,0 +1,13 @@
+-- `head_of` meets its contract: three numbers and a part. Assumes nothing.
+use mathlib.Core.Path.{subst}
+use Rattle.wire_ordered.specs.Ordered.{NumberAtIs, PartIs}
+use Rattle.intake_ordered.proofs.TakeLaws.{head-row}
+use borrow.Author.Rules.{rules}
+use Rattle.intake_ordered.proofs.head_of.Goals as goal
+
+pub returns : goal.returns
+returns c =
+    head-row c.in-Found.ensures
+    c.in-Found-number_at.ensures
+    c.in-Found-number_at-2.ensures
+    c.in-Found-part_at.ensures c.if-end-start.false c.if-end-gt-MAX_HASH.false
