@@ -5,7 +5,7 @@
 -- A part is told by its row of fields, and what it holds by the value that stands for it: a range, a segment. What is told of a row that
 -- is walked over is told from a place on, so that a turn of the walk puts one entry in front of those that follow.
 -- Assumes nothing.
-use Rattle.std.specs.Prelude.{ℕ, ◌+◌, ◌-◌, ◌*◌, ◌≤◌, ◌≡◌, Bool, true, List, [], ◌∷◌, map, length, take, drop}
+use Rattle.std.specs.Prelude.{ℕ, ◌+◌, ◌-◌, ◌*◌, ◌≤◌, ◌≡◌, Bool, true, List, ◌∷◌, map, length, take, drop}
 use Rattle.topic_types.specs.declared.KeyRange.{KeyRange}
 use Rattle.topic_types.specs.KeyRanges.{max_hash}
 use Rattle.ranges.specs.Overlap.{rising_from}

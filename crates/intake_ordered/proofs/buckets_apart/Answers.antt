@@ -2,7 +2,6 @@
 use mathlib.Core.Path.{sym, ap, ◌∙◌}
 use mathlib.Core.Bool.{Bool, ◌||◌}
 use lib.ListN.{drop}
-use borrow.Author.Rules.{rules}
 use Rattle.packed.specs.Assignment.{decode_ranges, ok_buckets}
 use Rattle.intake_ordered.proofs.buckets_apart.Goals as goal
 

@@ -1,8 +1,5 @@
 -- `head_of` meets its contract: three numbers and a part. Assumes nothing.
-use mathlib.Core.Path.{subst}
-use Rattle.wire_ordered.specs.Ordered.{NumberAtIs, PartIs}
 use Rattle.intake_ordered.proofs.TakeLaws.{head-row}
-use borrow.Author.Rules.{rules}
 use Rattle.intake_ordered.proofs.head_of.Goals as goal
 
 pub returns : goal.returns

@@ -1,17 +1,13 @@
 -- `take_buckets` meets its contract: ranges alone, each inside the segment's range.
 -- The invariant: what is told of the buckets from `at` on, written from `to` on, tells those from the first on. The measure is the bytes
 -- left. Assumes nothing.
-use Prim.Native.Nat.{ℕ, ◌+◌, ◌-◌, ◌*◌, ◌≤◌}
+use Prim.Native.Nat.{◌+◌, ◌*◌, ◌≤◌}
 use native.Mathlib.Omega.{arith}
-use mathlib.Core.Path.{◌≡◌, refl, ap, subst, ◌∙◌}
-use mathlib.Core.Bool.{Bool, true}
-use mathlib.Core.List.{List}
+use mathlib.Core.Path.{◌≡◌, refl, ap, ◌∙◌}
 use lib.ListN.{length}
 use borrow.Author.Rules.{rules}
 use Rattle.slice_int.proofs.BeLaws.{length-bytes_of}
 use Rattle.slice_int.proofs.PutLaws.{length-put}
-use Rattle.intake_ordered_bucket.specs.Buckets.{BucketAt, BucketIs}
-use Rattle.intake_ordered.specs.Walk.{BucketsFrom}
 use Rattle.intake_ordered.proofs.TakeLaws.{buckets-end, buckets-next}
 use Rattle.intake_ordered.proofs.take_buckets.Goals as goal
 

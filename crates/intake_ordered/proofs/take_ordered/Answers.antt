@@ -1,13 +1,8 @@
 -- `take_ordered` meets its contract: an epoch and segments, their records put in order, then the count and the epoch written before them.
 -- Assumes nothing.
 use native.Mathlib.Omega.{arith}
-use mathlib.Core.Path.{sym, subst, ◌∙◌}
-use mathlib.Core.Bool.{true}
-use borrow.Author.Tests.{not-false}
-use Rattle.wire_ordered.specs.Ordered.{NumberAtIs}
-use Rattle.intake_ordered.specs.Walk.{SegmentsFrom, SegmentsAre}
+use mathlib.Core.Path.{sym, ◌∙◌}
 use Rattle.intake_ordered.proofs.TakeLaws.{segments-few, segments-ready, ordered-taken}
-use borrow.Author.Rules.{rules}
 use Rattle.intake_ordered.proofs.take_ordered.Goals as goal
 
 pub take_segments-requires : goal.take_segments-requires

@@ -1,13 +1,7 @@
 -- `take_segment` meets its contract: a head whose text is the segment's name, and buckets. Assumes nothing.
-use Prim.Native.Nat.{◌+◌}
 use native.Mathlib.Omega.{arith}
-use mathlib.Core.Path.{subst}
-use mathlib.Core.Bool.{true}
-use borrow.Author.Tests.{not-false}
 use Rattle.name_parents.proofs.PathLaws.{parent-long}
-use Rattle.intake_ordered.specs.Walk.{HeadRow, HeadIs, BucketsFrom, BucketsAre}
 use Rattle.intake_ordered.proofs.TakeLaws.{buckets-kept, segment-taken}
-use borrow.Author.Rules.{rules}
 use Rattle.intake_ordered.proofs.take_segment.Goals as goal
 
 pub buckets_apart-requires : goal.buckets_apart-requires

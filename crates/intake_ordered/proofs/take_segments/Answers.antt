@@ -1,15 +1,9 @@
 -- `take_segments` meets its contract: segments alone, in whatever order.
 -- The invariant: what is told of the segments from `at` on, written from `used` on, tells those from the first on. The measure is the bytes
 -- left. Assumes nothing.
-use Prim.Native.Nat.{ℕ, ◌+◌, ◌-◌, ◌*◌, ◌≤◌}
+use Prim.Native.Nat.{◌+◌}
 use native.Mathlib.Omega.{arith}
-use mathlib.Core.Path.{◌≡◌, subst, ◌∙◌}
-use mathlib.Core.Bool.{Bool, true}
-use mathlib.Core.List.{List}
-use lib.ListN.{length, take, drop}
-use borrow.Author.Rules.{rules}
-use Rattle.wire_ordered.specs.Ordered.{PartField, PartIs}
-use Rattle.intake_ordered.specs.Walk.{SegmentTaken, SegmentIs, SegmentsFrom}
+use mathlib.Core.Path.{◌∙◌}
 use Rattle.intake_ordered.proofs.TakeLaws.{segment-long, segment-kept, segments-count, segments-end, segments-next}
 use Rattle.intake_ordered.proofs.take_segments.Goals as goal
 

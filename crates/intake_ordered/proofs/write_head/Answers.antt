@@ -1,6 +1,5 @@
 -- `write_head` meets its contract: three numbers, one behind the other. Assumes nothing.
 use Rattle.intake_ordered.proofs.TakeLaws.{head-written}
-use borrow.Author.Rules.{rules}
 use Rattle.intake_ordered.proofs.write_head.Goals as goal
 
 pub returns : goal.returns
