@@ -46,7 +46,7 @@ fn write_identity(
 )
     requires name_len_bound { length topic.now + length subscription.now + length name.now ≤ max_texts }
     requires min_store_in_bounds { min_store ≤ length store.old }
-    ensures { store.new ≡ put store.old 0 (encode_identity (record { topic = topic.entry.now; subscription = subscription.now; consumer_name = name.now; consumer_type = kind })) }
+    ensures { store.new ≡ put store.old 0 (encode_identity (record { topic = topic.now; subscription = subscription.now; consumer_name = name.now; consumer_type = kind })) }
 {
     let second = IDENTITY_HEAD + topic.len();
     let third = second + subscription.len();
@@ -85,7 +85,7 @@ pub fn open(
     kind: ScalableConsumerType,
     store: &mut [u8],
 ) -> Changed
-    ensures { record { answer = result.answer; next = result.next; store = store.new } ≡ open_outcome consumer_id incarnation (record { topic = topic.entry.now; subscription = subscription.now; consumer_name = name.now; consumer_type = kind }) store.old }
+    ensures { record { answer = result.answer; next = result.next; store = store.new } ≡ open_outcome consumer_id incarnation (record { topic = topic.now; subscription = subscription.now; consumer_name = name.now; consumer_type = kind }) store.old }
 {
     let next = fresh(consumer_id, incarnation);
     if store.len() < MIN_STORE {
@@ -120,7 +120,7 @@ fn same_identity(
 ) -> bool
     requires s_len { length s.now ≡ slot_size }
     requires s_value { is_identity s.now ≡ true }
-    ensures { result ≡ same_identity s.now (record { topic = topic.entry.now; subscription = subscription.now; consumer_name = name.now; consumer_type = kind }) }
+    ensures { result ≡ same_identity s.now (record { topic = topic.now; subscription = subscription.now; consumer_name = name.now; consumer_type = kind }) }
 {
     let second = IDENTITY_HEAD + slice_int::read_u16(s, 0) as usize;
     let third = second + slice_int::read_u16(s, SUBSCRIPTION_LENGTH) as usize;
@@ -145,7 +145,7 @@ pub fn matches_registration(
     name: &[u8],
     kind: ScalableConsumerType,
 ) -> Match
-    ensures { result ≡ match_of store.now (record { topic = topic.entry.now; subscription = subscription.now; consumer_name = name.now; consumer_type = kind }) }
+    ensures { result ≡ match_of store.now (record { topic = topic.now; subscription = subscription.now; consumer_name = name.now; consumer_type = kind }) }
 {
     if store.len() < MIN_STORE {
         return Match::Refused(Refusal::StoreTooShort);
