@@ -1,0 +1,31 @@
+-- `session_intake::take_ordered_message` meets its contract: field 1 and field n are there, field n ends the message, and its part is an
+-- assignment that is taken.
+-- Assumes nothing.
+use native.Mathlib.Omega.{arith}
+use mathlib.Core.Path.{subst}
+use borrow.Author.Rules.{rules}
+use Rattle.wire_ordered.specs.Ordered.{NumberIs, NumberAtIs, PartField, PartIs}
+use Rattle.session_intake.proofs.IntakeLaws.{field-small, topic-text, ordered-taken}
+use Rattle.session_intake.proofs.take_ordered_message.Goals as goal
+
+pub part_at-requires : goal.part_at-requires
+part_at-requires c = field-small _ c.requires.assignment_field.0
+
+pub take_ordered-requires : goal.take_ordered-requires
+take_ordered-requires c =
+    record { b_len = c.requires.assignment_field.1; parent_value = topic-text c.args.store.now c.requires.min_store_in_bounds.1 c.topic_end-end.result c.topic_end-end.ensures }
+
+pub returns-in-Taken : goal.returns-in-Taken
+returns-in-Taken c =
+    ordered-taken c.args.store.now c.args.m.now c.args.b.now _ c.args.n c.topic_end-end.result c.requires.assignment_field.0
+    c.topic_end-end.ensures c.requires.assignment_field.1 (λ i. (c.shared_slice_known-2-1.given i).fits) _ _ _ _ _ _ (c.in-Found.ensures) (c.in-Found-part_at.ensures)
+    c.if-to-m.false c.take_ordered.result c.in-Taken.is c.take_ordered.ensures
+
+pub slice_bounds-take_ordered-count : goal.slice_bounds-take_ordered-count
+slice_bounds-take_ordered-count c = let h = c.in-Found-part_at.ensures in omega arith
+
+pub slice_bounds-take_ordered-start : goal.slice_bounds-take_ordered-start
+slice_bounds-take_ordered-start c = let h = c.in-Found-part_at.ensures in omega arith
+
+pub slice_bounds-take_ordered-end : goal.slice_bounds-take_ordered-end
+slice_bounds-take_ordered-end c = let h = c.in-Found-part_at.ensures in omega arith
