@@ -3,7 +3,7 @@
 -- Assumes nothing.
 use Rattle.std.specs.Prelude.{ℕ, Bool, List, [], ◌∷◌, map, ℤ}
 use Rattle.std.proofs.Math.Option
-use Rattle.std.proofs.Math.Option.{Option, some, none}
+use Rattle.std.proofs.Math.Option.{Option}
 use Rattle.topic_types.specs.declared.ControllerIncarnation.{ControllerIncarnation}
 use Rattle.topic_types.specs.declared.KeyRange.{KeyRange}
 use Rattle.topic_types.specs.declared.SegmentId.{SegmentId}
@@ -14,7 +14,7 @@ use Rattle.packed.specs.Assignment as port
 use Rattle.session.specs.Trace.{Call}
 use Rattle.rust_magnetar.specs.Text.{Text}
 use Rattle.rust_magnetar.specs.Assignment.{AssignedSegment, ConsumerAssignment}
-use Rattle.rust_magnetar.specs.Session.{AssignmentDelta, AssignmentReplay, new}
+use Rattle.rust_magnetar.specs.Session.{AssignmentDelta, new}
 use Rattle.rust_session.specs.Demand.{Answered, refuses, baseline, done, no_change, delta, replay, Shown, Caller, rust_run}
 
 -- a list, its names left out

@@ -8,11 +8,11 @@
 use Prim.Native.Nat.{ℕ}
 use mathlib.Core.Path.{◌≡◌, refl, sym, ap, ap₂, ◌∙◌}
 use mathlib.Core.Bool.{Bool, true, false, cond, not, ◌&&◌, ◌||◌, and_assoc, and_comm, and-false}
-use mathlib.Core.List.{List, [], ◌∷◌}
+use mathlib.Core.List.{List, ◌∷◌}
 use Rattle.refusal.specs.declared.Refusal.TheVariants.{MissingField}
 use Rattle.wire.specs.declared.WireType.TheVariants as type
 use Rattle.wire.specs.Fields.{bytes, Field, bad_key, field, fields_of}
-use Rattle.wire_values.specs.Values.{parts_of, present, merged_fields}
+use Rattle.wire_values.specs.Values.{present}
 use Rattle.wire_schema.specs.declared.MessageKind.{MessageKind}
 use Rattle.wire_schema.specs.declared.MessageKind.TheVariants.{CommandScalableTopicAssignmentUpdate}
 use Rattle.wire_schema.specs.declared.MessageKind.TheVariants.{CommandScalableTopicSubscribeResponse}
