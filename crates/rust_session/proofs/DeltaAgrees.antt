@@ -25,7 +25,7 @@ use Rattle.topic_types.specs.declared.SegmentId.{SegmentId}
 use Rattle.rust_magnetar.specs.Collections.{Vec-eq, filter, is-none-or}
 use Rattle.rust_magnetar.specs.BTree.{BTreeMap-get, BTreeMap-insert, BTreeMap-extend}
 use Rattle.rust_magnetar.specs.Ranges.{KeyRange-eq}
-use Rattle.rust_magnetar.specs.Assignment.{SegmentId-cmp, AssignedSegment, AssignedSegment-eq, ConsumerAssignment, ConsumerAssignment-eq}
+use Rattle.rust_magnetar.specs.Assignment.{SegmentId-cmp, AssignedSegment, AssignedSegment-eq, ConsumerAssignment-eq}
 use Rattle.rust_magnetar.specs.Session.{AssignmentDelta, SegmentMap, by-id, segment-map, is-gained, is_lost, key_of}
 use Rattle.rust_names.proofs.TextAgrees.{text_same}
 use Rattle.rust_session.specs.Values.{as_id, as_segment, as_assignment, as_delta}

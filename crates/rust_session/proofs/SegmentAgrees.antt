@@ -21,7 +21,6 @@ use Rattle.refusal.specs.declared.Refusal.TheVariants as refusal
 use Rattle.slice.specs.Same.{same_bytes}
 use Rattle.slice.proofs.SameLaws.{same-eq}
 use Rattle.name_parents.specs.Parents.{is_parent}
-use Rattle.name_topic.specs.Names.{segment_topic}
 use Rattle.ranges.specs.Overlap.{any_overlap}
 use Rattle.wire_readers.specs.declared.IntRange.{IntRange}
 use Rattle.wire_readers.specs.Messages.{WireSegment}
