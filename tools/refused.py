@@ -50,7 +50,8 @@ LABEL = re.compile(r"`([^`]+)`: ")
 # A goal that rattle was to answer, and the function that it is of: the next line `fn ..`.
 OPEN = re.compile(r"^note: src/\S+:\d+:\d+: .*\(`([^`]+)`\)")
 OF_FUNCTION = re.compile(r"^(?:fn|enum|struct) (\S+?):? ")
-UNREAD = re.compile(r"\berror\[[\w-]+\]")
+# What rt takes for a text that cannot be read: such an edit is a BAD EDIT, and no contract was tried.
+UNREAD = re.compile(r"is not in scope|has no field|is no name|operand is missing|expected the end|cannot continue")
 
 
 def named(edit):
@@ -205,6 +206,17 @@ class Lane:
         shutil.rmtree(self.top, ignore_errors=True)
 
 
+def unread(log, texts):
+    """The first line that says that a text of src/ or specs/, or an edited one, cannot be read, as rt looks for it."""
+    for line in log.splitlines():
+        if re.search(r"\berror\[[\w-]+\]", line):
+            return line
+        at = re.match(r"(?:\./)?(\S+?):\d+:\d+: error: (`[^`]*`: )?(.*)", line)
+        if at and (at[1] in texts or at[1].startswith(("src/", "specs/"))) and (not at[2] or UNREAD.search(re.sub(r"`[^`]*`", "", at[3]))):
+            return line
+    return None
+
+
 def attempt(lane, crate, some, logs):
     """Checks wrong programs together: the facts that fail, or why nothing was checked."""
     texts = edited(lane.root / "crates" / crate, some)
@@ -220,9 +232,12 @@ def attempt(lane, crate, some, logs):
     number = len(list(logs.glob("*.log"))) + 1
     (logs / f"{number}.log").write_text(log, encoding="utf-8")
     (logs / f"{number}.json").write_text(json.dumps({"wrong": [w.name for w in some], "facts": found}, ensure_ascii=False, indent=1), encoding="utf-8")
-    if UNREAD.search(log) or not re.search(r"^logic=", log, re.M):
-        return None, "the check did not come to a verdict, " + next((x for x in log.splitlines() if "error" in x), "with no error")[:200]
-    return found, None
+    bad = unread(log, texts)
+    if bad:
+        return None, f"it cannot be read: {bad[:300]}"
+    if not re.search(r"^logic=", log, re.M):
+        return None, "the check came to no verdict: " + next((x for x in reversed(log.splitlines()) if x), "it wrote nothing")[:300]
+    return found, None if found else "the crate is still proved, or only files that no longer fit are refused"
 
 
 def tried(lane, crate, edit):
@@ -231,20 +246,20 @@ def tried(lane, crate, edit):
     shutil.rmtree(logs, ignore_errors=True)
     logs.mkdir(parents=True)
     every = wrongs(edit)
-    told, rest, alone = {}, list(every), []
+    told, rest, alone, faults = {}, list(every), [], {}
     while rest:
         found, why = attempt(lane, crate, rest, logs)
         good = shown(found, rest) if found is not None else []
         told.update({w: refusal(found, w) for w in good})
         if not good:
-            alone = rest if len(rest) > 1 else []
+            alone, faults = (rest, {}) if len(rest) > 1 else ([], {rest[0]: why})
             break
         rest = [w for w in rest if w not in good]
     for wrong in alone:
-        found, why = attempt(lane, crate, [wrong], logs)
+        found, faults[wrong] = attempt(lane, crate, [wrong], logs)
         if found is not None and shown(found, [wrong]):
             told[wrong] = refusal(found, wrong)
-    return [(w.name, told.get(w)) for w in every]
+    return [(w.name, told.get(w), faults.get(w)) for w in every]
 
 
 def sum_of(root, crate, below, edit):
@@ -297,8 +312,8 @@ def judge(root, crates, jobs):
                 crate = order.get_nowait()
                 for edit, place in waiting[crate]:
                     results[edit] = tried(lane, crate, edit)
-                    print(f"refused: {crate}/{edit.name}: {sum(x is not None for _, x in results[edit])} of {len(results[edit])}", file=sys.stderr, flush=True)
-                    if all(where is not None for _, where in results[edit]):
+                    print(f"refused: {crate}/{edit.name}: {sum(x[1] is not None for x in results[edit])} of {len(results[edit])}", file=sys.stderr, flush=True)
+                    if all(x[1] is not None for x in results[edit]):
                         place.write_text(json.dumps(results[edit], ensure_ascii=False), encoding="utf-8")
                 lane.forget(crate)
         except queue.Empty:
@@ -322,11 +337,11 @@ def main(root, crates, jobs):
         if unnamed(edit):
             bad += 1
             print(f"{where}: a change without a name of its own before it")
-        for (function, at, what), (name, refused) in zip(named(edit), found):
+        for (function, at, what), (_, refused, why) in zip(named(edit), found):
             wrong += 1
             if refused is None:
                 bad += 1
-                print(f"{where}: {function} is not refused at a fact of its own: {what}")
+                print(f"{where}: {function} is not refused at a fact of its own: {what}{f' ({why})' if why else ''}")
     lost = [e for e in root.glob("crates/*/must-fail/*.edit") if e not in results and (not crates or e.parts[-3] in crates)]
     for edit in lost:
         bad += 1
