@@ -22,7 +22,7 @@ alone, or the goal of a function's proof, no two the same one, and a fact has to
     # segment at proofs/segment/Answers.returns-else-a-b: ..
 
 What was found of an edit is kept in the folder CUDDREWYN_KEPT (~/.cache/cuddrewyn where it is not set), by a sum of all that it rests on: the toolchain, the
-crate, those below it, the edit, this script. What every check wrote, and the facts that it failed at, are left in target/must-fail/CRATE/EDIT/.
+crate, those below it, the edit, and VERSION. What every check wrote, and the facts that it failed at, are left in target/must-fail/CRATE/EDIT/.
 
     python3 tools/refused.py [ROOT] [--only CRATE..] [--jobs N]      the last line is 'N wrong programs in M edits, K not refused in their own function'
 """
@@ -42,6 +42,8 @@ import usage
 
 NAMED = re.compile(r"^# ((?:[^\s:]+::)*[^\s:]+)(?: at ((?:proofs|specs)/\S+)\.([^\s.]+))?: (.+)$")
 DECLARED = re.compile(r"\s*(?:(?:abbrev|unfoldable|opaque|pub) +)*([^\s:(){}]+) :(?: |$)")
+# Another one where what counts as a refusal changes: what was kept by the former counts no more.
+VERSION = b"1"
 # An echo of a refusal elsewhere; a file that names what is not there any more.
 ECHO = ("was not admitted", "were not admitted", "so this cannot be checked")
 UNFIT = re.compile(r"has no `|is not in scope|that can be named from here|has no field\b|expected type `goal\.[^`]*`,? but this has type `goal\.")
@@ -67,9 +69,10 @@ def unnamed(edit):
         free = free or bool(NAMED.match(line))
         if line.startswith("old: ") and not free:
             return True
-    pairs = named(edit)
-    names, places = [f for f, at, _ in pairs if not at], [at for _, at, _ in pairs if at]
-    return not pairs or len(set(names)) < len(names) or len(set(places)) < len(places) or any(f in names for f, at, _ in pairs if at)
+    pairs = wrongs(edit)
+    # a function may have the name of its definition
+    names, places = [(w.name, w.in_function()) for w in pairs if not w.at], [w.at for w in pairs if w.at]
+    return not pairs or len(set(names)) < len(names) or len(set(places)) < len(places) or any((w.name, w.in_function()) in names for w in pairs if w.at)
 
 
 class Wrong:
@@ -264,7 +267,7 @@ def tried(lane, crate, edit):
 
 def sum_of(root, crate, below, edit):
     """A sum of all that the verdict on an edit rests on."""
-    told = hashlib.sha256(Path(__file__).read_bytes())
+    told = hashlib.sha256(VERSION)
     told.update(subprocess.run(["rt", "version"], capture_output=True).stdout + edit.read_bytes())
     for name in (crate, *sorted(below)):
         for path in sorted(p for part in ("src", "specs", "proofs") for p in (root / "crates" / name / part).rglob("*") if p.is_file()):
