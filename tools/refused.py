@@ -179,7 +179,7 @@ class Lane:
     """A copy of the repository that edits are tried in, one after the other; rt keeps there what one check proved for the next."""
 
     def __init__(self, root):
-        self.root, self.top = root, Path(tempfile.mkdtemp(prefix="cuddrewyn-refused-"))
+        self.top = Path(tempfile.mkdtemp(prefix="cuddrewyn-refused-"))
         for name in ("crates.txt", "HANDLES"):
             if (root / name).is_file():
                 shutil.copy(root / name, self.top)
@@ -187,20 +187,25 @@ class Lane:
         # the top of a repository
         (self.top / ".git").mkdir()
 
+    def text(self, crate, file):
+        path = self.top / "crates" / crate / file
+        return path.read_text(encoding="utf-8") if path.is_file() else ""
+
     def check(self, crate, texts):
         """What `rt check` writes of the crate with these texts in the place of its own."""
-        folder = self.top / "crates" / crate
-        for path, text in texts.items():
-            (folder / path).write_text(text, encoding="utf-8")
+        folder, own = self.top / "crates" / crate, {path: self.text(crate, path) for path in texts}
         try:
+            for path, text in texts.items():
+                (folder / path).write_text(text, encoding="utf-8")
             for _ in range(2):
                 done = subprocess.run(["rt", "check", "--jobs", "1"], cwd=folder, stdin=subprocess.DEVNULL, capture_output=True, text=True, errors="replace")
+                # else it was killed, most likely for memory: once more
                 if re.search(r"^logic=", done.stdout, re.M) or done.returncode == 1:
                     break
             return done.stdout + done.stderr
         finally:
-            for path in texts:
-                shutil.copy(self.root / "crates" / crate / path, folder / path)
+            for path, text in own.items():
+                (folder / path).write_text(text, encoding="utf-8")
 
     def forget(self, crate):
         shutil.rmtree(self.top / "crates" / crate / "out/incremental", ignore_errors=True)
@@ -222,16 +227,11 @@ def unread(log, texts):
 
 def attempt(lane, crate, some, logs):
     """Checks wrong programs together: the facts that fail, or why nothing was checked."""
-    texts = edited(lane.root / "crates" / crate, some)
+    texts = edited(lane.top / "crates" / crate, some)
     if texts is None:
         return None, "an old text does not stand once"
     log = lane.check(crate, texts)
-
-    def read(file):
-        path = lane.root / "crates" / crate / file
-        return texts[file] if file in texts else path.read_text(encoding="utf-8") if path.is_file() else ""
-
-    found = facts(log, read) + left_open(log, crate)
+    found = facts(log, lambda file: texts.get(file) or lane.text(crate, file)) + left_open(log, crate)
     number = len(list(logs.glob("*.log"))) + 1
     (logs / f"{number}.log").write_text(log, encoding="utf-8")
     (logs / f"{number}.json").write_text(json.dumps({"wrong": [w.name for w in some], "facts": found}, ensure_ascii=False, indent=1), encoding="utf-8")
@@ -243,9 +243,8 @@ def attempt(lane, crate, some, logs):
     return found, None if found else "the crate is still proved, or only files that no longer fit are refused"
 
 
-def tried(lane, crate, edit):
-    """Each wrong program of an edit with the fact that refuses it, or with None."""
-    logs = lane.root / "target/must-fail" / crate / edit.stem
+def tried(lane, crate, edit, logs):
+    """Each wrong program of an edit with the fact that refuses it, or with None and why."""
     shutil.rmtree(logs, ignore_errors=True)
     logs.mkdir(parents=True)
     every = wrongs(edit)
@@ -265,13 +264,14 @@ def tried(lane, crate, edit):
     return [(w.name, told.get(w), faults.get(w)) for w in every]
 
 
-def sum_of(root, crate, below, edit):
-    """A sum of all that the verdict on an edit rests on."""
+def sum_of(top, crate, below, edit):
+    """A sum of all that the verdict on an edit rests on; of a crate below, whose functions are told by their contracts, without what proves these."""
     told = hashlib.sha256(VERSION)
     told.update(subprocess.run(["rt", "version"], capture_output=True).stdout + edit.read_bytes())
     for name in (crate, *sorted(below)):
-        for path in sorted(p for part in ("src", "specs", "proofs") for p in (root / "crates" / name / part).rglob("*") if p.is_file()):
-            told.update(f"\n{path.relative_to(root)}\n".encode() + path.read_bytes())
+        for path in sorted(p for part in ("src", "specs", "proofs") for p in (top / "crates" / name / part).rglob("*") if p.is_file()):
+            if name == crate or path.name not in ("Invariants.antt", "Answers.antt", "Proof.antt"):
+                told.update(f"\n{path.relative_to(top)}\n".encode() + path.read_bytes())
     return told.hexdigest()
 
 
@@ -291,44 +291,48 @@ def below(root):
 
 
 def judge(root, crates, jobs):
-    """For each edit what was found of it, kept or now."""
+    """For each edit what was found of it, kept or now; and how many were tried now."""
     kept = Path(os.environ.get("CUDDREWYN_KEPT") or Path.home() / ".cache/cuddrewyn") / "refused"
     kept.mkdir(parents=True, exist_ok=True)
-    uses, results, waiting = below(root), {}, {}
-    for edit in sorted(root.glob("crates/*/must-fail/*.edit")):
-        crate = edit.parts[-3]
+    # what is tried is the repository as it stands now, whatever changes meanwhile
+    first = Lane(root)
+    uses, results, waiting = below(first.top), {}, {}
+    for edit in sorted(first.top.glob("crates/*/must-fail/*.edit")):
+        crate, here = edit.parts[-3], root / edit.relative_to(first.top)
         if crates and crate not in crates:
             continue
-        place = kept / sum_of(root, crate, uses.get(crate, ()), edit)
+        place = kept / sum_of(first.top, crate, uses.get(crate, ()), edit)
         if place.is_file():
-            results[edit] = [tuple(x) for x in json.loads(place.read_text(encoding="utf-8"))]
+            results[here] = [tuple(x) for x in json.loads(place.read_text(encoding="utf-8"))]
         else:
-            waiting.setdefault(crate, []).append((edit, place))
+            waiting.setdefault(crate, []).append((here, edit, place))
+    lanes = [first, *(Lane(first.top) for _ in range(min(jobs, len(waiting)) - 1))]
     order = queue.Queue()
     for crate in sorted(waiting, key=lambda c: -len(waiting[c])):
         order.put(crate)
 
-    def work():
-        lane = Lane(root)
+    def work(lane):
         try:
             while True:
                 crate = order.get_nowait()
-                for edit, place in waiting[crate]:
-                    results[edit] = tried(lane, crate, edit)
-                    print(f"refused: {crate}/{edit.name}: {sum(x[1] is not None for x in results[edit])} of {len(results[edit])}", file=sys.stderr, flush=True)
-                    if all(x[1] is not None for x in results[edit]):
-                        place.write_text(json.dumps(results[edit], ensure_ascii=False), encoding="utf-8")
+                for here, edit, place in waiting[crate]:
+                    results[here] = tried(lane, crate, lane.top / edit.relative_to(first.top), root / "target/must-fail" / crate / edit.stem)
+                    print(f"refused: {crate}/{edit.name}: {sum(x[1] is not None for x in results[here])} of {len(results[here])}", file=sys.stderr, flush=True)
+                    if all(x[1] is not None for x in results[here]):
+                        place.write_text(json.dumps(results[here], ensure_ascii=False), encoding="utf-8")
                 lane.forget(crate)
         except queue.Empty:
             pass
-        finally:
-            lane.close()
 
-    lanes = [threading.Thread(target=work) for _ in range(min(jobs, len(waiting)))]
-    for lane in lanes:
-        lane.start()
-    for lane in lanes:
-        lane.join()
+    try:
+        workers = [threading.Thread(target=work, args=(lane,)) for lane in lanes]
+        for worker in workers:
+            worker.start()
+        for worker in workers:
+            worker.join()
+    finally:
+        for lane in lanes:
+            lane.close()
     return results, sum(map(len, waiting.values()))
 
 
