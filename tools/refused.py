@@ -293,7 +293,10 @@ def below(root):
 def judge(root, crates, jobs):
     """For each edit what was found of it, kept or now; and how many were tried now."""
     kept = Path(os.environ.get("CUDDREWYN_KEPT") or Path.home() / ".cache/cuddrewyn") / "refused"
-    kept.mkdir(parents=True, exist_ok=True)
+    try:
+        kept.mkdir(parents=True, exist_ok=True)
+    except OSError as error:
+        print(f"refused: nothing is kept: {error}", file=sys.stderr)
     # what is tried is the repository as it stands now, whatever changes meanwhile
     first = Lane(root)
     uses, results, waiting = below(first.top), {}, {}
@@ -318,7 +321,7 @@ def judge(root, crates, jobs):
                 for here, edit, place in waiting[crate]:
                     results[here] = tried(lane, crate, lane.top / edit.relative_to(first.top), root / "target/must-fail" / crate / edit.stem)
                     print(f"refused: {crate}/{edit.name}: {sum(x[1] is not None for x in results[here])} of {len(results[here])}", file=sys.stderr, flush=True)
-                    if all(x[1] is not None for x in results[here]):
+                    if kept.is_dir() and all(x[1] is not None for x in results[here]):
                         place.write_text(json.dumps(results[here], ensure_ascii=False), encoding="utf-8")
                 lane.forget(crate)
         except queue.Empty:
