@@ -140,7 +140,7 @@ def check_names(text):
             fault(f"{citation}: a name belongs behind .rt, .antt and .edit, and may stand behind .rs, .c and .h")
         elif name and not declares(ROOT / path, name):
             fault(f"{citation}: not declared there")
-    proved = set(re.findall(r"^(\w+):", (ROOT / "crates.txt").read_text(), re.M))
+    proved = set(re.findall(r"^(\w+)[^:#\n]*:", (ROOT / "crates.txt").read_text(), re.M))
     waiting = set(re.findall(r"`(\w+)`", " ".join(re.findall(r"^Not proved yet: .*", text, re.M))))
     for crate in sorted(({c.split("/")[1] for c in cited if c.startswith("crates/")} - proved) ^ waiting):
         fault(f"{crate}: " + ("strike it from" if crate in waiting else "cited and not in crates.txt, so name it under") + " 'Not proved yet'")
@@ -148,36 +148,39 @@ def check_names(text):
 
 
 def changed(edit, name):
-    """The file that an edit changes where it names this function or definition; of an edit of one change, without a name, that one."""
+    """Whether a definition is changed, for each change of an edit that names this function or definition; of an edit of one change, without a name, for that one."""
     file, at, files = "", "", {}
     for line in edit.read_text(encoding="utf-8").splitlines():
         if m := refused.NAMED.match(line):
-            at = m[1]
+            at, fresh = m[1], True
         elif line.startswith("file: "):
             file = line.removeprefix("file: ").strip()
         elif line.startswith("old: "):
-            files.setdefault(at, file)
-    return files.get(name) or next(iter(files.values()), "")
+            if at not in files or fresh:
+                files.setdefault(at, []).append(file.startswith("specs/"))
+            fresh = False
+    return files.get(name) or next(iter(files.values()), [False])
 
 
 def check_marks(text):
-    """An edit that changes a definition is marked as one where it is cited, and no other is."""
+    """An edit that changes a definition is marked as one where it is cited, and no other is. A function may have its definition's name: then the mark tells which."""
     count = 0
     for citation, mark in re.findall(r"`(crates/[^`\n]+\.edit(?::[^`\n]+)?)`(\s+\(definition\))?", text):
         path, _, name = citation.partition(":")
         if (ROOT / path).exists():
-            is_definition = changed(ROOT / path, name).startswith("specs/")
-            count += is_definition
-            if is_definition != bool(mark):
-                fault(f"{citation}: " + ("changes a definition, so `(definition)` belongs behind it" if is_definition else "changes no definition, and is marked as if"))
+            kinds = changed(ROOT / path, name)
+            count += bool(mark)
+            if bool(mark) not in kinds:
+                fault(f"{citation}: " + ("changes a definition, so `(definition)` belongs behind it" if kinds[0] else "changes no definition, and is marked as if"))
     return count
 
 
 def check_specs():
-    """What a reader has to believe stands in specs/ alone: no file there uses one of proofs/."""
+    """What a reader has to believe stands in specs/ alone: no file there uses one of proofs/. (The toolchain has words of its own, as `some`, below proofs/.)"""
     for path in sorted(ROOT.glob("crates/*/specs/**/*.antt")):
         for number, line in enumerate(path.read_text(encoding="utf-8").splitlines(), 1):
-            if re.match(r"\s*(pub |ghost )*(use|open|import)\b.*\bproofs\b", line):
+            used = re.match(r"\s*(?:pub |ghost )*(?:use|open|import)\b.*\bRattle\.(\w+)\.proofs\b", line)
+            if used and (ROOT / "crates" / used[1]).is_dir():
                 fault(f"{path.relative_to(ROOT)}:{number}: uses a file of proofs/")
 
 

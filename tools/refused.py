@@ -22,7 +22,7 @@ alone, or the goal of a function's proof, no two the same one, and a fact has to
     # segment at proofs/segment/Answers.returns-else-a-b: ..
 
 What was found of an edit is kept in the folder CUDDREWYN_KEPT (~/.cache/cuddrewyn where it is not set), by a sum of all that it rests on: the toolchain, the
-crate, those below it, the edit, this script. What every check wrote, and the facts that it failed at, are left in target/must-fail/CRATE/EDIT/.
+crate, those below it, the edit, and VERSION. What every check wrote, and the facts that it failed at, are left in target/must-fail/CRATE/EDIT/.
 
     python3 tools/refused.py [ROOT] [--only CRATE..] [--jobs N]      the last line is 'N wrong programs in M edits, K not refused in their own function'
 """
@@ -42,6 +42,8 @@ import usage
 
 NAMED = re.compile(r"^# ((?:[^\s:]+::)*[^\s:]+)(?: at ((?:proofs|specs)/\S+)\.([^\s.]+))?: (.+)$")
 DECLARED = re.compile(r"\s*(?:(?:abbrev|unfoldable|opaque|pub) +)*([^\s:(){}]+) :(?: |$)")
+# Another one where what counts as a refusal changes: what was kept by the former counts no more.
+VERSION = b"1"
 # An echo of a refusal elsewhere; a file that names what is not there any more.
 ECHO = ("was not admitted", "were not admitted", "so this cannot be checked")
 UNFIT = re.compile(r"has no `|is not in scope|that can be named from here|has no field\b|expected type `goal\.[^`]*`,? but this has type `goal\.")
@@ -50,7 +52,8 @@ LABEL = re.compile(r"`([^`]+)`: ")
 # A goal that rattle was to answer, and the function that it is of: the next line `fn ..`.
 OPEN = re.compile(r"^note: src/\S+:\d+:\d+: .*\(`([^`]+)`\)")
 OF_FUNCTION = re.compile(r"^(?:fn|enum|struct) (\S+?):? ")
-UNREAD = re.compile(r"\berror\[[\w-]+\]")
+# What rt takes for a text that cannot be read: such an edit is a BAD EDIT, and no contract was tried.
+UNREAD = re.compile(r"is not in scope|has no field|is no name|operand is missing|expected the end|cannot continue")
 
 
 def named(edit):
@@ -66,9 +69,10 @@ def unnamed(edit):
         free = free or bool(NAMED.match(line))
         if line.startswith("old: ") and not free:
             return True
-    pairs = named(edit)
-    names, places = [f for f, at, _ in pairs if not at], [at for _, at, _ in pairs if at]
-    return not pairs or len(set(names)) < len(names) or len(set(places)) < len(places) or any(f in names for f, at, _ in pairs if at)
+    pairs = wrongs(edit)
+    # a function may have the name of its definition
+    names, places = [(w.name, w.in_function()) for w in pairs if not w.at], [w.at for w in pairs if w.at]
+    return not pairs or len(set(names)) < len(names) or len(set(places)) < len(places) or any((w.name, w.in_function()) in names for w in pairs if w.at)
 
 
 class Wrong:
@@ -175,7 +179,7 @@ class Lane:
     """A copy of the repository that edits are tried in, one after the other; rt keeps there what one check proved for the next."""
 
     def __init__(self, root):
-        self.root, self.top = root, Path(tempfile.mkdtemp(prefix="cuddrewyn-refused-"))
+        self.top = Path(tempfile.mkdtemp(prefix="cuddrewyn-refused-"))
         for name in ("crates.txt", "HANDLES"):
             if (root / name).is_file():
                 shutil.copy(root / name, self.top)
@@ -183,20 +187,25 @@ class Lane:
         # the top of a repository
         (self.top / ".git").mkdir()
 
+    def text(self, crate, file):
+        path = self.top / "crates" / crate / file
+        return path.read_text(encoding="utf-8") if path.is_file() else ""
+
     def check(self, crate, texts):
         """What `rt check` writes of the crate with these texts in the place of its own."""
-        folder = self.top / "crates" / crate
-        for path, text in texts.items():
-            (folder / path).write_text(text, encoding="utf-8")
+        folder, own = self.top / "crates" / crate, {path: self.text(crate, path) for path in texts}
         try:
+            for path, text in texts.items():
+                (folder / path).write_text(text, encoding="utf-8")
             for _ in range(2):
                 done = subprocess.run(["rt", "check", "--jobs", "1"], cwd=folder, stdin=subprocess.DEVNULL, capture_output=True, text=True, errors="replace")
+                # else it was killed, most likely for memory: once more
                 if re.search(r"^logic=", done.stdout, re.M) or done.returncode == 1:
                     break
             return done.stdout + done.stderr
         finally:
-            for path in texts:
-                shutil.copy(self.root / "crates" / crate / path, folder / path)
+            for path, text in own.items():
+                (folder / path).write_text(text, encoding="utf-8")
 
     def forget(self, crate):
         shutil.rmtree(self.top / "crates" / crate / "out/incremental", ignore_errors=True)
@@ -205,55 +214,64 @@ class Lane:
         shutil.rmtree(self.top, ignore_errors=True)
 
 
+def unread(log, texts):
+    """The first line that says that a text of src/ or specs/, or an edited one, cannot be read, as rt looks for it."""
+    for line in log.splitlines():
+        if re.search(r"\berror\[[\w-]+\]", line):
+            return line
+        at = re.match(r"(?:\./)?(\S+?):\d+:\d+: error: (`[^`]*`: )?(.*)", line)
+        if at and (at[1] in texts or at[1].startswith(("src/", "specs/"))) and (not at[2] or UNREAD.search(re.sub(r"`[^`]*`", "", at[3]))):
+            return line
+    return None
+
+
 def attempt(lane, crate, some, logs):
     """Checks wrong programs together: the facts that fail, or why nothing was checked."""
-    texts = edited(lane.root / "crates" / crate, some)
+    texts = edited(lane.top / "crates" / crate, some)
     if texts is None:
         return None, "an old text does not stand once"
     log = lane.check(crate, texts)
-
-    def read(file):
-        path = lane.root / "crates" / crate / file
-        return texts[file] if file in texts else path.read_text(encoding="utf-8") if path.is_file() else ""
-
-    found = facts(log, read) + left_open(log, crate)
+    found = facts(log, lambda file: texts.get(file) or lane.text(crate, file)) + left_open(log, crate)
     number = len(list(logs.glob("*.log"))) + 1
     (logs / f"{number}.log").write_text(log, encoding="utf-8")
     (logs / f"{number}.json").write_text(json.dumps({"wrong": [w.name for w in some], "facts": found}, ensure_ascii=False, indent=1), encoding="utf-8")
-    if UNREAD.search(log) or not re.search(r"^logic=", log, re.M):
-        return None, "the check did not come to a verdict, " + next((x for x in log.splitlines() if "error" in x), "with no error")[:200]
-    return found, None
+    bad = unread(log, texts)
+    if bad:
+        return None, f"it cannot be read: {bad[:300]}"
+    if not re.search(r"^logic=", log, re.M):
+        return None, "the check came to no verdict: " + next((x for x in reversed(log.splitlines()) if x), "it wrote nothing")[:300]
+    return found, None if found else "the crate is still proved, or only files that no longer fit are refused"
 
 
-def tried(lane, crate, edit):
-    """Each wrong program of an edit with the fact that refuses it, or with None."""
-    logs = lane.root / "target/must-fail" / crate / edit.stem
+def tried(lane, crate, edit, logs):
+    """Each wrong program of an edit with the fact that refuses it, or with None and why."""
     shutil.rmtree(logs, ignore_errors=True)
     logs.mkdir(parents=True)
     every = wrongs(edit)
-    told, rest, alone = {}, list(every), []
+    told, rest, alone, faults = {}, list(every), [], {}
     while rest:
         found, why = attempt(lane, crate, rest, logs)
         good = shown(found, rest) if found is not None else []
         told.update({w: refusal(found, w) for w in good})
         if not good:
-            alone = rest if len(rest) > 1 else []
+            alone, faults = (rest, {}) if len(rest) > 1 else ([], {rest[0]: why})
             break
         rest = [w for w in rest if w not in good]
     for wrong in alone:
-        found, why = attempt(lane, crate, [wrong], logs)
+        found, faults[wrong] = attempt(lane, crate, [wrong], logs)
         if found is not None and shown(found, [wrong]):
             told[wrong] = refusal(found, wrong)
-    return [(w.name, told.get(w)) for w in every]
+    return [(w.name, told.get(w), faults.get(w)) for w in every]
 
 
-def sum_of(root, crate, below, edit):
-    """A sum of all that the verdict on an edit rests on."""
-    told = hashlib.sha256(Path(__file__).read_bytes())
+def sum_of(top, crate, below, edit):
+    """A sum of all that the verdict on an edit rests on; of a crate below, whose functions are told by their contracts, without what proves these."""
+    told = hashlib.sha256(VERSION)
     told.update(subprocess.run(["rt", "version"], capture_output=True).stdout + edit.read_bytes())
     for name in (crate, *sorted(below)):
-        for path in sorted(p for part in ("src", "specs", "proofs") for p in (root / "crates" / name / part).rglob("*") if p.is_file()):
-            told.update(f"\n{path.relative_to(root)}\n".encode() + path.read_bytes())
+        for path in sorted(p for part in ("src", "specs", "proofs") for p in (top / "crates" / name / part).rglob("*") if p.is_file()):
+            if name == crate or path.name not in ("Invariants.antt", "Answers.antt", "Proof.antt"):
+                told.update(f"\n{path.relative_to(top)}\n".encode() + path.read_bytes())
     return told.hexdigest()
 
 
@@ -273,44 +291,51 @@ def below(root):
 
 
 def judge(root, crates, jobs):
-    """For each edit what was found of it, kept or now."""
+    """For each edit what was found of it, kept or now; and how many were tried now."""
     kept = Path(os.environ.get("CUDDREWYN_KEPT") or Path.home() / ".cache/cuddrewyn") / "refused"
-    kept.mkdir(parents=True, exist_ok=True)
-    uses, results, waiting = below(root), {}, {}
-    for edit in sorted(root.glob("crates/*/must-fail/*.edit")):
-        crate = edit.parts[-3]
+    try:
+        kept.mkdir(parents=True, exist_ok=True)
+    except OSError as error:
+        print(f"refused: nothing is kept: {error}", file=sys.stderr)
+    # what is tried is the repository as it stands now, whatever changes meanwhile
+    first = Lane(root)
+    uses, results, waiting = below(first.top), {}, {}
+    for edit in sorted(first.top.glob("crates/*/must-fail/*.edit")):
+        crate, here = edit.parts[-3], root / edit.relative_to(first.top)
         if crates and crate not in crates:
             continue
-        place = kept / sum_of(root, crate, uses.get(crate, ()), edit)
+        place = kept / sum_of(first.top, crate, uses.get(crate, ()), edit)
         if place.is_file():
-            results[edit] = [tuple(x) for x in json.loads(place.read_text(encoding="utf-8"))]
+            results[here] = [tuple(x) for x in json.loads(place.read_text(encoding="utf-8"))]
         else:
-            waiting.setdefault(crate, []).append((edit, place))
+            waiting.setdefault(crate, []).append((here, edit, place))
+    lanes = [first, *(Lane(first.top) for _ in range(min(jobs, len(waiting)) - 1))]
     order = queue.Queue()
     for crate in sorted(waiting, key=lambda c: -len(waiting[c])):
         order.put(crate)
 
-    def work():
-        lane = Lane(root)
+    def work(lane):
         try:
             while True:
                 crate = order.get_nowait()
-                for edit, place in waiting[crate]:
-                    results[edit] = tried(lane, crate, edit)
-                    print(f"refused: {crate}/{edit.name}: {sum(x is not None for _, x in results[edit])} of {len(results[edit])}", file=sys.stderr, flush=True)
-                    if all(where is not None for _, where in results[edit]):
-                        place.write_text(json.dumps(results[edit], ensure_ascii=False), encoding="utf-8")
+                for here, edit, place in waiting[crate]:
+                    results[here] = tried(lane, crate, lane.top / edit.relative_to(first.top), root / "target/must-fail" / crate / edit.stem)
+                    print(f"refused: {crate}/{edit.name}: {sum(x[1] is not None for x in results[here])} of {len(results[here])}", file=sys.stderr, flush=True)
+                    if kept.is_dir() and all(x[1] is not None for x in results[here]):
+                        place.write_text(json.dumps(results[here], ensure_ascii=False), encoding="utf-8")
                 lane.forget(crate)
         except queue.Empty:
             pass
-        finally:
-            lane.close()
 
-    lanes = [threading.Thread(target=work) for _ in range(min(jobs, len(waiting)))]
-    for lane in lanes:
-        lane.start()
-    for lane in lanes:
-        lane.join()
+    try:
+        workers = [threading.Thread(target=work, args=(lane,)) for lane in lanes]
+        for worker in workers:
+            worker.start()
+        for worker in workers:
+            worker.join()
+    finally:
+        for lane in lanes:
+            lane.close()
     return results, sum(map(len, waiting.values()))
 
 
@@ -322,11 +347,11 @@ def main(root, crates, jobs):
         if unnamed(edit):
             bad += 1
             print(f"{where}: a change without a name of its own before it")
-        for (function, at, what), (name, refused) in zip(named(edit), found):
+        for (function, at, what), (_, refused, why) in zip(named(edit), found):
             wrong += 1
             if refused is None:
                 bad += 1
-                print(f"{where}: {function} is not refused at a fact of its own: {what}")
+                print(f"{where}: {function} is not refused at a fact of its own: {what}{f' ({why})' if why else ''}")
     lost = [e for e in root.glob("crates/*/must-fail/*.edit") if e not in results and (not crates or e.parts[-3] in crates)]
     for edit in lost:
         bad += 1

@@ -62,7 +62,7 @@ def oneof_rows(kind, path, text):
 
 def command_faults(table, text):
     """The rows of a command's table that are not the Rust's, and messages whose type has another number than their field."""
-    body = re.search(r"^baseCommand =\n((?: .*\n)+)", table, re.M)[1]
+    body = re.search(r"^base_command =\n((?: .*\n)+)", table, re.M)[1]
     rust = struct_rows("BaseCommand", text.replace("r#type", "type"))
     types = re.search(r"^pub mod base_command \{.*?pub enum Type \{\n(.*?)^    \}", text, re.M | re.S)[1]
     for number, label, of, name in re.findall(ROW, body):

@@ -87,7 +87,7 @@ def wrong_marks():
 
 def reading_list():
     """The public files, crate by crate in the order of crates.txt."""
-    crates = [line.split(":")[0] for line in (ROOT / "crates.txt").read_text(encoding="utf-8").splitlines() if re.match(r"\w+:", line)]
+    crates = re.findall(r"^(\w+)[^:#\n]*:", (ROOT / "crates.txt").read_text(encoding="utf-8"), re.M)
     files = {}
     for path in sorted(public()):
         files.setdefault(path.parts[-3], []).append(f"{path.stem} {lines(path)}")
