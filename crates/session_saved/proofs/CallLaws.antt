@@ -5,7 +5,7 @@
 -- Assumes nothing.
 use Prim.Native.Nat.{ℕ, ◌+◌, ◌-◌, ◌≤◌, ◌<◌}
 use native.Mathlib.Omega.{arith}
-use mathlib.Core.Path.{◌≡◌, refl, sym, ap, ap₂, ◌∙◌}
+use mathlib.Core.Path.{◌≡◌, sym, ap, ap₂, ◌∙◌}
 use mathlib.Core.Bool.{Bool, true, false, not}
 use mathlib.Core.List.{List}
 use lib.ListN.{length, take, drop}
@@ -25,7 +25,7 @@ use Rattle.session.specs.declared.Answer.TheVariants.{Refused, Accepted}
 use Rattle.session.specs.Session.{view, damaged}
 use Rattle.session.specs.Calls.{OpenOutcome}
 use Rattle.session_store.specs.Places.{QueueEnds}
-use Rattle.session_saved.specs.Form.{mark, used_part, encode_saved, record_in, saved_record, saved_store, sum_holds, is_saved}
+use Rattle.session_saved.specs.Form.{mark, encode_saved, saved_record, saved_store, sum_holds, is_saved}
 use Rattle.session_saved.specs.Saved.{save_outcome, no_session, restore_part, restore_outcome}
 use Rattle.session_saved.proofs.FormLaws.{length-used, length-saved}
 

@@ -3,19 +3,19 @@
 -- In order: lists with the same front (`front-shorter`, `front-behind`); entries (`entries-alike`); how long a queue is (`end-most`); the
 -- session on a store (`same-session`, `undamaged`).
 -- Assumes nothing.
-use Prim.Native.Nat.{ℕ, zero, suc, ◌+◌, ◌-◌, ◌*◌, ◌≤◌}
+use Prim.Native.Nat.{ℕ, zero, suc, ◌+◌, ◌*◌, ◌≤◌}
 use native.Mathlib.Omega.{arith}
 use mathlib.Core.Path.{◌≡◌, refl, sym, ap, ap₂, ◌∙◌}
 use mathlib.Core.Bool.{Bool, true, false, not, ◌&&◌, ◌||◌}
-use mathlib.Core.List.{List, [], ◌∷◌}
+use mathlib.Core.List.{List, ◌∷◌}
 use lib.ListN.{length, take, drop, length-take, length-drop}
 use lib.Seq.{take-take, length-take-le}
-use lib.Dec.{leb, ltb}
+use lib.Dec.{ltb}
 use borrow.Author.Tests.{le-leb}
 use Rattle.slice.specs.BoolLaws.{both_true}
 use Rattle.slice.proofs.PartLaws.{drop-take}
 use Rattle.slice_int.specs.Be.{be}
-use Rattle.packed.specs.Assignment.{ConsumerAssignment, num, decode_assignment, is_assignment, starts_assignment}
+use Rattle.packed.specs.Assignment.{ConsumerAssignment, num, decode_assignment, starts_assignment}
 use Rattle.packed_queue.specs.Entries.{sheet_in, entry_end, decode_entries, entries_end, starts_entry, start_entries}
 use Rattle.packed_queue.proofs.WalkLaws.{ends-inside, ends-by-size, entry-inside, entry_whole}
 use Rattle.session.specs.declared.SessionRecord.{SessionRecord}

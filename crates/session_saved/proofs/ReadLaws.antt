@@ -6,12 +6,12 @@
 use Prim.Native.Nat.{ℕ, zero, suc, ◌+◌, ◌-◌, ◌*◌, ◌^◌, ◌≤◌, ◌<◌}
 use native.Mathlib.Decide.{dec_le}
 use native.Mathlib.Omega.{arith}
-use mathlib.Core.Path.{◌≡◌, refl, sym, ap, ap₂, ◌∙◌, subst}
+use mathlib.Core.Path.{◌≡◌, refl, sym, ap, ap₂, ◌∙◌}
 use mathlib.Core.Bool.{Bool, true, false, not}
 use mathlib.Core.List.{List, [], ◌∷◌, ◌++◌, append_assoc, append-nil}
 use lib.ListN.{length, take, drop, get_or}
 use lib.Seq.{take-suc, take_all, take_at, drop_at, drop-drop, get_or-drop}
-use lib.Dec.{eqb, lit<}
+use lib.Dec.{lit<}
 use borrow.Author.Tests.{eq-eqb}
 use Rattle.slice.specs.Bytes.{Bytes}
 use Rattle.slice.proofs.PartLaws.{Bytes-take, Bytes-nil, Bytes-cons, Bytes-append}
@@ -21,12 +21,11 @@ use Rattle.crc32.specs.Crc.{crc32}
 use Rattle.crc32.proofs.DiffersLaws.{crc-word}
 use Rattle.session.specs.declared.SessionRecord.{SessionRecord}
 use Rattle.session.specs.Store.{queue_in, queue_end}
-use Rattle.session.specs.Session.{view, damaged, position_of}
+use Rattle.session.specs.Session.{view, damaged}
 use Rattle.session_record.specs.Floors.{floor_value}
 use Rattle.export_record.specs.declared.Record.{Record}
 use Rattle.export_record.specs.Replies.{flag, floor_is_set, record_of, export_record}
 use Rattle.export_record.proofs.RecordLaws.{record-returns}
-use Rattle.session_store.specs.Places.{QueueEnds}
 use Rattle.session_store.proofs.StoreLaws.{count_most, position_in}
 use Rattle.session_saved.specs.Form.{mark, encode_positions, encode_record, used_part, encode_body, encode_saved, positions_in, record_in}
 use Rattle.session_saved.specs.Form.{saved_record, saved_store, is_saved}

@@ -3,27 +3,25 @@
 use Prim.Native.Nat.{ℕ, ◌+◌, ◌-◌, ◌≤◌}
 use native.Mathlib.Omega.{arith}
 use mathlib.Core.Path.{◌≡◌, refl, sym, ap, ap₂, ◌∙◌, subst}
-use mathlib.Core.Bool.{Bool, true, false, cond, not}
+use mathlib.Core.Bool.{Bool, true, false}
 use mathlib.Core.List.{List}
 use lib.ListN.{length, take, drop}
-use lib.Seq.{take-take, take_all}
+use lib.Seq.{take_all}
 use lib.Dec.{ltb, leb}
-use borrow.Author.Tests.{le-ltb, ltb-false, leb-true}
+use borrow.Author.Tests.{le-ltb, ltb-false}
 use Rattle.slice.specs.Bytes.{Bytes}
 use Rattle.slice_int.specs.Put.{put}
 use Rattle.slice_int.proofs.PutLaws.{length-put, take_put, drop-put}
 use Rattle.packed.specs.Assignment.{ConsumerAssignment}
-use Rattle.output.specs.Output as output
 use Rattle.output.specs.Output.{written}
-use Rattle.output.specs.declared.WriteAnswer.TheVariants.{Written, Refused}
+use Rattle.output.specs.declared.WriteAnswer.TheVariants.{Written}
 use Rattle.session.specs.declared.SessionRecord.{SessionRecord}
 use Rattle.session.specs.declared.Answer.TheVariants.{Accepted}
 use Rattle.session.specs.Session.{Session, view, damaged}
-use Rattle.session.specs.Calls.{OpenOutcome}
 use Rattle.session_store.specs.Places.{QueueEnds}
-use Rattle.session_saved.specs.Form.{used_part, encode_saved, saved_record, saved_store, is_saved}
+use Rattle.session_saved.specs.Form.{used_part, encode_saved}
 use Rattle.session_saved.specs.Saved.{save_outcome, restore_part, restore_outcome}
-use Rattle.session_saved.specs.Restores.{Fits, SameSession, Restored, SaveRestores}
+use Rattle.session_saved.specs.Restores.{Fits, Restored, SaveRestores}
 use Rattle.session_saved.proofs.FormLaws.{length-used, length-saved}
 use Rattle.session_saved.proofs.FrontLaws.{ends, same-session, undamaged}
 use Rattle.session_saved.proofs.ReadLaws.{record-read, store-read, form-read}
