@@ -1,0 +1,7 @@
+-- `session_response::registered_with` meets its contract.
+-- Assumes nothing.
+use borrow.Author.Rules.{rules}
+use Rattle.session_response.proofs.registered_with.Goals as goal
+
+pub returns : goal.returns
+returns c = rw c.raised-epoch_floor.ensures
