@@ -1,0 +1,11 @@
+-- `attach_log::part_in` meets its contract. The invariant: the ids that are left decide (`Left`). The measure is how many are
+-- left. Assumes nothing.
+use Prim.Native.Nat.{◌≤◌}
+use Rattle.attach_log.proofs.PartLaws.{Left}
+use Rattle.attach_log.proofs.part_in.Given as goal
+
+abbrev pub invariant-loop-left : goal.invariant-loop-left
+invariant-loop-left l = (l.left ≤ l.n) × Left l.attach l.s l.at l.n l.log l.q l.n l.p l.left
+
+abbrev pub decreases-loop-left : goal.decreases-loop-left
+decreases-loop-left l = l.left
