@@ -3,7 +3,7 @@
 -- "a lent set at the front of its buffer, its byte length given and answered ... A snapshot replaces; a diff removes, then adds." Refused in order: 30, 3, 4, 7, 6, 29, 16, 17,
 -- 31, 21; a refusal changes nothing.
 -- Assumes nothing.
-use Rattle.std.specs.Prelude.{ℕ, ◌+◌, ◌^◌, not, ◌&&◌, List, [], ◌∷◌, ◌++◌, length, take, leb, ltb, eqb}
+use Rattle.std.specs.Prelude.{ℕ, ◌^◌, not, ◌&&◌, List, ◌∷◌, ◌++◌, length, take, leb, ltb, eqb}
 use Rattle.refusal.specs.declared.Refusal.{Refusal}
 use Rattle.refusal.specs.declared.Refusal.TheVariants.{MalformedSet, WatchMismatch, Broker, EmptyUpdate, SetTooLong, ResultTooLong}
 use Rattle.refusal.specs.Steps.{◌>>◌, ◌>>=◌, refuse_if, refuse_unless}
