@@ -10,7 +10,7 @@ use mathlib.Core.Path.{◌≡◌, refl, sym, ap, ap₂, ◌∙◌, subst}
 use mathlib.Core.Bool.{Bool, true, false, cond, not}
 use mathlib.Core.List.{List, [], ◌∷◌, ◌++◌, append-nil, append_assoc}
 use lib.ListN.{length, take, drop, length-drop, length-append, drop_of_length-le, take-append-drop}
-use lib.Seq.{take-take, take_all, drop-drop, length-take-le}
+use lib.Seq.{take-take, drop-drop, length-take-le}
 use lib.Dec.{ltb, leb}
 use borrow.Author.Tests.{le-ltb, lt-ltb, leb-true}
 use Rattle.slice.specs.BoolLaws.{both_true}

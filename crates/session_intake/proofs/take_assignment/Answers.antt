@@ -1,6 +1,5 @@
 -- `session_intake::take_assignment` meets its contract: the intake below the topic of the store's first slot.
 -- Assumes nothing.
-use borrow.Author.Rules.{rules}
 use Rattle.session_intake.proofs.IntakeLaws.{intake-answers}
 use Rattle.session_intake.proofs.take_assignment.Goals as goal
 

@@ -2,9 +2,6 @@
 -- assignment that is taken.
 -- Assumes nothing.
 use native.Mathlib.Omega.{arith}
-use mathlib.Core.Path.{subst}
-use borrow.Author.Rules.{rules}
-use Rattle.wire_ordered.specs.Ordered.{NumberIs, NumberAtIs, PartField, PartIs}
 use Rattle.session_intake.proofs.IntakeLaws.{field-small, topic-text, ordered-taken}
 use Rattle.session_intake.proofs.take_ordered_message.Goals as goal
 

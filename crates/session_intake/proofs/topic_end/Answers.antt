@@ -1,6 +1,5 @@
 -- `session_intake::topic_end` meets its contract: the topic's length stands at the front of the store.
 -- Assumes nothing.
-use borrow.Author.Rules.{rules}
 use Rattle.session_intake.proofs.IntakeLaws.{topic-end}
 use Rattle.session_intake.proofs.topic_end.Goals as goal
 

@@ -4,7 +4,6 @@ use mathlib.Core.Path.{ap, ◌∙◌, subst}
 use Rattle.intake.specs.declared.Intake.{Intake}
 use Rattle.session_intake.specs.Taken.{content_from, Ready}
 use Rattle.session_response.proofs.CallLaws.{refused-out, given_out, content-refused, content-taken, valid-mismatch, valid-says}
-use borrow.Author.Rules.{rules}
 use Rattle.session_response.proofs.answered.Goals as goal
 
 pub returns-then-incarnation-expected : goal.returns-then-incarnation-expected

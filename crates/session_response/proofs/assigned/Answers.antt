@@ -5,7 +5,6 @@ use Rattle.packed.specs.Assignment.{decode_assignment}
 use Rattle.session_response.proofs.ReplayLaws.{buffer-epoch, replayed-reads, last_begins}
 use Rattle.session_response.proofs.CallLaws.{refused-out, given_out, Decided}
 use Rattle.session_response.proofs.CallLaws.{assignment-below, queue-decides, assignment-stale, assignment-on}
-use borrow.Author.Rules.{rules}
 use Rattle.session_response.proofs.assigned.Goals as goal
 
 pub returns-then-below_floor : goal.returns-then-below_floor

@@ -1,8 +1,6 @@
 -- `session_response::first_stale` meets its contract: the entries that are left decide, from the epoch before them on.
 -- Assumes nothing.
-use native.Mathlib.Omega.{arith}
-use borrow.Author.Rules.{rules}
-use Rattle.session_response.proofs.ReplayLaws.{Epochs, epochs-start, length-room, epoch-room, next-room, stale-end, stale-here, stale-next}
+use Rattle.session_response.proofs.ReplayLaws.{Epochs}
 use Rattle.session_response.proofs.first_stale.Given as goal
 
 abbrev pub invariant-loop-left : goal.invariant-loop-left

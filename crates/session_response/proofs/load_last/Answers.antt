@@ -1,9 +1,8 @@
 -- `session_response::load_last` meets its contract: the queue's last list.
 -- Assumes nothing.
-use Prim.Native.Nat.{◌+◌, ◌-◌, ◌≤◌, ◌<◌}
+use Prim.Native.Nat.{◌+◌, ◌-◌}
 use native.Mathlib.Omega.{arith}
-use lib.ListN.{length, drop, length-take}
-use borrow.Author.Rules.{rules}
+use lib.ListN.{drop, length-take}
 use Rattle.session_store.specs.Places.{Lies, entry_in}
 use Rattle.session_store.proofs.StoreLaws.{entry-room, entry-lies, entry-size}
 use Rattle.session_response.proofs.ReplayLaws.{last_some}

@@ -4,7 +4,6 @@ use native.Mathlib.Omega.{arith}
 use mathlib.Core.Path.{refl, sym, ◌∙◌}
 use Rattle.session_response.proofs.ReplayLaws.{buffer-epoch, replayed-reads}
 use Rattle.session_response.proofs.CallLaws.{registered-out}
-use borrow.Author.Rules.{rules}
 use Rattle.session_response.proofs.register.Goals as goal
 
 pub register_alone-requires : goal.register_alone-requires

@@ -3,7 +3,6 @@
 use native.Mathlib.Omega.{arith}
 use Rattle.session_response.proofs.ReplayLaws.{buffer-epoch, last_none}
 use Rattle.session_response.proofs.CallLaws.{registered-out}
-use borrow.Author.Rules.{rules}
 use Rattle.session_response.proofs.register_alone.Goals as goal
 
 pub returns : goal.returns

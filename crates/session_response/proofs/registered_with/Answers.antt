@@ -1,6 +1,5 @@
 -- `session_response::registered_with` meets its contract.
 -- Assumes nothing.
-use borrow.Author.Rules.{rules}
 use Rattle.session_response.proofs.registered_with.Goals as goal
 
 pub returns : goal.returns

@@ -1,13 +1,11 @@
 -- `session_response::responded` meets its contract: a test after the other.
 -- Assumes nothing.
-use mathlib.Core.Path.{◌≡◌, refl, ap, ◌∙◌, subst}
+use mathlib.Core.Path.{◌≡◌, refl, ap, ◌∙◌}
 use mathlib.Core.Bool.{false, not}
 use mathlib.Core.Logic.{inr}
 use Rattle.wire_readers.specs.Messages.{response_of}
 use Rattle.session.specs.Session.{view, damaged}
 use Rattle.session_store.proofs.StoreLaws.{identity-valid}
-use Rattle.session_intake.specs.declared.OrderedMessage.{OrderedMessage}
-use Rattle.session_intake.specs.Taken.{OrderedMessageTaken, OrderedMessageIs}
 use Rattle.session_response.proofs.CallLaws.{refused-out, given_out, call-out}
 use Rattle.session_response.proofs.CallLaws.{ordered-says, message-valid, call-short, call-damaged, undamaged, call-sound}
 use borrow.Author.Rules.{rules}

@@ -5,7 +5,6 @@ use mathlib.Core.Bool.{not}
 use Rattle.wire_readers.specs.Messages.{response_of}
 use Rattle.session_store.proofs.StoreLaws.{identity-valid}
 use Rattle.session_response.proofs.CallLaws.{refused-out, given_out, message-bad, message-valid, valid-mismatch}
-use borrow.Author.Rules.{rules}
 use Rattle.session_response.proofs.scanned.Goals as goal
 
 pub take_response-intake-requires : goal.take_response-intake-requires

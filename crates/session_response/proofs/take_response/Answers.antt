@@ -3,7 +3,6 @@
 use mathlib.Core.Path.{refl}
 use mathlib.Core.Logic.{inr}
 use Rattle.session_response.proofs.CallLaws.{response-epoch, assignment-answers, denial-answers}
-use borrow.Author.Rules.{rules}
 use Rattle.session_response.proofs.take_response.Goals as goal
 
 pub take_assignment-requires : goal.take_assignment-requires

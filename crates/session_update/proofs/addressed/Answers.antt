@@ -1,14 +1,12 @@
 -- `session_update::addressed` meets its contract: 23 and 24, then what stands in the buffer.
 -- Assumes nothing.
-use mathlib.Core.Path.{refl, sym, ap, ◌∙◌}
-use Rattle.topic_types.specs.declared.ControllerIncarnation.{ControllerIncarnation}
+use mathlib.Core.Path.{sym, ap, ◌∙◌}
 use Rattle.intake_content.specs.Content.{Content}
 use Rattle.session.specs.Session.{view}
 use Rattle.session.specs.Tails.{update_content}
 use Rattle.session.specs.Calls.{effect_of}
 use Rattle.session_update.specs.Address.{address_of}
 use Rattle.session_update.proofs.UpdateLaws.{told, turned-away, let-in}
-use borrow.Author.Rules.{rules}
 use Rattle.session_update.proofs.addressed.Goals as goal
 
 pub received-requires : goal.received-requires

@@ -2,12 +2,10 @@
 -- Assumes nothing.
 use Prim.Native.Nat.{◌+◌, ◌≤◌}
 use native.Mathlib.Omega.{arith}
-use mathlib.Core.Path.{◌≡◌}
 use lib.ListN.{length}
 use Rattle.packed.specs.Assignment.{decode_assignment}
 use Rattle.session_store.proofs.StoreLaws.{scratch-fits}
 use Rattle.session_update.proofs.UpdateLaws.{told, buffer-epoch, epoch-low, queue-full, no_room, queue-joined}
-use borrow.Author.Rules.{rules}
 use Rattle.session_update.proofs.enqueued.Goals as goal
 
 pub returns-then-below_floor : goal.returns-then-below_floor

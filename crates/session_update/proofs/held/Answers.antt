@@ -1,12 +1,9 @@
 -- `session_update::held` meets its contract: no change, 27, or the assignment is held.
 -- Assumes nothing.
 use native.Mathlib.Omega.{arith}
-use mathlib.Core.Path.{◌≡◌}
 use Rattle.packed.specs.Assignment.{decode_assignment}
-use Rattle.session.specs.Store.{list_in}
 use Rattle.session_update.proofs.UpdateLaws.{buffer-epoch, list-epoch, list-there, list-starts}
 use Rattle.session_update.proofs.UpdateLaws.{told, list_same, epoch-stale, list_held}
-use borrow.Author.Rules.{rules}
 use Rattle.session_update.proofs.held.Goals as goal
 
 pub same_assignment-requires : goal.same_assignment-requires

@@ -5,7 +5,6 @@ use Rattle.intake.specs.declared.Intake.{Intake}
 use Rattle.session_store.specs.Scratch.{Scratch}
 use Rattle.session_intake.specs.Taken.{content_from, Ready}
 use Rattle.session_update.proofs.UpdateLaws.{count-valid, list-valid, told, content-refuses, content-holds, content-joins}
-use borrow.Author.Rules.{rules}
 use Rattle.session_update.proofs.received.Goals as goal
 
 pub held-requires : goal.held-requires

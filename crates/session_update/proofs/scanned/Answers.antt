@@ -10,7 +10,6 @@ use Rattle.session.specs.Calls.{effect_of}
 use Rattle.session_update.specs.Address.{address_of}
 use Rattle.session_update.proofs.UpdateLaws.{told, identity-valid, update-epoch, update-content, message-bad, message-valid}
 use Rattle.session_update.proofs.UpdateLaws.{turned-away, let-in}
-use borrow.Author.Rules.{rules}
 use Rattle.session_update.proofs.scanned.Goals as goal
 
 pub take_assignment-intake-requires : goal.take_assignment-intake-requires

@@ -4,10 +4,7 @@ use mathlib.Core.Path.{refl, subst}
 use mathlib.Core.Logic.{inl}
 use Rattle.wire_readers.specs.Messages.{update_of}
 use Rattle.session_store.specs.declared.Tested.{Tested}
-use Rattle.session_store.specs.declared.Tested.TheVariants.{Sound}
 use Rattle.session_store.specs.Tests.{StoreTested}
-use Rattle.session_intake.specs.declared.OrderedMessage.{OrderedMessage}
-use Rattle.session_intake.specs.Taken.{OrderedMessageTaken, OrderedMessageIs}
 use Rattle.session_update.proofs.UpdateLaws.{told, store-short, output-short, store-bad, call-sound}
 use Rattle.session_update.proofs.UpdateLaws.{identity-valid, update-content, ordered-consumer, message-valid}
 use borrow.Author.Rules.{rules}
