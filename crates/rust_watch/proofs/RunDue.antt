@@ -140,15 +140,15 @@ module _ (buffer out : List ℕ) where
 
   moves-event : (old : List Text) (w : WireWatchUpdate) (e : WireEvent) → Moves (by_event buffer out old w e)
   unfolding by_event
-  moves-event old w none = (refl, refl)
-  moves-event old w (snapshot p) = moves-settle (snapshot_by p)
-  moves-event old w (diff p) = moves-settle (diff_by old p)
+  moves-event o w none = (refl, refl)
+  moves-event o w (snapshot p) = moves-settle (snapshot_by p)
+  moves-event o w (diff p) = moves-settle (diff_by o p)
 
   moves-checked : (id : ℕ) (old : List Text) (m : List ℕ) (k : Checked) → Moves (when_checked buffer out id old m k)
   unfolding for_watch
-  moves-checked id old m (checked.Refused x) = (refl, refl)
-  moves-checked id old m checked.Valid =
-      let w = watch_update_of m in choose Moves (not (eqb w.watch_id id)) (λ t. (refl, refl)) (λ t. moves-event old w w.event)
+  moves-checked id o m (checked.Refused x) = (refl, refl)
+  moves-checked id o m checked.Valid =
+      let w = watch_update_of m in choose Moves (not (eqb w.watch_id id)) (λ t. (refl, refl)) (λ t. moves-event o w w.event)
 
   moves : (id used : ℕ) (m : List ℕ) → Moves (handle_update buffer out id used m)
   unfolding handle_update for_watch by_event settle

@@ -16,7 +16,6 @@ use Rattle.watch_topics.specs.Topics.{order, by_order, has, insert, insert_all}
 use Rattle.watch_topics.proofs.OrderLaws.{same-order}
 use Rattle.rust_magnetar.specs.Text.{Text}
 use Rattle.rust_magnetar.specs.Order.{Ordering, Less, Equal, Greater, by_ordering, is_eq, then, str-cmp}
-use Rattle.rust_magnetar.specs.Collections.{filter}
 use Rattle.rust_magnetar.specs.BTree.{BTreeSet-contains, BTreeSet-insert, BTreeSet-remove, BTreeSet-extend}
 
 -- ---- compared
