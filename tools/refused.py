@@ -160,6 +160,10 @@ def shown(found, some):
     alone = len(some) == 1
 
     def is_shown(wrong):
+        if alone and wrong.at and wrong.at[0].count("/") > 1:
+            # in the proof of the function that is named, whichever goal it is
+            own = wrong.at[0].rsplit("/", 1)[0] + "/"
+            return any(path.startswith(own) for path, *_ in found)
         if wrong.at and not (alone and wrong.in_function()):
             return fails_at(found, wrong.at)
         if alone and not wrong.in_function():

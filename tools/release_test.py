@@ -168,7 +168,7 @@ def check_refusals(place):
         demand(tree.faults(root, abi), f"a tree without {name} is taken")
         (root / "kept").rename(root / name)
     log = (ROOT / tree.LOG).read_text(encoding="utf-8", errors="replace")
-    for word in ("axioms=1", "foreign=1", "cache=1"):
+    for word in ("axioms=1", "foreign=1", "cache=1", "hides=1", "bugs=1"):
         tree.write(root / tree.LOG, log.replace("logic=proved", f"logic=proved {word}"))
         demand(tree.faults(root, abi), f"a verdict with {word} is taken")
     tree.write(root / tree.LOG, log)

@@ -53,9 +53,10 @@ def sample(top, known, spent):
         del known[ended]
     now = time.time()
     for pid in found:
-        if pid not in known:
+        # (a process that has just been started may not be the checker yet)
+        if not known.get(pid) and top in above(pid):
             try:
-                known[pid] = label(pid) if top in above(pid) else None
+                known[pid] = label(pid)
             except OSError:
                 known[pid] = None
     for pid, name in known.items():
