@@ -1,4 +1,1 @@
-mod Lend
-pub mod Lent
-pub mod Types
 mod LentLaws

@@ -1,0 +1,9 @@
+-- `responded` meets its contract: what the call under it gives, in numbers.
+-- Assumes nothing.
+use Rattle.export_session.proofs.LentLaws.{lent-call}
+use borrow.Author.Rules.{rules}
+use Rattle.export_session.proofs.responded.Goals as goal
+
+pub returns : goal.returns
+returns c =
+    λ out. lent-call c.args.r c.session_reply.ensures (rw c.record_of.ensures at (c.responded-responded.ensures out))

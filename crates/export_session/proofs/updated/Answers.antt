@@ -1,0 +1,9 @@
+-- `updated` meets its contract: what the call under it gives, in numbers.
+-- Assumes nothing.
+use Rattle.export_session.proofs.LentLaws.{lent-call}
+use borrow.Author.Rules.{rules}
+use Rattle.export_session.proofs.updated.Goals as goal
+
+pub returns : goal.returns
+returns c =
+    lent-call c.args.r c.session_reply.ensures (rw c.record_of.ensures at c.updated-updated.ensures)
