@@ -47,7 +47,7 @@ WORDS = [
     (checks.ORDERED, checks.ORDERED + r"(\d+)"),
     (CALL_TEXT, r'(?<=[ "])([A-Z][A-Za-z\d]+|-)(?=[^"]*",\s*number)'),
     (CALL_TEXT, r'(?<=[ ,])([a-z_]+)(?=[^"]*",\s*number)'),
-    (CALL_TEXT, r'refused_as\(r, b"(\w+)"'),
+    (CALL_TEXT, r'refused_as\(to, r, b"(\w+)"'),
     (CALL_TEXT, r'b"(\w+)[\w,]*"\)'),
     (CALL_TEXT, r'b"[\w,]*?(\w+)"\)'),
     (CALL_TEXT, r"if number == (\d+) &&"),

@@ -102,8 +102,8 @@ def check_call_text(table, sources):
             arms.append(refusal.name)
             told += [(refusal.name, ",".join(names)) for names in dict.fromkeys((refusal.short_names, refusal.value_names))]
     faults = differences(CALL_TEXT, re.findall(r"Refusal::(\w+) \{[^}]*\} =>", text), arms)
-    faults += differences(CALL_TEXT, re.findall(r'refused_as\(r, b"(\w+)", b"([\w,]+)"\)', text), told)
-    return faults + differences(CALL_TEXT, re.findall(r'if number == (\d+) && r\.(\w+) == 2 \{\s*named_values\(r, b"([\w,]+)"\)', text), short)
+    faults += differences(CALL_TEXT, re.findall(r'refused_as\(to, r, b"(\w+)", b"([\w,]+)"\)', text), told)
+    return faults + differences(CALL_TEXT, re.findall(r'if number == (\d+) && r\.(\w+) == 2 \{\s*return named_values\(to, r, b"([\w,]+)"\)', text), short)
 
 
 def fields_of(variant):

@@ -12,8 +12,8 @@ ERROR, WATCH = "bindings/rust/src/error.rs", "bindings/rust/src/watch.rs"
 OWNED = "bindings/rust/src/owned/error.rs"
 HEADER, EXPORTS, OPERATOR = "bindings/c/cuddrewyn.h", "docs/EXPORTS.md", "docs/REFUSALS.md"
 TALLY, CALL_TEXT = "compare/src/tally.rs", "crates/log_text/src/refusals.rt"
-NAMES = re.compile(r'(text\(log_lines::word\(\s*b")([^"]*)(",\s*number,)')
-VALUE_NAMES = re.compile(r'(named_values\(\s*r,\s*log_lines::word\(\s*b")([^"]*)(",\s*number,)')
+NAMES = re.compile(r'(let name = log_lines::word\(\s*b")([^"]*)(",\s*number,)')
+VALUE_NAMES = re.compile(r'(let names = log_lines::word\(\s*b")([^"]*)(",\s*number,)')
 REACH = re.compile(r"^    \((\w+), &\[([\d, ]*)\], ", re.M)
 EXPORTED = re.compile(r"^(\| (?:`cuddrewyn_\w+`(?:, )?)+ \|.* \| )([^|]*)( \|)$", re.M)
 
