@@ -1,7 +1,6 @@
 -- `check` meets its contract.
 -- Assumes nothing.
 use Rattle.export_session.proofs.LentLaws.{check-short, check_sound, check-damaged}
-use borrow.Author.Rules.{rules}
 use Rattle.export_session.proofs.check.Goals as goal
 
 pub returns-then-store-lt-MIN_STORE : goal.returns-then-store-lt-MIN_STORE

@@ -2,7 +2,6 @@
 -- Assumes nothing.
 use mathlib.Core.Path.{ap, ◌∙◌}
 use Rattle.export_record.specs.Replies.{changed_reply}
-use borrow.Author.Rules.{rules}
 use Rattle.export_session.proofs.invalidated.Goals as goal
 
 pub returns : goal.returns

@@ -1,7 +1,6 @@
 -- `updated` meets its contract: what the call under it gives, in numbers.
 -- Assumes nothing.
 use Rattle.export_session.proofs.LentLaws.{lent-call}
-use borrow.Author.Rules.{rules}
 use Rattle.export_session.proofs.updated.Goals as goal
 
 pub returns : goal.returns
