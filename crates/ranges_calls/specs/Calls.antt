@@ -8,7 +8,7 @@ use Rattle.topic_types.specs.declared.RangeResult.TheVariants.{Valid, Invalid}
 use Rattle.topic_types.specs.KeyRanges.{new_key_range}
 use Rattle.refusal.specs.Steps.{◌>>=◌, take_range}
 use Rattle.ranges_calls.specs.declared.LengthAnswer.{LengthAnswer}
-use Rattle.ranges_calls.specs.declared.LengthAnswer.TheVariants as length
+use Rattle.ranges_calls.specs.declared.LengthAnswer.TheVariants as length_answer
 use Rattle.ranges_calls.specs.declared.RangePair.{RangePair}
 use Rattle.ranges_calls.specs.declared.RangePair.TheVariants as pair
 use Rattle.ranges_calls.specs.declared.TestAnswer.{TestAnswer}
@@ -36,8 +36,8 @@ touches a b = eqb (a.end + 1) b.start || eqb (b.end + 1) a.start
 
 unfoldable pub length_of : (start end : ℕ) → LengthAnswer
 length_of start end = do
-  r ← take_range length.Refused (new_key_range start end)  -- 9
-  length.Length (values_in r)
+  r ← take_range length_answer.Refused (new_key_range start end)  -- 9
+  length_answer.Length (values_in r)
 
 unfoldable pub contains_of : (start end hash : ℕ) → TestAnswer
 contains_of start end hash = do

@@ -23,7 +23,7 @@ use Rattle.topic_types.specs.ConsumerTypes.{to_wire, from_wire}
 use Rattle.topic_types.proofs.KeyRangeLaws.{Makes, new-valid}
 use Rattle.refusal.specs.declared.Refusal.TheVariants.{InvalidKeyRange}
 use Rattle.refusal.specs.Steps.{take_range}
-use Rattle.ranges_calls.specs.declared.LengthAnswer.TheVariants as length
+use Rattle.ranges_calls.specs.declared.LengthAnswer.TheVariants as length_answer
 use Rattle.ranges_calls.specs.declared.TestAnswer.{TestAnswer}
 use Rattle.ranges_calls.specs.declared.TestAnswer.TheVariants as test
 use Rattle.ranges_calls.specs.Calls.{values_in, holds_range, touches, length_of, contains_of, contains_range_of, is_adjacent_of}
@@ -66,7 +66,7 @@ length-agrees s e =
     ap (λ (r : Result KeyRange KeyRangeError). map-err InvalidKeyRange (r >>= (λ range. Ok (KeyRange-len range)))) (new-agrees s e)
     ∙ go (new_key_range s e)
   where
-    go : (x : RangeResult) → map-err InvalidKeyRange (range_of x >>= (λ range. Ok (KeyRange-len range))) ≡ length_result (take_range length.Refused x (λ r. length.Length (values_in r)))
+    go : (x : RangeResult) → map-err InvalidKeyRange (range_of x >>= (λ range. Ok (KeyRange-len range))) ≡ length_result (take_range length_answer.Refused x (λ r. length_answer.Length (values_in r)))
     go (Valid range) = refl
     go (Invalid error) = refl
 
