@@ -8,7 +8,7 @@ use Rattle.intake_ordered_bucket.proofs.wide_bucket.Goals as goal
 pub returns : goal.returns
 returns c =
     wide-told c.range_of.result c.range_of.ensures
-    (wide-bucket (λ i. (c.shared_slice_known-1.given i).fits) (c.bucket_word-w.ensures (omega (arith, c.if-w-ne8.false))) c.if-p-at-ne42.false c.if-p-at-ne8.false c.if-w-ne8.false c.if-w-ne16.false
+    (wide-bucket (λ i. (c.type_inv.p i).fits) (c.bucket_word-w.ensures (omega (arith, c.if-w-ne8.false))) c.if-p-at-ne42.false c.if-p-at-ne8.false c.if-w-ne8.false c.if-w-ne16.false
     c.if-w-ne1.false c.if-w-ne1-2.false c.if-w-ne0.false c.if-w-ne1-3.false c.if-w-ne1-4.false c.if-w-ne0-2.false refl refl)
 
 pub bounds-p-at : goal.bounds-p-at

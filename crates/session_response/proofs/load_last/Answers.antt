@@ -45,7 +45,7 @@ put_bytes-requires c =
 pub returns : goal.returns
 returns c =
     last_some c.args.store.now c.args.b.now c.args.last.now c.put_bytes.new.out c.args.n
-    (c.args.at + 2) c.read_u16-len.result c.requires.n_nonzero.0 (λ i. (c.shared_slice_known-1.given i).fits) (lies (goal.at.returns c).After-read_u16-len)
+    (c.args.at + 2) c.read_u16-len.result c.requires.n_nonzero.0 (λ i. (c.type_inv.store i).fits) (lies (goal.at.returns c).After-read_u16-len)
     (entry-size c.args.store.now c.args.n (c.args.n - 1) c.requires.min_store_in_bounds.0 c.requires.min_store_in_bounds.1 (omega (arith, c.requires.n_nonzero.0)) c.args.at
     (c.requires.n_nonzero.1 c.requires.n_nonzero.0) c.read_u16-len.result c.read_u16-len.ensures)
     c.requires.last_len c.put_bytes.ensures
