@@ -132,7 +132,7 @@ pub extern "C" fn cuddrewyn_matches_registration(
 ) -> Reply
     ensures { result ≡ match_reply (match_of store.now
         (record {
-          topic = topic.entry.now;
+          topic = topic.now;
           subscription = subscription.now;
           consumer_name = consumer_name.now;
           consumer_type = from_wire kind;

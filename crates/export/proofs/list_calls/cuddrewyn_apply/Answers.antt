@@ -1,0 +1,7 @@
+-- `cuddrewyn_apply` meets its contract: what the call under it gives, in numbers.
+-- Assumes nothing.
+use Rattle.export.proofs.ExportLaws.{write-call}
+use Rattle.export.proofs.list_calls.cuddrewyn_apply.Goals as goal
+
+pub returns : goal.returns
+returns c = write-call c.write_reply.ensures c.apply.ensures

@@ -1,0 +1,7 @@
+-- `cuddrewyn_join` meets its contract: what the call under it gives, in numbers.
+-- Assumes nothing.
+use Rattle.export.proofs.ExportLaws.{write-call}
+use Rattle.export.proofs.list_calls.cuddrewyn_join.Goals as goal
+
+pub returns : goal.returns
+returns c = write-call c.write_reply.ensures c.join.ensures

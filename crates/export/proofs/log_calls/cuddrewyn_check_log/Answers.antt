@@ -1,0 +1,16 @@
+-- `cuddrewyn_check_log` meets its contract: what the call under it gives, in numbers.
+-- Assumes nothing.
+use mathlib.Core.Path.{sym, ap, ◌∙◌}
+use Rattle.export.specs.Exports.{log_reply}
+use Rattle.export.proofs.ExportLaws.{log-call}
+use Rattle.export.proofs.log_calls.cuddrewyn_check_log.Goals as goal
+
+pub returns-in-Answered : goal.returns-in-Answered
+unfolding log_reply
+returns-in-Answered c = let e = c in
+    log-call e.check.result e.check.ensures (c.test.ensures ∙ sym (ap log_reply c.in-Answered.is))
+
+pub returns-in-Refused : goal.returns-in-Refused
+unfolding log_reply
+returns-in-Refused c = let e = c in
+    log-call e.check.result e.check.ensures (c.refused.ensures ∙ sym (ap log_reply c.in-Refused.is))
