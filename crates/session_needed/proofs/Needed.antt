@@ -42,12 +42,10 @@ use Rattle.session.specs.Calls.{fresh_record}
 use Rattle.session.specs.Trace.{Call, update, response, drain, begin, Event, trace, End, final}
 use Rattle.session.specs.Observers.{Seen, unseen, watch, all_drained}
 use Rattle.session.specs.DemandThree.{OfBytes, AllOfBytes, held, Claim}
+use Rattle.session_needed.proofs.Lists.{link, room, pushed, answered, unread, between, in_place, by_another}
 use Rattle.session.proofs.Model.{value_trace, value_final, held_in}
 use Rattle.session.proofs.ViewLaws.{kept_fresh}
 use Rattle.session.proofs.TraceLaws.{bytes-of, Same, same}
-
-abbrev link : ℕ → ControllerIncarnation
-link n = record { 0 = n }
 
 -- no segments at that epoch
 abbrev at : ℕ → ConsumerAssignment
@@ -67,16 +65,6 @@ opens : view fresh zeros ≡ opened
 unfolding be_from be be_at text_after is_utf8 num decode_segments packed.decode_assignment decode_entries start_entries slot list_in queue_in queue_reads identity_topic
     subscription_of consumer_name_of is_identity in_use view
 opens = refl
-
-abbrev room : List ℕ
-room = replicate 3210 0
-
--- a push to consumer 7 and an answer to request 1, with no segments at an epoch below 128
-abbrev pushed : ℕ → Call
-pushed epoch = update (8 ∷ 7 ∷ 18 ∷ 2 ∷ 8 ∷ epoch ∷ []) (link 1) room
-
-abbrev answered : ℕ → Call
-answered epoch = response (8 ∷ 1 ∷ 34 ∷ 2 ∷ 8 ∷ epoch ∷ []) (link 1)
 
 push-bytes : (epoch : ℕ) → are_bytes (8 ∷ 7 ∷ 18 ∷ 2 ∷ 8 ∷ epoch ∷ []) ≡ true → OfBytes (pushed epoch)
 push-bytes epoch e = bytes-of (8 ∷ 7 ∷ 18 ∷ 2 ∷ 8 ∷ epoch ∷ []) e
@@ -120,23 +108,7 @@ module _ (calls : List Call) (bytes : AllOfBytes calls) where
   seen-is : watch 0 unseen (events_of calls) ≡ watch 0 unseen (value_trace opened calls)
   seen-is = ap (watch 0 unseen) events-are
 
--- ---- the lists of calls
-
--- a push of epoch 2, a response of epoch 1, and begin before the drain
-abbrev unread : List Call
-unread = pushed 2 ∷ answered 1 ∷ begin (link 2) ∷ []
-
--- the same push and response, and a push of epoch 3 before the drains
-abbrev between : List Call
-between = pushed 2 ∷ answered 1 ∷ pushed 3 ∷ drain 0 room ∷ drain 0 room ∷ []
-
--- the same calls with the drains in their place
-abbrev in_place : List Call
-in_place = pushed 2 ∷ answered 1 ∷ drain 0 room ∷ drain 0 room ∷ pushed 3 ∷ []
-
--- the same push and response, drained by reader 1 alone
-abbrev by_another : List Call
-by_another = pushed 2 ∷ answered 1 ∷ drain 1 room ∷ drain 1 room ∷ []
+-- ---- the lists of calls (Lists.antt)
 
 unread-bytes : AllOfBytes unread
 unread-bytes = (push-bytes 2 refl, (answer-bytes 1 refl, (tt, tt)))

@@ -1,5 +1,6 @@
 -- `attach_log::check` meets its contract: 20 before 37, and the walk's answer is yes exactly if the log passes.
 -- Assumes nothing.
+use native.Mathlib.Omega.{arith}
 use mathlib.Core.Bool.{true}
 use mathlib.Core.Path.{◌≡◌, sym, ◌∙◌}
 use Rattle.attach_entries.specs.Log.{are_deltas}
@@ -37,6 +38,6 @@ returns c = let x = c in
     let e = f in
     let a = e.args in
     checked-told a.deltas.now a.log.now (valid (goal.at.returns c).Else-not-deltas_ok)
-    (log-valid a.log.now f.if-log-ne0.false (sym f.filling_clear.ensures ∙ x.if-not-filling_clear.false))
+    (log-valid a.log.now (omega arith) (sym f.filling_clear.ensures ∙ x.if-not-filling_clear.false))
     c.log_follows.result
     c.log_follows.ensures

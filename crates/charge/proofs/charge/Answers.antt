@@ -1,6 +1,6 @@
 -- `charge::charge` meets its contract: each return is a case of `charge_of`.
 -- Assumes nothing.
-use Prim.Native.Nat.{◌*◌, ◌^◌, ◌≤◌}
+use Prim.Native.Nat.{◌*◌, ◌^◌, ◌≤◌, ◌<◌}
 use native.Mathlib.Omega.{arith}
 use mathlib.Core.Path.{◌≡◌, sym, ◌∙◌}
 use borrow.Author.Rules.{rules}
@@ -41,7 +41,7 @@ pub returns : goal.returns
 returns c = let n = c in
     let k = n in
     let a = k.args in
-    charged a.segment.now a.seconds a.rate a.remainder k.in-Values.values ((let it : (Held k.args.segment.now k.in-Values.values) = held k.args.segment.now k.in-Values.values (sym k.in-Values.is ∙ k.values_held.ensures) in it)) n.if-remainder-ge-DIVISOR.false
+    charged a.segment.now a.seconds a.rate a.remainder k.in-Values.values ((let it : (Held k.args.segment.now k.in-Values.values) = held k.args.segment.now k.in-Values.values (sym k.in-Values.is ∙ k.values_held.ensures) in it)) (let it : (a.remainder < 235929600) = omega arith in it)
     n.in-Fits.n ((let it : (let k = n in
     n.in-Fits.n ≡ k.in-Values.values * k.args.seconds * k.args.rate) = let k = n in
     product_is (k.in-Values.values * k.args.seconds * k.args.rate) n.in-Fits.n

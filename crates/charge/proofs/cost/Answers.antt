@@ -2,6 +2,7 @@
 -- large.
 -- Assumes nothing.
 use Prim.Native.Nat.{ℕ, ◌*◌}
+use native.Mathlib.Omega.{arith}
 use mathlib.Core.Path.{sym, ap, ◌∙◌}
 use borrow.Author.Rules.{rules}
 use Rattle.charge.specs.Charge.{product_of}
@@ -23,4 +24,4 @@ returns-in-TooLarge c = let m = c in
     let a = m.args in
     product-large (a.values * a.seconds * a.rate)
     (factor-large (a.values * a.seconds) a.rate (product-not (a.values * a.seconds) (sym c.in-TooLarge.is ∙ m.multiply.ensures))
-    m.if-rate-eq0.false)
+    (λ z. omega (arith, z)))

@@ -34,7 +34,7 @@ range_at-requires c = let e = c in
     omega (
       arith,
       long-enough ((let it : (List ℕ) = k.args.segment.now in it)) k.in-Record.field-0 k.in-Record.size ((let it : (RecordIs ((let it : (List ℕ) = k.args.segment.now in it)) 0 (length ((let it : (List ℕ) = k.args.segment.now in it))) k.in-Record.field-0 k.in-Record.size) = record_is ((let it : (List ℕ) = k.args.segment.now in it)) 0 (length ((let it : (List ℕ) = k.args.segment.now in it))) k.in-Record.field-0 k.in-Record.size
-          (sym k.in-Record.is ∙ k.record_at.ensures) in it)) e.if-size-end.false,
+          (sym k.in-Record.is ∙ k.record_at.ensures) in it)) (omega arith),
     )
 
 pub range_length-requires : goal.range_length-requires
@@ -42,7 +42,7 @@ range_length-requires c = let u = c in
     let k = u in
     subst (λ (r : KeyRange). r.start ≤ r.end) (sym c.range_at.ensures)
     (range-in-order ((let it : (List ℕ) = k.args.segment.now in it)) k.in-Record.field-0 k.in-Record.size ((let it : (RecordIs ((let it : (List ℕ) = k.args.segment.now in it)) 0 (length ((let it : (List ℕ) = k.args.segment.now in it))) k.in-Record.field-0 k.in-Record.size) = record_is ((let it : (List ℕ) = k.args.segment.now in it)) 0 (length ((let it : (List ℕ) = k.args.segment.now in it))) k.in-Record.field-0 k.in-Record.size
-    (sym k.in-Record.is ∙ k.record_at.ensures) in it)) u.if-size-end.false u.read_u16-count.result
+    (sym k.in-Record.is ∙ k.record_at.ensures) in it)) (omega arith) u.read_u16-count.result
     u.read_u16-count.ensures)
 
 pub lengths-requires : goal.lengths-requires
@@ -51,17 +51,17 @@ lengths-requires c = let u = c in
     let i = k.in-Record.field-0 in
     let z = k.in-Record.size in (
       all-inside ((let it : (List ℕ) = k.args.segment.now in it)) i z ((let it : (RecordIs ((let it : (List ℕ) = k.args.segment.now in it)) 0 (length ((let it : (List ℕ) = k.args.segment.now in it))) k.in-Record.field-0 k.in-Record.size) = record_is ((let it : (List ℕ) = k.args.segment.now in it)) 0 (length ((let it : (List ℕ) = k.args.segment.now in it))) k.in-Record.field-0 k.in-Record.size
-          (sym k.in-Record.is ∙ k.record_at.ensures) in it)) u.if-size-end.false u.read_u16-count.result u.read_u16-count.ensures,
+          (sym k.in-Record.is ∙ k.record_at.ensures) in it)) (omega arith) u.read_u16-count.result u.read_u16-count.ensures,
       search rules,
       buckets-in-order ((let it : (List ℕ) = k.args.segment.now in it)) i z ((let it : (RecordIs ((let it : (List ℕ) = k.args.segment.now in it)) 0 (length ((let it : (List ℕ) = k.args.segment.now in it))) k.in-Record.field-0 k.in-Record.size) = record_is ((let it : (List ℕ) = k.args.segment.now in it)) 0 (length ((let it : (List ℕ) = k.args.segment.now in it))) k.in-Record.field-0 k.in-Record.size
-          (sym k.in-Record.is ∙ k.record_at.ensures) in it)) u.if-size-end.false u.read_u16-count.result u.read_u16-count.ensures,
+          (sym k.in-Record.is ∙ k.record_at.ensures) in it)) (omega arith) u.read_u16-count.result u.read_u16-count.ensures,
     )
 
 pub returns-then-count-eq0 : goal.returns-then-count-eq0
 returns-then-count-eq0 c = let u = c in
     let k = u in
     holds-range ((let it : (List ℕ) = k.args.segment.now in it)) k.in-Record.field-0 k.in-Record.size ((let it : (RecordIs ((let it : (List ℕ) = k.args.segment.now in it)) 0 (length ((let it : (List ℕ) = k.args.segment.now in it))) k.in-Record.field-0 k.in-Record.size) = record_is ((let it : (List ℕ) = k.args.segment.now in it)) 0 (length ((let it : (List ℕ) = k.args.segment.now in it))) k.in-Record.field-0 k.in-Record.size
-    (sym k.in-Record.is ∙ k.record_at.ensures) in it)) u.if-size-end.false u.read_u16-count.result
+    (sym k.in-Record.is ∙ k.record_at.ensures) in it)) (omega arith) u.read_u16-count.result
     u.read_u16-count.ensures c.range_length.result c.if-count-eq0.true
     (c.range_length.ensures.0 ∙ ap (λ (r : KeyRange). values_in r) c.range_at.ensures)
 
@@ -69,5 +69,5 @@ pub returns-else-count-eq0 : goal.returns-else-count-eq0
 returns-else-count-eq0 c = let u = c in
     let k = u in
     holds-buckets ((let it : (List ℕ) = k.args.segment.now in it)) k.in-Record.field-0 k.in-Record.size ((let it : (RecordIs ((let it : (List ℕ) = k.args.segment.now in it)) 0 (length ((let it : (List ℕ) = k.args.segment.now in it))) k.in-Record.field-0 k.in-Record.size) = record_is ((let it : (List ℕ) = k.args.segment.now in it)) 0 (length ((let it : (List ℕ) = k.args.segment.now in it))) k.in-Record.field-0 k.in-Record.size
-    (sym k.in-Record.is ∙ k.record_at.ensures) in it)) u.if-size-end.false u.read_u16-count.result
+    (sym k.in-Record.is ∙ k.record_at.ensures) in it)) (omega arith) u.read_u16-count.result
     u.read_u16-count.ensures c.lengths.result c.if-count-eq0.false c.lengths.ensures

@@ -1,6 +1,7 @@
 -- `hours::read_contract` meets its contract: each return is a case of `shape_of`.
 -- Assumes nothing.
 use Prim.Native.Nat.{ℕ}
+use native.Mathlib.Omega.{arith}
 use mathlib.Core.List.{List}
 use Rattle.hours.proofs.SpanLaws.{shape-short, shape-terms, shape-windows, shape-length, shape-bad-term}
 use Rattle.hours.proofs.SpanLaws.{shape-bad-window, shape-valid}
@@ -38,7 +39,7 @@ returns-then-spans_ok c = let v = c in
     let w = o in
     shape-valid ((let it : (List ℕ) = w.args.contract.now in it)) w.read_u16-terms.result w.read_u16-windows.result w.read_u16-terms.ensures
     w.read_u16-windows.ensures
-    o.if-terms-gt-MAX_TERMS.false o.if-windows-gt-MAX_WINDOWS.false o.if-contract-terms.false
+    (omega arith) o.if-windows-gt-MAX_WINDOWS.false o.if-contract-terms.false
     o.spans_ok.result o.spans_ok.ensures (e.if-not-spans_ok.false) v.spans_ok-2.result
     v.spans_ok-2.ensures c.if-spans_ok.true
 

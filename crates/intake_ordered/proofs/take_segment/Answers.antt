@@ -1,4 +1,5 @@
 -- `take_segment` meets its contract: a head whose text is the segment's name, and buckets. Assumes nothing.
+use borrow.Author.Rules.{rules}
 use native.Mathlib.Omega.{arith}
 use Rattle.name_parents.proofs.PathLaws.{parent-long}
 use Rattle.intake_ordered.proofs.TakeLaws.{buckets-kept, segment-taken}
@@ -18,7 +19,7 @@ write_head-requires c =
 pub returns : goal.returns
 returns c =
     segment-taken _ c.requires.parent_value.0 c.requires.parent_value.1 _ _ _ _ (omega arith) c.requires.b_len.0 (c.in-Found.ensures) c.is_segment_topic.ensures
-    c.if-not-is_segment_topic.false (c.in-All.ensures) c.buckets_apart.ensures c.if-not-buckets_apart.false c.write_head.ensures
+    (search rules) (c.in-All.ensures) c.buckets_apart.ensures c.if-not-buckets_apart.false c.write_head.ensures
 
 pub overflow_cast-range : goal.overflow_cast-range
 overflow_cast-range c = let h = c.in-Found.ensures in omega arith

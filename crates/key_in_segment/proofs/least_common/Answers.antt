@@ -17,4 +17,4 @@ returns-then-b-start c =
 pub returns : goal.returns
 returns c =
     let g = c in
-    common-some g.args.a g.args.b g.greater-start.result g.greater-start.ensures c.if-a-start.false c.if-b-start.false
+    common-some g.args.a g.args.b g.greater-start.result g.greater-start.ensures (omega arith) (omega arith)

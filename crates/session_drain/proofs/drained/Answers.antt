@@ -47,7 +47,7 @@ returns-then-reader-ge-READERS c =
     let e = c in
     let s = e in
     told s.args.r s.args.store.now s.args.reader s.args.out.now c.refuse-then-reader-ge-READERS.ensures
-    (reader-unknown s.args.r s.args.store.now s.args.reader s.args.out.now e.if-store-lt-MIN_STORE.false e.if-out-lt-LONGEST.false
+    (reader-unknown s.args.r s.args.store.now s.args.reader s.args.out.now e.if-store-lt-MIN_STORE.false (omega arith)
     c.if-reader-ge-READERS.true)
 
 pub returns-then-not-is_sound : goal.returns-then-not-is_sound

@@ -16,7 +16,7 @@ pub returns-in-Taken : goal.returns-in-Taken
 returns-in-Taken c =
     ordered-taken c.args.store.now c.args.m.now c.args.b.now _ c.args.n c.topic_end-end.result c.requires.assignment_field.0
     c.topic_end-end.ensures c.requires.assignment_field.1 (λ i. (c.type_inv.m i).fits) _ _ _ _ _ _ (c.in-Found.ensures) (c.in-Found-part_at.ensures)
-    c.if-to-m.false c.take_ordered.result c.in-Taken.is c.take_ordered.ensures
+    (omega arith) c.take_ordered.result c.in-Taken.is c.take_ordered.ensures
 
 pub slice_bounds-take_ordered-count : goal.slice_bounds-take_ordered-count
 slice_bounds-take_ordered-count c = let h = c.in-Found-part_at.ensures in omega arith

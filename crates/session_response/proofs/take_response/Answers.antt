@@ -1,5 +1,6 @@
 -- `session_response::take_response` meets its contract: the assignment, or else 16 or 17.
 -- Assumes nothing.
+use borrow.Author.Rules.{rules}
 use mathlib.Core.Path.{refl}
 use mathlib.Core.Logic.{inr}
 use Rattle.session_response.proofs.CallLaws.{response-epoch, assignment-answers, denial-answers}
@@ -16,5 +17,5 @@ returns-then-head c =
 
 pub returns : goal.returns
 returns c =
-    denial-answers c.args.store.now c.args.message.now c.read_response-head.result c.read_response-head.ensures c.if-head.false _
+    denial-answers c.args.store.now c.args.message.now c.read_response-head.result c.read_response-head.ensures (search rules) _
     c.denial.result c.denial.ensures

@@ -21,13 +21,13 @@ pub returns-then-s-gt1 : goal.returns-then-s-gt1
 returns-then-s-gt1 c = kind-bad c.args.s.now (omega (arith, c.if-s-gt1.true))
 
 pub returns-then-topic-subscription-gt-MAX_TEXTS : goal.returns-then-topic-subscription-gt-MAX_TEXTS
-returns-then-topic-subscription-gt-MAX_TEXTS c = texts-long _ _ _ _ (lengths (goal.at.returns-then-topic-subscription-gt-MAX_TEXTS c).After-read_u16-name) c.if-s-gt1.false c.if-topic-subscription-gt-MAX_TEXTS.true
+returns-then-topic-subscription-gt-MAX_TEXTS c = texts-long _ _ _ _ (lengths (goal.at.returns-then-topic-subscription-gt-MAX_TEXTS c).After-read_u16-name) (omega arith) c.if-topic-subscription-gt-MAX_TEXTS.true
 
 pub returns-then-not-is_utf8 : goal.returns-then-not-is_utf8
 returns-then-not-is_utf8 c =
     let m = c in
     let n = m in
-    topic-bad _ _ _ _ (lengths (goal.at.returns-then-not-is_utf8 c).After-read_u16-name) n.if-s-gt1.false m.if-topic-subscription-gt-MAX_TEXTS.false c.is_utf8.result
+    topic-bad _ _ _ _ (lengths (goal.at.returns-then-not-is_utf8 c).After-read_u16-name) (omega arith) m.if-topic-subscription-gt-MAX_TEXTS.false c.is_utf8.result
     c.is_utf8.ensures (ap not c.if-not-is_utf8.true)
 
 pub returns-then-not-is_utf8-2 : goal.returns-then-not-is_utf8-2
@@ -35,7 +35,7 @@ returns-then-not-is_utf8-2 c =
     let k = c in
     let m = k in
     let n = m in
-    subscription-bad _ _ _ _ (lengths (goal.at.returns-then-not-is_utf8-2 c).After-read_u16-name) n.if-s-gt1.false m.if-topic-subscription-gt-MAX_TEXTS.false k.is_utf8.result
+    subscription-bad _ _ _ _ (lengths (goal.at.returns-then-not-is_utf8-2 c).After-read_u16-name) (omega arith) m.if-topic-subscription-gt-MAX_TEXTS.false k.is_utf8.result
     k.is_utf8.ensures (ap not k.if-not-is_utf8.false) c.is_utf8-2.result c.is_utf8-2.ensures (ap not c.if-not-is_utf8-2.true)
 
 pub returns : goal.returns
@@ -44,6 +44,6 @@ returns c =
     let k = p in
     let m = k in
     let n = m in
-    name-decides _ _ _ _ (lengths (goal.at.returns c).After-read_u16-name) n.if-s-gt1.false m.if-topic-subscription-gt-MAX_TEXTS.false k.is_utf8.result
+    name-decides _ _ _ _ (lengths (goal.at.returns c).After-read_u16-name) (omega arith) m.if-topic-subscription-gt-MAX_TEXTS.false k.is_utf8.result
     k.is_utf8.ensures (ap not k.if-not-is_utf8.false) p.is_utf8-2.result p.is_utf8-2.ensures (ap not p.if-not-is_utf8-2.false)
     c.is_utf8-3.result c.is_utf8-3.ensures

@@ -18,7 +18,7 @@ pub returns : goal.returns
 returns c = λ e.
     let q = c in
     let m = q.number_end-at.ensures (omega arith) in
-    carrier-ordered _ _ m (found (goal.at.returns c).In-Found) c.if-to-s.false (c.ordered_assignment.ensures e)
+    carrier-ordered _ _ m (found (goal.at.returns c).In-Found) (omega arith) (c.ordered_assignment.ensures e)
 
 pub returns-then-at-eq0 : goal.returns-then-at-eq0
 returns-then-at-eq0 c = λ e. absurd (false≢true e)
