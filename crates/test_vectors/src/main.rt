@@ -19,7 +19,7 @@ mod wire_vectors;
 use crate::buffers::{filled, front};
 use log_text::text;
 use std::io;
-use std::io::{BufWriter, Write};
+use std::io::{BufWriter, Read, Write};
 
 // The most bytes that are read.
 const INPUT: usize = 1048576;
@@ -78,10 +78,14 @@ fn run_all<W: Write>(to: &mut W, text: &[u8]) -> io::Result<()> {
     Ok(())
 }
 
+fn run_input<R: Read, W: Write>(from: &mut R, to: &mut W, buffer: &mut [u8]) -> io::Result<()> {
+    let n = log_lines::read_full(from, buffer)?;
+    run_all(to, front(buffer, n))
+}
+
 fn main(rt: HostRuntime) -> io::Result<()> {
     let mut buffer = vec![in rt.alloc(); 0u8; INPUT]?;
-    let n = log_lines::read_full(&mut rt.reader(), buffer.as_mut_slice())?;
     let mut to = BufWriter::new(rt.alloc(), rt.stdout())?;
-    run_all(&mut to, front(buffer.as_slice(), n))?;
+    run_input(&mut rt.reader(), &mut to, buffer.as_mut_slice())?;
     to.flush()
 }
