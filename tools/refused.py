@@ -45,7 +45,7 @@ DECLARED = re.compile(r"\s*(?:(?:abbrev|unfoldable|opaque|pub) +)*([^\s:(){}]+) 
 # Another one where what counts as a refusal changes: what was kept by the former counts no more.
 VERSION = b"1"
 # An echo of a refusal elsewhere; a file that names what is not there any more.
-ECHO = ("was not admitted", "were not admitted", "so this cannot be checked")
+ECHO = ("was not admitted", "were not admitted", "so this cannot be checked", "was rejected, was not checked", "was rejected, were not checked")
 UNFIT = re.compile(r"has no `|is not in scope|that can be named from here|has no field\b|expected type `goal\.[^`]*`,? but this has type `goal\.")
 ERROR = re.compile(r"^(\S*?)((?:proofs|specs)/\S+?\.antt):(\d+):\d+: error: (.*?)(?=^(?:\S+:\d+:\d+: )?(?:error|note|help)\b|^checked |^fn |^enum |^struct |\Z)", re.M | re.S)
 LABEL = re.compile(r"`([^`]+)`: ")
@@ -129,13 +129,16 @@ def facts(log, read):
 
 
 def left_open(log, crate):
-    """The goals that rattle made a proof for and left open, each as a fact of the function's own folder."""
+    """The goals that rattle made a proof for and left open, each as a fact of the function's own folder. Where the files there no longer fit, an answer may be
+    lacking for that alone: then a goal tells something only where values are known at which it is false."""
+    unfit = {m[2].rsplit("/", 1)[0] for m in ERROR.finditer(log) if UNFIT.search(m[4])}
     found, goals = [], []
     for line in log.splitlines():
         if m := OPEN.match(line):
             goals.append((m[1], line))
         elif m := OF_FUNCTION.match(line):
             path = m[1].removeprefix(crate + "::").replace("::", "/")
+            goals = [(goal, words) for goal, words in goals if f"proofs/{path}" not in unfit or "allow values at which" in words]
             found += [[f"proofs/{path}/made", None, goal, words[:300]] for goal, words in goals]
             goals = []
     return found
