@@ -7,13 +7,6 @@ use refusal::Refusal;
 // The bytes of an entry.
 pub const ENTRY: usize = 9;
 
-#[derive(Clone, Copy)]
-pub enum LogAnswer {
-    // Whether the log passes.
-    Answered(bool),
-    Refused(Refusal),
-}
-
 // A segment detached or attached, by its id.
 #[derive(Clone, Copy)]
 pub enum Entry {

@@ -4,6 +4,7 @@
 -- `follow-start`, `follow-bad`, `follow-few`, `follow-wrong`, `follow-next`, `follow-end`); which bytes are a log
 -- (`log-odd`, `log-set`, `log-valid`); the answers (`checked-deltas`, `checked-log`, `checked-told`).
 -- Assumes nothing.
+use Rattle.std.specs.Prelude.{Ok, Err}
 use Prim.Native.Nat.{ℕ, zero, suc, ◌+◌, ◌-◌, ◌*◌, ◌/◌, ◌%◌, ◌≤◌, ◌<◌}
 use native.Mathlib.Omega.{arith}
 use mathlib.Core.Path.{◌≡◌, refl, sym, ap, ◌∙◌, subst}
@@ -21,7 +22,6 @@ use Rattle.packed_delta.specs.Delta.{AssignmentDelta, decode_ids, decode_delta, 
 use Rattle.packed_delta.proofs.RoundLaws.{Front}
 use Rattle.attach_entries.specs.declared.Entry.{Entry}
 use Rattle.attach_entries.specs.declared.Entry.TheVariants.{Detach}
-use Rattle.attach_entries.specs.declared.LogAnswer.TheVariants.{Answered, Refused}
 use Rattle.attach_entries.specs.Log.{is_nil, behind, are_at_most, deltas_at_most, are_deltas, deltas_of}
 use Rattle.attach_entries.specs.Log.{entries_in, log_entries, clear_in, is_log}
 use Rattle.attach_entries.specs.Passes.{attach_of, detaches, attaches, Checked}
@@ -234,16 +234,16 @@ all_valid (suc f) l h = go (is_nil l) refl (all_valid f (behind l))
         subst AllValid (sym (ap (λ (t : Bool). cond t [] (decode_delta l ∷ deltas_at_most f (behind l))) e)) (o, r b.1)
 
 module _ (s log : List ℕ) where
-  pub checked-deltas : are_deltas s ≡ false → Checked s log (Refused MalformedInput)
+  pub checked-deltas : are_deltas s ≡ false → Checked s log (Err MalformedInput)
   unfolding Checked
   checked-deltas e = inl (e, refl)
 
   module _ (e : are_deltas s ≡ true) where
-    pub checked-log : is_log log ≡ false → Checked s log (Refused InvalidLog)
+    pub checked-log : is_log log ≡ false → Checked s log (Err InvalidLog)
     unfolding Checked
     checked-log f = inr (e, f, refl)
 
-    pub checked-told : is_log log ≡ true → (b : Bool) → b ≡ follows (deltas_of s) (log_entries log) → Checked s log (Answered b)
+    pub checked-told : is_log log ≡ true → (b : Bool) → b ≡ follows (deltas_of s) (log_entries log) → Checked s log (Ok b)
     unfolding Checked are_deltas deltas_of
     checked-told f b h = (
       e,

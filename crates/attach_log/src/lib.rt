@@ -14,8 +14,7 @@ ghost use Rattle.attach_entries.specs.Passes.{Checked};
 ghost use Rattle.attach_entries.specs.Follows.{follows};
 ghost use Rattle.attach_log.specs.Steps.{ids_in, size_first, size_in, LoadedIs, part_in, delta_in};
 
-use attach_entries::{ENTRY, LogAnswer};
-use packed_delta::FrontRead;
+use attach_entries::ENTRY;
 use refusal::Refusal;
 
 // Ids loaded into a row: how many, and the place behind them.
@@ -31,7 +30,7 @@ fn deltas_ok(s: &[u8]) -> bool
 {
     let mut p: usize = 0;
     while p < s.len() {
-        let FrontRead::Delta(_, _, size) = packed_delta::read_front(&s[p..]) else {
+        let Some((_, _, size)) = packed_delta::read_front(&s[p..]) else {
             return false;
         };
         p = p + size;
@@ -160,7 +159,7 @@ fn log_follows(deltas: &[u8], log: &[u8]) -> bool
     let mut left = log.len() / ENTRY;
     while p < deltas.len() {
         let s = &deltas[p..];
-        let FrontRead::Delta(lost, gained, size) = packed_delta::read_front(s) else {
+        let Some((lost, gained, size)) = packed_delta::read_front(s) else {
             return false;
         };
         if left < lost + gained {
@@ -178,17 +177,17 @@ fn log_follows(deltas: &[u8], log: &[u8]) -> bool
 
 // Whether the log is, delta after delta, each lost id detached once, then each gained id attached once, and nothing
 // more.
-pub fn check(deltas: &[u8], log: &[u8]) -> LogAnswer
+pub fn check(deltas: &[u8], log: &[u8]) -> Result<bool, Refusal>
     ensures { Checked deltas.now log.now result }
 {
     if !deltas_ok(deltas) {
-        return LogAnswer::Refused(Refusal::MalformedInput);
+        return Err(Refusal::MalformedInput);
     }
     if log.len() % ENTRY != 0 {
-        return LogAnswer::Refused(Refusal::InvalidLog);
+        return Err(Refusal::InvalidLog);
     }
     if !filling_clear(log, log.len() / ENTRY) {
-        return LogAnswer::Refused(Refusal::InvalidLog);
+        return Err(Refusal::InvalidLog);
     }
-    LogAnswer::Answered(log_follows(deltas, log))
+    Ok(log_follows(deltas, log))
 }

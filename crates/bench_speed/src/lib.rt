@@ -1,16 +1,14 @@
 // What the benchmarks call of the pieces of an update, and the text check: one exported function for each piece that is measured.
 #![tactic(auto)]
 
-use intake::Intake;
-use intake_ordered::OrderedIntake;
-use wire_schema::{Checked, MessageKind};
+use wire_schema::MessageKind;
 
 // 0 where the update is valid, 1 where it is refused.
 #[unsafe(no_mangle)]
 pub extern "C" fn speed_first_fault(message: &[u8]) -> u8 {
     match wire_messages::first_fault(MessageKind::CommandScalableTopicAssignmentUpdate, message) {
-        Checked::Valid => 0,
-        Checked::Refused(_) => 1,
+        Ok(()) => 0,
+        Err(_) => 1,
     }
 }
 
@@ -26,8 +24,8 @@ pub extern "C" fn speed_take_in(message: &[u8], parent: &[u8]) -> usize {
     let mut b = [0u8; packed::SLOT];
     let head = wire_readers::read_update(message);
     match intake::take_in(message, 2, parent, head.layout_epoch, &mut b) {
-        Intake::Taken(size) => size,
-        Intake::Refused(_) => 0,
+        Ok(size) => size,
+        Err(_) => 0,
     }
 }
 
@@ -39,7 +37,7 @@ pub extern "C" fn speed_take_ordered(assignment: &[u8], parent: &[u8]) -> usize 
         return 0;
     }
     match intake_ordered::take_ordered(assignment, parent, &mut b) {
-        OrderedIntake::Taken(_, size) => size,
-        OrderedIntake::Other => 0,
+        Some((_, size)) => size,
+        None => 0,
     }
 }

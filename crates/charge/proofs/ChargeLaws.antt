@@ -4,6 +4,7 @@
 -- `lengths_none`); what a record holds (`holds-bad`, `holds-longer`, `holds-range`, `holds-buckets`); the answers of
 -- `charge` (`refused-malformed` to `charged`), and what a charge says (`charges`).
 -- Assumes nothing.
+use Rattle.std.specs.Prelude.{Some, None, Ok, Err}
 use Prim.Native.Nat.{ℕ, zero, suc, ◌+◌, ◌-◌, ◌*◌, ◌/◌, ◌%◌, ◌^◌, ◌≤◌, ◌<◌}
 use native.Mathlib.Nat.{le-div_iff_mul-le, div-lt_iff_lt-mul, mul_comm, mul-zero, zero-mul, mul-le-mul_left, mul-one, not-suc-le-zero}
 use native.Mathlib.Omega.{arith}
@@ -21,32 +22,28 @@ use Rattle.ranges_calls.specs.Calls.{values_in}
 use Rattle.slice_int.specs.Be.{be_at}
 use Rattle.packed.specs.Assignment.{decode_range, decode_ranges, decode_segment, size_segment, is_in_order, all_in_order, ok_buckets, ok_segment}
 use Rattle.packed.specs.Answers.{record_valid, record_read}
-use Rattle.packed.specs.declared.RecordRead.TheVariants as read
 use Rattle.packed.proofs.AssignmentLaws.{ranges-none, size-least, segment-at, Seen, seen_size, RecordIs}
-use Rattle.charge.specs.declared.ChargeAnswer.TheVariants.{Charged, Refused}
-use Rattle.charge.specs.declared.Holds.TheVariants.{Values, Malformed}
-use Rattle.charge.specs.declared.Product.TheVariants.{Fits, TooLarge}
 use Rattle.charge.specs.Charge.{divisor, is_segment, lengths_of, held_in, values_held, cost_of, too_large, charge_of, holds_of, product_of}
 
 -- ---- products
 
 module _ (n : ℕ) where
-  pub product-fits : n < 2 ^ 64 → Fits n ≡ product_of n
+  pub product-fits : n < 2 ^ 64 → Some n ≡ product_of n
   unfolding product_of
   product-fits h = simp (lt-leb (2 ^ 64) n h)
 
-  pub product-large : 2 ^ 64 ≤ n → TooLarge ≡ product_of n
+  pub product-large : 2 ^ 64 ≤ n → None ≡ product_of n
   unfolding product_of
   product-large h = simp (le-leb (2 ^ 64) n h)
 
   -- what an answer says
-  pub product_is : (m : ℕ) → Fits m ≡ product_of n → m ≡ n
+  pub product_is : (m : ℕ) → Some m ≡ product_of n → m ≡ n
   unfolding product_of
   product_is m e =
       let f = (cond-second (leb (2 ^ 64) n) _ _ _ (λ q. let o : ◌≡◌ {A = ℕ} 0 1 = cc in omega arith) (sym e)).1 in
       cc
 
-  pub product-not : TooLarge ≡ product_of n → 2 ^ 64 ≤ n
+  pub product-not : None ≡ product_of n → 2 ^ 64 ≤ n
   unfolding product_of
   product-not e = leb-true (2 ^ 64) n (cond-first (leb (2 ^ 64) n) _ _ _ (λ q. let o : ◌≡◌ {A = ℕ} 0 1 = cc in omega arith) (sym e)).0
 
@@ -62,10 +59,10 @@ module _ (a b : ℕ) (h : (a ≡ 0 → ⊥)) where
   above k = let e : 2 ^ 64 - 1 < b * a = (div-lt_iff_lt-mul positive).0 k in omega (arith, mul_comm a b)
 
 -- a factor 0 on the left, on the right
-pub product-zero : (a b : ℕ) → a ≡ 0 → Fits 0 ≡ product_of (a * b)
+pub product-zero : (a b : ℕ) → a ≡ 0 → Some 0 ≡ product_of (a * b)
 product-zero a b e = product-fits 0 (omega arith) ∙ ap product_of (sym (zero-mul b) ∙ ap (λ (x : ℕ). x * b) (sym e))
 
-pub product-none : (a b : ℕ) → b ≡ 0 → Fits 0 ≡ product_of (a * b)
+pub product-none : (a b : ℕ) → b ≡ 0 → Some 0 ≡ product_of (a * b)
 product-none a b e = product-fits 0 (omega arith) ∙ ap product_of (sym (mul-zero a) ∙ ap (λ (x : ℕ). a * x) (sym e))
 
 -- a factor that is not 0 keeps a product large
@@ -99,14 +96,14 @@ held_none : (r : KeyRange) (n : ℕ) (l : List ℕ) → n ≡ 0 → held_in r (d
 unfolding held_in
 held_none r n l h = ap (held_in r) (ranges-none n l (omega arith))
 
-not-read : (l : List ℕ) → read.Malformed ≡ record_read l 0 (length l) → record_valid l 0 (length l) ≡ true → ⊥
+not-read : (l : List ℕ) → None ≡ record_read l 0 (length l) → record_valid l 0 (length l) ≡ true → ⊥
 unfolding record_read
 not-read l e g =
-    let f : read.Malformed ≡ read.Record (decode_segment l).segment_id (size_segment (decode_segment l)) = e ∙ rw g in
+    let f : None ≡ Some ((decode_segment l).segment_id, size_segment (decode_segment l)) = e ∙ rw g in
     let z : ◌≡◌ {A = ℕ} 0 1 = cc in omega arith
 
 module _ (l : List ℕ) where
-  holds_not : is_segment l ≡ false → Malformed ≡ holds_of l
+  holds_not : is_segment l ≡ false → None ≡ holds_of l
   unfolding holds_of
   holds_not e = rw e
 
@@ -117,7 +114,7 @@ module _ (l : List ℕ) where
       simp (m, k)
 
   -- no valid record stands at the front
-  pub holds-bad : read.Malformed ≡ record_read l 0 (length l) → Malformed ≡ holds_of l
+  pub holds-bad : None ≡ record_read l 0 (length l) → None ≡ holds_of l
   unfolding is_segment
   holds-bad e = holds_not (go (eqb (size_segment (decode_segment l)) (length l)) (ok_segment (decode_segment l)) refl refl)
     where
@@ -128,7 +125,7 @@ module _ (l : List ℕ) where
 
   module _ (i z : ℕ) (g : RecordIs l 0 (length l) i z) where
     -- bytes are left over
-    pub holds-longer : (z ≡ length l → ⊥) → Malformed ≡ holds_of l
+    pub holds-longer : (z ≡ length l → ⊥) → None ≡ holds_of l
     unfolding is_segment
     holds-longer h =
         let k : size_segment (decode_segment l) ≡ length l → ⊥ = λ e. h (g.size_is ∙ e) in
@@ -145,7 +142,7 @@ module _ (l : List ℕ) where
           let o : ok_segment (decode_segment l) ≡ true = g.ok in
           simp (eq-eqb (size_segment (decode_segment l)) (length l) k, o)
 
-      holds-values : (v : ℕ) → v ≡ values_held (decode_segment l) → Values v ≡ holds_of l
+      holds-values : (v : ℕ) → v ≡ values_held (decode_segment l) → Some v ≡ holds_of l
       unfolding holds_of
       holds-values v h = simp (segment-valid, h)
 
@@ -176,10 +173,10 @@ module _ (l : List ℕ) where
         held-is = ap values_held segment-is
 
         -- no buckets: the range's values
-        pub holds-range : (v : ℕ) → n ≡ 0 → v ≡ values_in (decode_range (drop 8 l)) → Values v ≡ holds_of l
+        pub holds-range : (v : ℕ) → n ≡ 0 → v ≡ values_in (decode_range (drop 8 l)) → Some v ≡ holds_of l
         holds-range v h k = holds-values v (k ∙ sym (held_none (decode_range (drop 8 l)) n (drop 14 l) h) ∙ sym held-is)
 
-        pub holds-buckets : (v : ℕ) → (n ≡ 0 → ⊥) → v ≡ lengths_of (decode_ranges n (drop 14 l)) → Values v ≡ holds_of l
+        pub holds-buckets : (v : ℕ) → (n ≡ 0 → ⊥) → v ≡ lengths_of (decode_ranges n (drop 14 l)) → Some v ≡ holds_of l
         holds-buckets v h k =
             let p : 0 < n = omega (arith, h) in
             holds-values v (k ∙ sym (held-some (decode_range (drop 8 l)) n (drop 14 l) p) ∙ sym held-is)
@@ -190,19 +187,19 @@ pub record Held (l : List ℕ) (v : ℕ) : Type 0 where
   pub valid : is_segment l ≡ true
   pub values-are : v ≡ values_held (decode_segment l)
 
-pub held : (l : List ℕ) (v : ℕ) → Values v ≡ holds_of l → Held l v
+pub held : (l : List ℕ) (v : ℕ) → Some v ≡ holds_of l → Held l v
 unfolding holds_of
 held l v e =
     let p = cond-first (is_segment l) _ _ _ (λ q. let o : ◌≡◌ {A = ℕ} 0 1 = cc in omega arith) (sym e) in
     let f = p.1 in
     record { valid = p.0; values-are = cc }
 
-not-held : (l : List ℕ) → Malformed ≡ holds_of l → is_segment l ≡ false
+not-held : (l : List ℕ) → None ≡ holds_of l → is_segment l ≡ false
 unfolding holds_of
 not-held l e = (cond-second (is_segment l) _ _ _ (λ q. let o : ◌≡◌ {A = ℕ} 0 1 = cc in omega arith) (sym e)).0
 
 module _ (l : List ℕ) (s r m : ℕ) where
-  pub refused-malformed : Malformed ≡ holds_of l → Refused MalformedInput ≡ charge_of l s r m
+  pub refused-malformed : None ≡ holds_of l → Err MalformedInput ≡ charge_of l s r m
   unfolding charge_of
   refused-malformed e = simp (not-held l e)
 
@@ -211,16 +208,16 @@ module _ (l : List ℕ) (s r m : ℕ) where
     unfolding cost_of
     cost-is = ap (λ (x : ℕ). x * s * r) (sym h.values-are)
 
-    pub refused-remainder : divisor ≤ m → Refused ChargeTooLarge ≡ charge_of l s r m
+    pub refused-remainder : divisor ≤ m → Err ChargeTooLarge ≡ charge_of l s r m
     unfolding charge_of too_large
     refused-remainder k = simp (h.valid, le-leb divisor m k, or-true)
 
-    pub refused-sum : 2 ^ 64 ≤ v * s * r + m → Refused ChargeTooLarge ≡ charge_of l s r m
+    pub refused-sum : 2 ^ 64 ≤ v * s * r + m → Err ChargeTooLarge ≡ charge_of l s r m
     unfolding charge_of too_large
     refused-sum k = simp (h.valid, cost-is, le-leb (2 ^ 64) (v * s * r + m) k)
 
     pub charged : m < divisor → (n : ℕ) → n ≡ v * s * r → n + m < 2 ^ 64
-        → Charged ((n + m) / divisor) ((n + m) % divisor) ≡ charge_of l s r m
+        → Ok ((n + m) / divisor, (n + m) % divisor) ≡ charge_of l s r m
     unfolding charge_of too_large
     charged j n e k =
         let q : cost_of l s r ≡ n = cost-is ∙ sym e in
@@ -231,13 +228,13 @@ pub record Charges (l : List ℕ) (s r m charge next : ℕ) : Type 0 where
   pub charge-is : charge ≡ (cost_of l s r + m) / divisor
   pub next-is : next ≡ (cost_of l s r + m) % divisor
 
-pub charges : (l : List ℕ) (s r m x y : ℕ) → Charged x y ≡ charge_of l s r m → Charges l s r m x y
+pub charges : (l : List ℕ) (s r m x y : ℕ) → Ok (x, y) ≡ charge_of l s r m → Charges l s r m x y
 unfolding charge_of
 charges l s r m x y e = go (not (is_segment l)) (too_large (cost_of l s r) m) refl refl
   where
     go : (t u : Bool) → not (is_segment l) ≡ t → too_large (cost_of l s r) m ≡ u → Charges l s r m x y
-    go true u h k = let f : Charged x y ≡ Refused MalformedInput = e ∙ rw h in let z : ◌≡◌ {A = ℕ} 0 1 = cc in absurd (omega arith)
-    go false true h k = let f : Charged x y ≡ Refused ChargeTooLarge = e ∙ rw (h, k) in let z : ◌≡◌ {A = ℕ} 0 1 = cc in absurd (omega arith)
+    go true u h k = let f : Ok (x, y) ≡ Err MalformedInput = e ∙ rw h in let z : ◌≡◌ {A = ℕ} 0 1 = cc in absurd (omega arith)
+    go false true h k = let f : Ok (x, y) ≡ Err ChargeTooLarge = e ∙ rw (h, k) in let z : ◌≡◌ {A = ℕ} 0 1 = cc in absurd (omega arith)
     go false false h k =
-        let f : Charged x y ≡ Charged ((cost_of l s r + m) / divisor) ((cost_of l s r + m) % divisor) = e ∙ rw (h, k) in
+        let f : Ok (x, y) ≡ Ok ((cost_of l s r + m) / divisor, (cost_of l s r + m) % divisor) = e ∙ rw (h, k) in
         record { charge-is = cc; next-is = cc }

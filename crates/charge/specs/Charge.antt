@@ -4,18 +4,13 @@
 -- "Seconds, rate and remainder are unsigned 64-bit numbers": the definitions hold of any numbers. Over a list of
 -- holdings: specs/Account. Computed answers: specs/Rows.
 -- Assumes nothing.
-use Rattle.std.specs.Prelude.{ℕ, ◌+◌, ◌*◌, ◌/◌, ◌%◌, ◌^◌, Bool, cond, not, ◌&&◌, ◌||◌, List, [], ◌∷◌, length, leb, eqb}
+use Rattle.std.specs.Prelude.{ℕ, ◌+◌, ◌*◌, ◌/◌, ◌%◌, ◌^◌, Bool, cond, not, ◌&&◌, ◌||◌, List, [], ◌∷◌, length, leb, eqb, Option, Some, None, Result, Ok, Err}
 use Rattle.topic_types.specs.declared.KeyRange.{KeyRange}
 use Rattle.refusal.specs.declared.Refusal.TheVariants.{MalformedInput, ChargeTooLarge}
 use Rattle.refusal.specs.Steps.{◌>>◌, refuse_if}
 use Rattle.ranges_calls.specs.Calls.{values_in}
 use Rattle.packed.specs.Assignment.{AssignedSegment, decode_segment, size_segment, ok_segment}
-use Rattle.charge.specs.declared.ChargeAnswer.{ChargeAnswer}
-use Rattle.charge.specs.declared.ChargeAnswer.TheVariants.{Charged, Refused}
-use Rattle.charge.specs.declared.Holds.{Holds}
-use Rattle.charge.specs.declared.Holds.TheVariants as holds
-use Rattle.charge.specs.declared.Product.{Product}
-use Rattle.charge.specs.declared.Product.TheVariants as product
+use Rattle.refusal.specs.declared.Refusal.{Refusal}
 
 -- "divided by 235,929,600": 65,536 values times 3,600 seconds
 abbrev pub divisor : ℕ
@@ -48,23 +43,23 @@ unfoldable pub too_large : (cost remainder : ℕ) → Bool
 too_large cost remainder = leb (2 ^ 64) (cost + remainder) || leb divisor remainder
 
 -- "The charge is rounded down and the remainder goes into that segment's next holding": the charge, the next remainder
-abbrev pub charged_for : (cost remainder : ℕ) → ChargeAnswer
-charged_for cost remainder = Charged ((cost + remainder) / divisor) ((cost + remainder) % divisor)
+abbrev pub charged_for : (cost remainder : ℕ) → Result (ℕ × ℕ) Refusal
+charged_for cost remainder = Ok ((cost + remainder) / divisor, (cost + remainder) % divisor)
 
 -- "a malformed one is 20, tested first"; 36 "before any charge is made"
-unfoldable pub charge_of : (segment : List ℕ) (seconds rate remainder : ℕ) → ChargeAnswer
+unfoldable pub charge_of : (segment : List ℕ) (seconds rate remainder : ℕ) → Result (ℕ × ℕ) Refusal
 charge_of segment seconds rate remainder = do
-  refuse_if Refused (not (is_segment segment)) MalformedInput  -- 20
+  refuse_if Err (not (is_segment segment)) MalformedInput  -- 20
   let cost = cost_of segment seconds rate
-  refuse_if Refused (too_large cost remainder) ChargeTooLarge  -- 36
+  refuse_if Err (too_large cost remainder) ChargeTooLarge  -- 36
   charged_for cost remainder
 
 -- ---- Internal: cited by the contracts of helpers alone
 
 -- what a lent record holds
-unfoldable pub holds_of : List ℕ → Holds
-holds_of segment = cond (is_segment segment) (holds.Values (values_held (decode_segment segment))) holds.Malformed
+unfoldable pub holds_of : List ℕ → Option ℕ
+holds_of segment = cond (is_segment segment) (Some (values_held (decode_segment segment))) None
 
 -- a product, where 64 bits hold it
-unfoldable pub product_of : ℕ → Product
-product_of n = cond (leb (2 ^ 64) n) product.TooLarge (product.Fits n)
+unfoldable pub product_of : ℕ → Option ℕ
+product_of n = cond (leb (2 ^ 64) n) None (Some n)

@@ -1,12 +1,11 @@
 -- Public: computed answers of the definitions (02, request l): a row for each kind of answer and each edge, and one
 -- account.
 -- Assumes nothing.
-use Rattle.std.specs.Prelude.{ℕ, ◌*◌, ◌-◌, ◌^◌, ◌≡◌, refl, List, [], ◌∷◌, ◌++◌}
+use Rattle.std.specs.Prelude.{ℕ, ◌*◌, ◌-◌, ◌^◌, ◌≡◌, refl, List, [], ◌∷◌, ◌++◌, Ok, Err}
 use Rattle.ranges.specs.Overlap.{overlaps_any, any_overlap}
 use Rattle.refusal.specs.declared.Refusal.TheVariants.{MalformedInput, ChargeTooLarge}
 use Rattle.slice_int.specs.Be.{be_from, be}
 use Rattle.packed.specs.Assignment.{num, decode_range, decode_ranges, decode_segment, size_segment, all_in_order, ok_buckets, ok_segment}
-use Rattle.charge.specs.declared.ChargeAnswer.TheVariants.{Charged, Refused}
 use Rattle.charge.specs.Charge.{divisor, is_segment, lengths_of, held_in, values_held, cost_of, too_large, charge_of}
 use Rattle.charge.specs.Account.{Holding, Account, opened, book, book_all}
 
@@ -58,30 +57,30 @@ endless = record { segment = half; seconds = 2 ^ 64 - 1; rate = 2 }
 pub record Rows : Type 0 where
   pub the-divisor : divisor ≡ 65536 * 3600
   -- an hour of the full key space costs the rate
-  pub full-hour : charge_of full 3600 1000000 0 ≡ Charged 1000000 0
-  pub half-hour : charge_of half 1800 1000001 0 ≡ Charged 250000 58982400
+  pub full-hour : charge_of full 3600 1000000 0 ≡ Ok (1000000, 0)
+  pub half-hour : charge_of half 1800 1000001 0 ≡ Ok (250000, 58982400)
   -- the buckets are charged, not the range
-  pub by-buckets : charge_of bucketed 3600 1000000 0 ≡ Charged 259 94233600
+  pub by-buckets : charge_of bucketed 3600 1000000 0 ≡ Ok (259, 94233600)
   -- rounded down; the remainder counts
-  pub left : charge_of one 1 1 0 ≡ Charged 0 1
-  pub left_below : charge_of one 1 1 (divisor - 2) ≡ Charged 0 (divisor - 1)
-  pub left-enough : charge_of one 1 1 (divisor - 1) ≡ Charged 1 0
+  pub left : charge_of one 1 1 0 ≡ Ok (0, 1)
+  pub left_below : charge_of one 1 1 (divisor - 2) ≡ Ok (0, divisor - 1)
+  pub left-enough : charge_of one 1 1 (divisor - 1) ≡ Ok (1, 0)
   -- nothing held for 0 seconds, or at rate 0 however large the rest
-  pub no-time : charge_of full 0 1000000 5 ≡ Charged 0 5
-  pub no-rate : charge_of full (2 ^ 64 - 1) 0 5 ≡ Charged 0 5
+  pub no-time : charge_of full 0 1000000 5 ≡ Ok (0, 5)
+  pub no-rate : charge_of full (2 ^ 64 - 1) 0 5 ≡ Ok (0, 5)
   -- 36: the product reaches 2^64, or with the remainder; one less is charged
-  pub product-large : charge_of full (2 ^ 48) 1 0 ≡ Refused ChargeTooLarge
-  pub sum-large : charge_of one (2 ^ 64 - 1) 1 1 ≡ Refused ChargeTooLarge
-  pub sum-largest : charge_of one (2 ^ 64 - 2) 1 1 ≡ Charged 78187493530 174063615
+  pub product-large : charge_of full (2 ^ 48) 1 0 ≡ Err ChargeTooLarge
+  pub sum-large : charge_of one (2 ^ 64 - 1) 1 1 ≡ Err ChargeTooLarge
+  pub sum-largest : charge_of one (2 ^ 64 - 2) 1 1 ≡ Ok (78187493530, 174063615)
   -- 36: the remainder is not below the divisor, whatever the product
-  pub remainder-large : charge_of full 0 0 divisor ≡ Refused ChargeTooLarge
+  pub remainder-large : charge_of full 0 0 divisor ≡ Err ChargeTooLarge
   -- 20, before 36
-  pub no_bytes : charge_of [] 3600 1000000 0 ≡ Refused MalformedInput
-  pub range-reversed : charge_of reversed 3600 1000000 0 ≡ Refused MalformedInput
-  pub value-shared : charge_of sharing 3600 1000000 0 ≡ Refused MalformedInput
-  pub byte_more : charge_of longer 3600 1000000 0 ≡ Refused MalformedInput
-  pub byte-less : charge_of shorter 3600 1000000 0 ≡ Refused MalformedInput
-  pub malformed-first : charge_of longer (2 ^ 64 - 1) 2 divisor ≡ Refused MalformedInput
+  pub no_bytes : charge_of [] 3600 1000000 0 ≡ Err MalformedInput
+  pub range-reversed : charge_of reversed 3600 1000000 0 ≡ Err MalformedInput
+  pub value-shared : charge_of sharing 3600 1000000 0 ≡ Err MalformedInput
+  pub byte_more : charge_of longer 3600 1000000 0 ≡ Err MalformedInput
+  pub byte-less : charge_of shorter 3600 1000000 0 ≡ Err MalformedInput
+  pub malformed-first : charge_of longer (2 ^ 64 - 1) 2 divisor ≡ Err MalformedInput
   -- four half hours, with two holdings refused in between: each is 250,000 and a quarter, together 1,000,001
   pub account :
       book_all opened (half_hour ∷ malformed ∷ half_hour ∷ half_hour ∷ endless ∷ half_hour ∷ [])

@@ -3,6 +3,7 @@
 --
 -- By induction: the window holds the latest 256 of the counts that were kept (`Holds`).
 -- Assumes nothing.
+use Rattle.std.specs.Prelude.{Result, Ok, Err}
 use Prim.Native.Nat.{ℕ, ◌≤◌, ◌<◌}
 use native.Mathlib.Omega.{arith}
 use mathlib.Core.Path.{◌≡◌, refl, sym, ap, ◌∙◌}
@@ -12,8 +13,6 @@ use lib.ListN.{length}
 use lib.Dec.{ltb}
 use borrow.Author.Tests.{ltb-true, ltb-false}
 use Rattle.refusal.specs.declared.Refusal.TheVariants.{InvalidWindow}
-use Rattle.churn.specs.declared.ChurnAnswer.{ChurnAnswer}
-use Rattle.churn.specs.declared.ChurnAnswer.TheVariants.{Counted, Refused}
 use Rattle.churn.specs.Window.{counts_of, pushed, cleared}
 use Rattle.churn.specs.Churn.{ChurnOutcome, totals_of, churn_outcome, push, clear, current}
 use Rattle.churn.specs.Fresh.{Step, EmptyWindow, step_on, answers_on, window_after, latest, after, kept_after, reckoning}
@@ -22,6 +21,8 @@ use Rattle.churn.specs.Fresh.Step.{count, clearing}
 use Rattle.churn.proofs.CountLaws.{latest-few, latest-again}
 use Rattle.churn.proofs.WindowLaws.{Window, window-valid, window-is, pushed-window, pushed-counts, cleared-window, cleared-counts}
 use Rattle.churn.proofs.WindowLaws.{push-large, push-is, current-is}
+use Rattle.refusal.specs.declared.Refusal.{Refusal}
+use Rattle.churn.specs.declared.Totals.{Totals}
 
 record Holds (w kept : List ℕ) : Type 0 where
   window : Window w
@@ -39,14 +40,14 @@ holds-none w h =
 stepped : (w kept : List ℕ) → Holds w kept → (x : Step) → Stepped w kept x
 unfolding step_on after fresh_answer clear
 stepped w kept h clearing = record {
-  answer-is = ap (λ (l : List ℕ). Counted (totals_of l)) (sym (latest-few 256 [] (omega arith)));
+  answer-is = ap (λ (l : List ℕ). Ok (totals_of l)) (sym (latest-few 256 [] (omega arith)));
   holds = holds-none w h.window.long;
 }
 stepped w kept h (count c) = go (ltb 65535 c) refl
   where
     go : (t : Bool) → ltb 65535 c ≡ t → Stepped w kept (count c)
     go true e =
-        let p : push w c ≡ churn_outcome (Refused InvalidWindow) w = sym (push-large w c (ltb-true 65535 c e)) in
+        let p : push w c ≡ churn_outcome (Err InvalidWindow) w = sym (push-large w c (ltb-true 65535 c e)) in
         record {
           answer-is = ap (λ (o : ChurnOutcome). o.answer) p ∙ rw e;
           holds = rw (p, e) h;
@@ -54,11 +55,11 @@ stepped w kept h (count c) = go (ltb 65535 c) refl
     go false e =
         let j : c ≤ 65535 = ltb-false 65535 c e in
         let b : c < 65536 = omega arith in
-        let p : push w c ≡ churn_outcome (Counted (totals_of (counts_of (pushed w c)))) (pushed w c) = push-is w c j h.window in
+        let p : push w c ≡ churn_outcome (Ok (totals_of (counts_of (pushed w c)))) (pushed w c) = push-is w c j h.window in
         let k : counts_of (pushed w c) ≡ latest 256 (kept ++ (c ∷ [])) =
         pushed-counts w h.window c b ∙ ap (λ (l : List ℕ). latest 256 (l ++ (c ∷ []))) h.counts ∙ latest-again 256 kept c in
         record {
-          answer-is = ap (λ (o : ChurnOutcome). o.answer) p ∙ ap (λ (l : List ℕ). Counted (totals_of l)) k ∙ rw e;
+          answer-is = ap (λ (o : ChurnOutcome). o.answer) p ∙ ap (λ (l : List ℕ). Ok (totals_of l)) k ∙ rw e;
           holds = rw (p, e) (record { window = pushed-window w h.window c b; counts = k });
         }
 
@@ -67,12 +68,12 @@ unfolding answers_on fresh_answers
 answers w kept h [] = refl
 answers w kept h (x ∷ xs) =
     let s = stepped w kept h x in
-    ap (λ (a : ChurnAnswer). a ∷ answers_on (step_on w x).window xs) s.answer-is
-    ∙ ap (λ (rest : List ChurnAnswer). fresh_answer kept x ∷ rest) (answers (step_on w x).window (after kept x) s.holds xs)
+    ap (λ (a : Result Totals Refusal). a ∷ answers_on (step_on w x).window xs) s.answer-is
+    ∙ ap (λ (rest : List (Result Totals Refusal)). fresh_answer kept x ∷ rest) (answers (step_on w x).window (after kept x) s.holds xs)
 
 stands : (w kept : List ℕ) → Holds w kept → (xs : List Step) → current (window_after w xs) ≡ reckoning (kept_after kept xs)
 unfolding window_after kept_after
-stands w kept h [] = current-is w h.window ∙ ap (λ (l : List ℕ). Counted (totals_of l)) h.counts
+stands w kept h [] = current-is w h.window ∙ ap (λ (l : List ℕ). Ok (totals_of l)) h.counts
 stands w kept h (x ∷ xs) = stands (step_on w x).window (after kept x) (stepped w kept h x).holds xs
 
 -- ---- the claims

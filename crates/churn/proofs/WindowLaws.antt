@@ -4,6 +4,7 @@
 -- `pushed_row`, `pushed-valid`, `pushed-counts`); cleared (`cleared-empty`); the places in use give both answers
 -- (`reckoned`); the answers of the calls (`push-large` to `current-answer`).
 -- Assumes nothing.
+use Rattle.std.specs.Prelude.{Ok, Err}
 use Prim.Native.Nat.{ℕ, ◌+◌, ◌-◌, ◌*◌, ◌%◌, ◌≤◌, ◌<◌, min}
 use native.Mathlib.Omega.{arith}
 use mathlib.Core.Path.{◌≡◌, refl, sym, ap, ◌∙◌}
@@ -19,7 +20,6 @@ use Rattle.slice_int.specs.Put.{put}
 use Rattle.slice_int.proofs.BeLaws.{length-bytes_of}
 use Rattle.slice_int.proofs.PutLaws.{length-put}
 use Rattle.churn.specs.declared.Totals.{Totals}
-use Rattle.churn.specs.declared.ChurnAnswer.TheVariants.{Counted, Refused}
 use Rattle.churn.specs.Window.{counts_in, mark_of, row_of, is_window, held_in, counts_of, next_mark, pushed, cleared}
 use Rattle.churn.specs.Churn.{sum_of, largest_of, totals_of, churn_outcome, push, clear, current}
 use Rattle.churn.specs.Fresh.{latest}
@@ -174,30 +174,30 @@ reckoned w = go (ltb (mark_of w) 256) refl
 -- ---- the answers of the calls
 
 module _ (w : List ℕ) (c : ℕ) where
-  pub push-large : 65535 < c → churn_outcome (Refused InvalidWindow) w ≡ push w c
+  pub push-large : 65535 < c → churn_outcome (Err InvalidWindow) w ≡ push w c
   unfolding push
   push-large h = simp (lt-ltb 65535 c h)
 
-  pub push-not : is_window w ≡ false → churn_outcome (Refused InvalidWindow) w ≡ push w c
+  pub push-not : is_window w ≡ false → churn_outcome (Err InvalidWindow) w ≡ push w c
   unfolding push
   push-not e = simp (e, or-true)
 
   module _ (h : c ≤ 65535) (g : Window w) where
-    pub push-is : push w c ≡ churn_outcome (Counted (totals_of (counts_of (pushed w c)))) (pushed w c)
+    pub push-is : push w c ≡ churn_outcome (Ok (totals_of (counts_of (pushed w c)))) (pushed w c)
     unfolding push
     push-is = simp (le-ltb 65535 c h, window-valid w g)
 
     -- what the program wrote and reckoned
     pub push-answer : (v : List ℕ) (t : Totals) → v ≡ pushed w c → t ≡ totals_of (counts_in (min (next_mark (mark_of w)) 256) (drop 2 v))
-        → churn_outcome (Counted t) v ≡ push w c
+        → churn_outcome (Ok t) v ≡ push w c
     push-answer v t e f =
         let j : t ≡ totals_of (counts_of (pushed w c)) =
         f
         ∙ ap (λ (l : List ℕ). totals_of (counts_in (min (next_mark (mark_of w)) 256) (drop 2 l))) e
         ∙ ap (λ (m : ℕ). totals_of (counts_in (min m 256) (drop 2 (pushed w c)))) (sym (pushed-mark w g c (omega arith)))
         ∙ reckoned (pushed w c) in
-        ap (λ (x : Totals). churn_outcome (Counted x) v) j
-        ∙ ap (λ (l : List ℕ). churn_outcome (Counted (totals_of (counts_of (pushed w c)))) l) e
+        ap (λ (x : Totals). churn_outcome (Ok x) v) j
+        ∙ ap (λ (l : List ℕ). churn_outcome (Ok (totals_of (counts_of (pushed w c)))) l) e
         ∙ sym push-is
 
 pub pushed-is : (w : List ℕ) (c m n : ℕ) → m ≡ be_at 2 w 0 → n ≡ next_mark m
@@ -206,23 +206,23 @@ unfolding pushed mark_of
 pushed-is w c m n e f = cc
 
 module _ (w : List ℕ) where
-  pub none-wrote : 2 ≤ length w → churn_outcome (Counted (record { sum = 0; largest = 0 })) (put w 0 (bytes_of 2 0)) ≡ clear w
+  pub none-wrote : 2 ≤ length w → churn_outcome (Ok (record { sum = 0; largest = 0 })) (put w 0 (bytes_of 2 0)) ≡ clear w
   unfolding clear cleared sum_of largest_of
   none-wrote h = simp (le-leb 2 (length w) h)
 
-  pub none-short : length w < 2 → churn_outcome (Counted (record { sum = 0; largest = 0 })) w ≡ clear w
+  pub none-short : length w < 2 → churn_outcome (Ok (record { sum = 0; largest = 0 })) w ≡ clear w
   unfolding clear cleared sum_of largest_of
   none-short h = simp (lt-leb 2 (length w) h)
 
-  pub current-not : is_window w ≡ false → Refused InvalidWindow ≡ current w
+  pub current-not : is_window w ≡ false → Err InvalidWindow ≡ current w
   unfolding current
   current-not e = simp e
 
-  pub current-is : Window w → current w ≡ Counted (totals_of (counts_of w))
+  pub current-is : Window w → current w ≡ Ok (totals_of (counts_of w))
   unfolding current
   current-is g = simp (window-valid w g)
 
-  pub current-answer : Window w → (t : Totals) (m : ℕ) → m ≡ mark_of w → t ≡ totals_of (counts_in (min m 256) (drop 2 w)) → Counted t ≡ current w
+  pub current-answer : Window w → (t : Totals) (m : ℕ) → m ≡ mark_of w → t ≡ totals_of (counts_in (min m 256) (drop 2 w)) → Ok t ≡ current w
   unfolding current
   current-answer g t m e f =
       let j : t ≡ totals_of (counts_of w) = f ∙ ap (λ (k : ℕ). totals_of (counts_in (min k 256) (drop 2 w))) e ∙ reckoned w in

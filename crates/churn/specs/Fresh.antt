@@ -1,12 +1,12 @@
 -- Public: the claim (02 n): "For every list of counts and clearings from an empty window, both answers equal a fresh
 -- reckoning over the latest 256 counts not refused since the last clearing, and are 0 when there are none."
 -- Assumes nothing.
-use Rattle.std.specs.Prelude.{ℕ, ◌-◌, ◌≤◌, ◌≡◌, true, cond, List, [], ◌∷◌, ◌++◌, length, drop, ltb}
+use Rattle.std.specs.Prelude.{ℕ, ◌-◌, ◌≤◌, ◌≡◌, true, cond, List, [], ◌∷◌, ◌++◌, length, drop, ltb, Result, Ok, Err}
 use Rattle.refusal.specs.declared.Refusal.TheVariants.{InvalidWindow}
-use Rattle.churn.specs.declared.ChurnAnswer.{ChurnAnswer}
-use Rattle.churn.specs.declared.ChurnAnswer.TheVariants.{Counted, Refused}
 use Rattle.churn.specs.Window.{places, most_lost, window_size, is_window, counts_of}
 use Rattle.churn.specs.Churn.{ChurnOutcome, totals_of, push, clear, current}
+use Rattle.refusal.specs.declared.Refusal.{Refusal}
+use Rattle.churn.specs.declared.Totals.{Totals}
 
 -- what the station does with a window
 pub data Step : Type 0 where
@@ -24,7 +24,7 @@ unfoldable pub step_on : List ℕ → Step → ChurnOutcome
 step_on w (count c) = push w c
 step_on w clearing = clear w
 
-unfoldable pub answers_on : List ℕ → List Step → List ChurnAnswer
+unfoldable pub answers_on : List ℕ → List Step → List (Result Totals Refusal)
 answers_on w [] = []
 answers_on w (x ∷ xs) = (step_on w x).answer ∷ answers_on (step_on w x).window xs
 
@@ -49,15 +49,15 @@ kept_after kept [] = kept
 kept_after kept (x ∷ xs) = kept_after (after kept x) xs
 
 -- "a fresh reckoning over the latest 256 counts"
-abbrev pub reckoning : List ℕ → ChurnAnswer
-reckoning kept = Counted (totals_of (latest places kept))
+abbrev pub reckoning : List ℕ → Result Totals Refusal
+reckoning kept = Ok (totals_of (latest places kept))
 
 -- 38, else the reckoning with the step
-unfoldable pub fresh_answer : List ℕ → Step → ChurnAnswer
-fresh_answer kept (count c) = cond (ltb most_lost c) (Refused InvalidWindow) (reckoning (after kept (count c)))
+unfoldable pub fresh_answer : List ℕ → Step → Result Totals Refusal
+fresh_answer kept (count c) = cond (ltb most_lost c) (Err InvalidWindow) (reckoning (after kept (count c)))
 fresh_answer kept clearing = reckoning (after kept clearing)
 
-unfoldable pub fresh_answers : List ℕ → List Step → List ChurnAnswer
+unfoldable pub fresh_answers : List ℕ → List Step → List (Result Totals Refusal)
 fresh_answers kept [] = []
 fresh_answers kept (x ∷ xs) = fresh_answer kept x ∷ fresh_answers (after kept x) xs
 

@@ -1,18 +1,18 @@
 -- Public: worked rows of the fresh reckoning, and that bytes of zero are an empty window, as one proved table, by
 -- computation.
 -- Assumes nothing.
-use Rattle.std.specs.Prelude.{ℕ, zero, suc, ◌≡◌, refl, List, [], ◌∷◌, ◌++◌}
+use Rattle.std.specs.Prelude.{ℕ, zero, suc, ◌≡◌, refl, List, [], ◌∷◌, ◌++◌, Result, Ok, Err}
 use Rattle.refusal.specs.declared.Refusal.TheVariants.{InvalidWindow}
-use Rattle.churn.specs.declared.ChurnAnswer.{ChurnAnswer}
-use Rattle.churn.specs.declared.ChurnAnswer.TheVariants.{Counted, Refused}
 use Rattle.slice_int.specs.Be.{be_from, be, be_at}
 use Rattle.churn.specs.Window.{window_size, mark_of, row_of, counts_in, is_window, held_in, counts_of}
 use Rattle.churn.specs.Churn.{sum_of, largest_of}
 use Rattle.churn.specs.Fresh.{Step, EmptyWindow, latest, after, kept_after, reckoning, fresh_answer, fresh_answers}
 use Rattle.churn.specs.Fresh.Step.{count, clearing}
+use Rattle.refusal.specs.declared.Refusal.{Refusal}
+use Rattle.churn.specs.declared.Totals.{Totals}
 
-abbrev pub counted : ℕ → ℕ → ChurnAnswer
-counted sum largest = Counted (record { sum = sum; largest = largest })
+abbrev pub counted : ℕ → ℕ → Result Totals Refusal
+counted sum largest = Ok (record { sum = sum; largest = largest })
 
 -- n, n - 1, .. 1 pushed
 unfoldable pub falling : ℕ → List Step
@@ -43,7 +43,7 @@ pub record Rows : Type 0 where
   -- 65,535 is counted, 65,536 is refused and not kept
   pub refused :
       fresh_answers [] (count 65535 ∷ count 65536 ∷ count 1 ∷ [])
-      ≡ counted 65535 65535 ∷ Refused InvalidWindow ∷ counted 65536 65535 ∷ []
+      ≡ counted 65535 65535 ∷ Err InvalidWindow ∷ counted 65536 65535 ∷ []
   -- 256 counts are all reckoned: 256 + .. + 1
   pub full : reckoning (kept_after [] (falling 256)) ≡ counted 32896 256
   -- the 257th puts the first out, which was the largest

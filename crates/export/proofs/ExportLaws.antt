@@ -1,5 +1,6 @@
 -- What an exported call gives, from what the call under it gives and its answer in numbers: with an output, with a window, an opening, a log, a kind.
 -- Assumes nothing.
+use Rattle.std.specs.Prelude.{Bool, Option, Result}
 use Prim.Native.Nat.{ℕ}
 use native.Mathlib.Omega.{arith}
 use mathlib.Core.Path.{◌≡◌, ap, ◌∙◌}
@@ -11,20 +12,14 @@ use mir.Facts.{to_z-of_z}
 use Rattle.topic_types.specs.declared.ScalableConsumerType.{ScalableConsumerType}
 use Rattle.topic_types.specs.declared.ScalableConsumerType.TheVariants.{Stream, Checkpoint}
 use Rattle.topic_types.specs.ConsumerTypes.{to_wire}
-use Rattle.name_topic.specs.declared.NameAnswer.{NameAnswer}
 use Rattle.name_topic.specs.Build as build
-use Rattle.output.specs.declared.WriteAnswer.{WriteAnswer}
 use Rattle.output.specs.Output as output
-use Rattle.churn.specs.declared.ChurnAnswer.{ChurnAnswer}
 use Rattle.churn.specs.Churn as window
-use Rattle.attach_entries.specs.declared.LogAnswer.{LogAnswer}
 use Rattle.attach_entries.specs.Passes.{Checked}
 use Rattle.session.specs.declared.SessionRecord.{SessionRecord}
 use Rattle.session.specs.declared.Answer.{Answer}
 use Rattle.session.specs.Calls.{OpenOutcome}
-use Rattle.hours.specs.declared.EarliestAnswer.{EarliestAnswer}
 use Rattle.hours.specs.Hours.{Earliest}
-use Rattle.watch.specs.declared.WatchAnswer.{WatchAnswer}
 use Rattle.watch.specs.Watch as watch
 use Rattle.export_reply.specs.declared.Reply.{Reply}
 use Rattle.export_record.specs.declared.SessionReply.{SessionReply}
@@ -33,6 +28,8 @@ use Rattle.export_record.specs.Exported.{Opening, open_of}
 use Rattle.export.specs.Exports.{Output, write_reply, write_of, name_reply, name_of}
 use Rattle.export.specs.Exports.{Watched, watch_reply, watch_of, earliest_reply, EarliestReply, log_reply, LogReply}
 use Rattle.export.specs.Exports.{Windowed, churn_reply, window_of}
+use Rattle.refusal.specs.declared.Refusal.{Refusal}
+use Rattle.churn.specs.declared.Totals.{Totals}
 
 abbrev pub outputs : Reply → List ℕ → Output
 outputs x out = record { reply = x; out = out }
@@ -41,27 +38,27 @@ abbrev pub opening : SessionReply → List ℕ → Opening
 opening x store = record { call = x; store = store }
 
 pub write-call :
-    {x : Reply} {a : WriteAnswer} {out : List ℕ} {o : output.Outcome} → x ≡ write_reply a → output.outcome a out ≡ o → outputs x out ≡ write_of o
+    {x : Reply} {a : Result ℕ Refusal} {out : List ℕ} {o : output.Outcome} → x ≡ write_reply a → output.outcome a out ≡ o → outputs x out ≡ write_of o
 write-call {out = out} e f = ap (λ (y : Reply). outputs y out) e ∙ ap write_of f
 
 pub name-call :
-    {x : Reply} {a : NameAnswer} {out : List ℕ} {o : build.NameOutcome} → x ≡ name_reply a → build.name_outcome a out ≡ o → outputs x out ≡ name_of o
+    {x : Reply} {a : Result ℕ Refusal} {out : List ℕ} {o : build.NameOutcome} → x ≡ name_reply a → build.name_outcome a out ≡ o → outputs x out ≡ name_of o
 name-call {out = out} e f = ap (λ (y : Reply). outputs y out) e ∙ ap name_of f
 
 abbrev pub windowed : Reply → List ℕ → Windowed
 windowed x window = record { reply = x; window = window }
 
 pub window-call :
-    {x : Reply} {a : ChurnAnswer} {w : List ℕ} {o : window.ChurnOutcome} → x ≡ churn_reply a → window.churn_outcome a w ≡ o → windowed x w ≡ window_of o
+    {x : Reply} {a : Result Totals Refusal} {w : List ℕ} {o : window.ChurnOutcome} → x ≡ churn_reply a → window.churn_outcome a w ≡ o → windowed x w ≡ window_of o
 window-call {w = w} e f = ap (λ (y : Reply). windowed y w) e ∙ ap window_of f
 
 pub open-call :
-    {x : SessionReply} {a : Answer} {r : SessionRecord} {store : List ℕ} {o : OpenOutcome} →
+    {x : SessionReply} {a : Result Answer Refusal} {r : SessionRecord} {store : List ℕ} {o : OpenOutcome} →
     x ≡ open_reply a r → record { answer = a; next = r; store = store } ≡ o → opening x store ≡ open_of o
 open-call {store = store} e f = ap (λ (y : SessionReply). opening y store) e ∙ ap open_of f
 
 pub earliest-call :
-    {contract : List ℕ} {second : ℕ} {x : Reply} (a : EarliestAnswer) →
+    {contract : List ℕ} {second : ℕ} {x : Reply} (a : Result (Option ℕ) Refusal) →
     Earliest contract second a → x ≡ earliest_reply a → EarliestReply contract second x
 earliest-call a h e = record { answer = a; earliest = h; reply-is = e }
 
@@ -69,11 +66,11 @@ abbrev pub watched : Reply → List ℕ → List ℕ → Watched
 watched x buffer out = record { reply = x; buffer = buffer; out = out }
 
 pub watch-call :
-    {x : Reply} {a : WatchAnswer} {buffer out : List ℕ} {o : watch.WatchOutcome} →
+    {x : Reply} {a : Result (ℕ × ℕ) Refusal} {buffer out : List ℕ} {o : watch.WatchOutcome} →
     x ≡ watch_reply a → watch.outcome a buffer out ≡ o → watched x buffer out ≡ watch_of o
 watch-call {buffer = buffer} {out = out} e f = ap (λ (y : Reply). watched y buffer out) e ∙ ap watch_of f
 
-pub log-call : {deltas entries : List ℕ} {x : Reply} (a : LogAnswer) → Checked deltas entries a → x ≡ log_reply a → LogReply deltas entries x
+pub log-call : {deltas entries : List ℕ} {x : Reply} (a : Result Bool Refusal) → Checked deltas entries a → x ≡ log_reply a → LogReply deltas entries x
 log-call a h e = record { answer = a; checked = h; reply-is = e }
 
 -- the integer of a kind, as its 32 bits read back

@@ -3,15 +3,16 @@ ghost use Rattle.std.specs.Prelude.{◌≡◌};
 ghost use Rattle.churn.specs.Churn.{push, clear, current};
 ghost use Rattle.export.specs.Exports.{churn_reply, window_of};
 
-use churn::ChurnAnswer;
+use churn::Totals;
 use export_reply::Reply;
+use refusal::Refusal;
 
-fn churn_reply(a: ChurnAnswer) -> Reply
+fn churn_reply(a: Result<Totals, Refusal>) -> Reply
     ensures { result ≡ churn_reply a }
 {
     match a {
-        ChurnAnswer::Counted(t) => export_reply::two(export_reply::FOUND, t.sum, t.largest),
-        ChurnAnswer::Refused(x) => export_reply::refused(x),
+        Ok(t) => export_reply::two(export_reply::FOUND, t.sum, t.largest),
+        Err(x) => export_reply::refused(x),
     }
 }
 

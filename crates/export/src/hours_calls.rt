@@ -4,7 +4,6 @@ ghost use Rattle.hours.specs.Hours.{open_answer};
 ghost use Rattle.export.specs.Exports.{hours_reply, EarliestReply};
 
 use export_reply::Reply;
-use hours::{EarliestAnswer, OpenAnswer};
 
 // Whether a second is open by the contract.
 #[unsafe(no_mangle)]
@@ -12,8 +11,8 @@ pub extern "C" fn cuddrewyn_is_open(contract: &[u8], second: u64) -> Reply
     ensures { result ≡ hours_reply (open_answer contract.now second) }
 {
     match hours::is_open(contract, second) {
-        OpenAnswer::Answered(b) => export_reply::test(b),
-        OpenAnswer::Refused(x) => export_reply::refused(x),
+        Ok(b) => export_reply::test(b),
+        Err(x) => export_reply::refused(x),
     }
 }
 
@@ -23,8 +22,8 @@ pub extern "C" fn cuddrewyn_earliest_open(contract: &[u8], second: u64) -> Reply
     ensures { EarliestReply contract.now second result }
 {
     match hours::earliest_open(contract, second) {
-        EarliestAnswer::At(s) => export_reply::one(export_reply::FOUND, s),
-        EarliestAnswer::NoneOpen => export_reply::plain(export_reply::NO),
-        EarliestAnswer::Refused(x) => export_reply::refused(x),
+        Ok(Some(s)) => export_reply::one(export_reply::FOUND, s),
+        Ok(None) => export_reply::plain(export_reply::NO),
+        Err(x) => export_reply::refused(x),
     }
 }

@@ -7,8 +7,6 @@ ghost use Rattle.export.specs.Exports.{segment_reply, key_reply, key_in_reply};
 
 use export_reply::Reply;
 use key_for_hash::TestKey;
-use key_in_segment::KeyAnswer;
-use key_lookup::SegmentAnswer;
 use topic_types::SegmentId;
 
 // The id of the segment of a list that takes a key.
@@ -17,9 +15,9 @@ pub extern "C" fn cuddrewyn_segment_for_key(key: &[u8], assignment: &[u8]) -> Re
     ensures { result ≡ segment_reply (segment_for_key key.now assignment.now) }
 {
     match key_lookup::segment_for_key(key, assignment) {
-        SegmentAnswer::Segment(id) => export_reply::one(export_reply::FOUND, id.0),
-        SegmentAnswer::NoSegment => export_reply::plain(export_reply::NO),
-        SegmentAnswer::Refused(x) => export_reply::refused(x),
+        Ok(Some(id)) => export_reply::one(export_reply::FOUND, id.0),
+        Ok(None) => export_reply::plain(export_reply::NO),
+        Err(x) => export_reply::refused(x),
     }
 }
 
@@ -52,8 +50,8 @@ pub extern "C" fn cuddrewyn_key_in_segment(assignment: &[u8], segment_id: u64) -
     ensures { result ≡ key_in_reply (key_in_segment assignment.now segment_id) }
 {
     match key_in_segment::key_in_segment(assignment, SegmentId(segment_id)) {
-        KeyAnswer::Key(k) => key_reply(k),
-        KeyAnswer::NoKey => export_reply::plain(export_reply::NO),
-        KeyAnswer::Refused(x) => export_reply::refused(x),
+        Ok(Some(k)) => key_reply(k),
+        Ok(None) => export_reply::plain(export_reply::NO),
+        Err(x) => export_reply::refused(x),
     }
 }

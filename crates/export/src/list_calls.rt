@@ -6,14 +6,14 @@ ghost use Rattle.writer.specs.Write.{write_outcome};
 ghost use Rattle.export.specs.Exports.{write_reply, write_of};
 
 use export_reply::Reply;
-use output::WriteAnswer;
+use refusal::Refusal;
 
-pub fn write_reply(a: WriteAnswer) -> Reply
+pub fn write_reply(a: Result<usize, Refusal>) -> Reply
     ensures { result ≡ write_reply a }
 {
     match a {
-        WriteAnswer::Written(n) => export_reply::one(export_reply::WRITTEN, n as u64),
-        WriteAnswer::Refused(x) => export_reply::refused(x),
+        Ok(n) => export_reply::one(export_reply::WRITTEN, n as u64),
+        Err(x) => export_reply::refused(x),
     }
 }
 

@@ -1,7 +1,6 @@
 // Attach logs.
 ghost use Rattle.export.specs.Exports.{LogReply};
 
-use attach_entries::LogAnswer;
 use export_reply::Reply;
 
 // Whether a log is what deltas, packed one behind another, ask for.
@@ -10,7 +9,7 @@ pub extern "C" fn cuddrewyn_check_log(deltas: &[u8], log: &[u8]) -> Reply
     ensures { LogReply deltas.now log.now result }
 {
     match attach_log::check(deltas, log) {
-        LogAnswer::Answered(b) => export_reply::test(b),
-        LogAnswer::Refused(x) => export_reply::refused(x),
+        Ok(b) => export_reply::test(b),
+        Err(x) => export_reply::refused(x),
     }
 }

@@ -5,16 +5,15 @@ ghost use Rattle.name_source.specs.Parse.{segment_source, parent_topic};
 ghost use Rattle.export.specs.Exports.{name_reply, name_of, source_reply};
 
 use export_reply::Reply;
-use name_source::SourceAnswer;
-use name_topic::NameAnswer;
+use refusal::Refusal;
 use topic_types::SegmentId;
 
-fn name_reply(a: NameAnswer) -> Reply
+fn name_reply(a: Result<usize, Refusal>) -> Reply
     ensures { result ≡ name_reply a }
 {
     match a {
-        NameAnswer::Written(n) => export_reply::one(export_reply::WRITTEN, n as u64),
-        NameAnswer::Refused(x) => export_reply::refused(x),
+        Ok(n) => export_reply::one(export_reply::WRITTEN, n as u64),
+        Err(x) => export_reply::refused(x),
     }
 }
 
@@ -39,11 +38,11 @@ pub extern "C" fn cuddrewyn_segment_source(segment_id: u64, topic: &[u8]) -> Rep
     ensures { result ≡ source_reply (segment_source (record { 0 = segment_id }) topic.now) }
 {
     match name_source::segment_source(SegmentId(segment_id), topic) {
-        SourceAnswer::Source(s) => {
+        Ok(s) => {
             let range = s.key_range;
             export_reply::two(export_reply::FOUND, range.start as u64, range.end as u64)
         }
-        SourceAnswer::Refused(x) => export_reply::refused(x),
+        Err(x) => export_reply::refused(x),
     }
 }
 

@@ -5,15 +5,15 @@ ghost use Rattle.ranges_calls.specs.Calls.{length_of, contains_of, contains_rang
 ghost use Rattle.export.specs.Exports.{length_reply, answered_reply};
 
 use export_reply::Reply;
-use ranges_calls::{LengthAnswer, TestAnswer};
+use refusal::Refusal;
 use topic_types::ScalableConsumerType;
 
-fn answered_reply(a: TestAnswer) -> Reply
+fn answered_reply(a: Result<bool, Refusal>) -> Reply
     ensures { result ≡ answered_reply a }
 {
     match a {
-        TestAnswer::Answered(b) => export_reply::test(b),
-        TestAnswer::Refused(x) => export_reply::refused(x),
+        Ok(b) => export_reply::test(b),
+        Err(x) => export_reply::refused(x),
     }
 }
 
@@ -23,8 +23,8 @@ pub extern "C" fn cuddrewyn_range_len(start: u32, end: u32) -> Reply
     ensures { result ≡ length_reply (length_of start end) }
 {
     match ranges_calls::len(start, end) {
-        LengthAnswer::Length(n) => export_reply::one(export_reply::FOUND, n as u64),
-        LengthAnswer::Refused(x) => export_reply::refused(x),
+        Ok(n) => export_reply::one(export_reply::FOUND, n as u64),
+        Err(x) => export_reply::refused(x),
     }
 }
 

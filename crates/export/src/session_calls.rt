@@ -12,7 +12,6 @@ ghost use Rattle.export.specs.Exports.{match_reply};
 use crate::Part;
 use export_record::{Record, SessionReply, open_reply};
 use export_reply::Reply;
-use session::Match;
 use topic_types::{ControllerIncarnation, ScalableConsumerType};
 
 // Opens a session over the store: `ScalableConsumerSession::new`. The kind is the integer of the wire.
@@ -140,9 +139,9 @@ pub extern "C" fn cuddrewyn_matches_registration(
 {
     let kind = ScalableConsumerType::from_pb_i32(kind);
     match session_open::matches_registration(store, topic, subscription, consumer_name, kind) {
-        Match::Same => export_reply::plain(export_reply::YES),
-        Match::Other => export_reply::plain(export_reply::NO),
-        Match::Refused(x) => export_reply::refused(x),
+        Ok(true) => export_reply::plain(export_reply::YES),
+        Ok(false) => export_reply::plain(export_reply::NO),
+        Err(x) => export_reply::refused(x),
     }
 }
 

@@ -8,18 +8,14 @@ ghost use Rattle.export.specs.Exports.{watch_reply, watch_of};
 use crate::Part;
 use crate::session_calls::last_part;
 use export_reply::Reply;
-use watch::WatchAnswer;
+use refusal::Refusal;
 
-fn watch_reply(a: WatchAnswer) -> Reply
+fn watch_reply(a: Result<(usize, usize), Refusal>) -> Reply
     ensures { result ≡ watch_reply a }
 {
     match a {
-        WatchAnswer::Changed(set, out) => export_reply::two(
-            export_reply::WRITTEN,
-            set as u64,
-            out as u64,
-        ),
-        WatchAnswer::Refused(x) => export_reply::refused(x),
+        Ok((set, out)) => export_reply::two(export_reply::WRITTEN, set as u64, out as u64),
+        Err(x) => export_reply::refused(x),
     }
 }
 

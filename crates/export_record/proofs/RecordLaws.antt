@@ -1,10 +1,9 @@
 -- The record that goes out: it comes in again as it was, and each of its fields tells the field of its name.
 -- Assumes nothing.
+use Rattle.std.specs.Prelude.{ℕ, Option, Some, None}
 use mathlib.Core.Path.{◌≡◌, refl}
 use mathlib.Core.Bool.{Bool, true, false}
 use Rattle.session.specs.declared.SessionRecord.{SessionRecord}
-use Rattle.session.specs.declared.Floor.{Floor}
-use Rattle.session.specs.declared.Floor.TheVariants.{Unset, At}
 use Rattle.session_record.specs.Floors.{floor_value}
 use Rattle.export_record.specs.Replies.{is_set, flag, floor_of, floor_is_set, record_of, export_record, RecordReturns, FieldsAgree}
 
@@ -12,9 +11,9 @@ flag-told : (b : Bool) → is_set (flag b) ≡ b
 flag-told true = refl
 flag-told false = refl
 
-floor-agrees : (f : Floor) → floor_of (floor_is_set f) (floor_value f) ≡ f
-floor-agrees Unset = refl
-floor-agrees (At n) = refl
+floor-agrees : (f : Option ℕ) → floor_of (floor_is_set f) (floor_value f) ≡ f
+floor-agrees None = refl
+floor-agrees (Some n) = refl
 
 pub fields_told : (r : SessionRecord) → FieldsAgree r
 unfolding export_record

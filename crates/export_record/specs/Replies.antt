@@ -2,10 +2,8 @@
 -- for its flags. In order: the record, in and out, and the laws that hold both to each other; the answer; what a call
 -- leaves.
 -- Assumes nothing.
-use Rattle.std.specs.Prelude.{ℕ, ◌≡◌, Bool, true, false, not, List, [], ◌∷◌, pos, eqb}
+use Rattle.std.specs.Prelude.{ℕ, ◌≡◌, Bool, true, false, not, List, [], ◌∷◌, pos, eqb, Option, Some, None, Result, Ok, Err}
 use Rattle.session.specs.declared.SessionRecord.{SessionRecord}
-use Rattle.session.specs.declared.Floor.{Floor}
-use Rattle.session.specs.declared.Floor.TheVariants.{Unset, At}
 use Rattle.session.specs.declared.Answer.{Answer}
 use Rattle.session.specs.declared.Answer.TheVariants as answer
 use Rattle.session.specs.declared.Changed.{Changed}
@@ -15,6 +13,7 @@ use Rattle.export_reply.specs.declared.Reply.{Reply}
 use Rattle.export_reply.specs.Replies.{accepted, unchanged, delta, replay, refused_reply, taken_reply}
 use Rattle.export_record.specs.declared.Record.{Record}
 use Rattle.export_record.specs.declared.SessionReply.{SessionReply}
+use Rattle.refusal.specs.declared.Refusal.{Refusal}
 
 -- ---- the record: a floor that is unset has the number 0 beside its flag
 
@@ -27,13 +26,13 @@ abbrev pub flag : Bool → ℕ
 flag true = 1
 flag false = 0
 
-abbrev pub floor_of : Bool → ℕ → Floor
-floor_of true n = At n
-floor_of false n = Unset
+abbrev pub floor_of : Bool → ℕ → Option ℕ
+floor_of true n = Some n
+floor_of false n = None
 
-abbrev pub floor_is_set : Floor → Bool
-floor_is_set Unset = false
-floor_is_set (At n) = true
+abbrev pub floor_is_set : Option ℕ → Bool
+floor_is_set None = false
+floor_is_set (Some n) = true
 
 unfoldable pub record_of : Record → SessionRecord
 record_of c =
@@ -77,32 +76,32 @@ pub record FieldsAgree (r : SessionRecord) : Type 0 where
 
 -- ---- the answer in numbers
 
-unfoldable pub answer_reply : Answer → Reply
-answer_reply (answer.Refused x) = refused_reply x
-answer_reply answer.Accepted = taken_reply accepted []
-answer_reply answer.Unchanged = taken_reply unchanged []
-answer_reply (answer.Delta n) = taken_reply delta (pos n ∷ [])
-answer_reply (answer.Replay place n) = taken_reply replay (pos place ∷ pos n ∷ [])
+unfoldable pub answer_reply : Result Answer Refusal → Reply
+answer_reply (Err x) = refused_reply x
+answer_reply (Ok answer.Accepted) = taken_reply accepted []
+answer_reply (Ok answer.Unchanged) = taken_reply unchanged []
+answer_reply (Ok (answer.Delta n)) = taken_reply delta (pos n ∷ [])
+answer_reply (Ok (answer.Replay place n)) = taken_reply replay (pos place ∷ pos n ∷ [])
 
 -- ---- what a call leaves
 
 -- "A refusal changes nothing": the record that came, byte by byte
-unfoldable pub left_record : Record → Answer → SessionRecord → Record
-left_record r (answer.Refused x) next = r
-left_record r answer.Accepted next = export_record next
-left_record r answer.Unchanged next = export_record next
-left_record r (answer.Delta n) next = export_record next
-left_record r (answer.Replay place n) next = export_record next
+unfoldable pub left_record : Record → Result Answer Refusal → SessionRecord → Record
+left_record r (Err x) next = r
+left_record r (Ok answer.Accepted) next = export_record next
+left_record r (Ok answer.Unchanged) next = export_record next
+left_record r (Ok (answer.Delta n)) next = export_record next
+left_record r (Ok (answer.Replay place n)) next = export_record next
 
 -- a call that was given the record r
-abbrev pub session_reply : Record → Answer → SessionRecord → SessionReply
+abbrev pub session_reply : Record → Result Answer Refusal → SessionRecord → SessionReply
 session_reply r a next = record { state = left_record r a next; reply = answer_reply a }
 
 abbrev pub changed_reply : Record → Changed → SessionReply
 changed_reply r c = session_reply r c.answer c.next
 
 -- an open, which was given none
-abbrev pub open_reply : Answer → SessionRecord → SessionReply
+abbrev pub open_reply : Result Answer Refusal → SessionRecord → SessionReply
 open_reply a next = record { state = export_record next; reply = answer_reply a }
 
 -- reply, record, store, output

@@ -6,7 +6,8 @@ ghost use Rattle.export_record.specs.Replies.{is_set, flag, floor_of, floor_is_s
 ghost use Rattle.export_record.specs.Replies.{answer_reply, left_record, session_reply, open_reply};
 
 use export_reply::Reply;
-use session::{Answer, Floor, SessionRecord};
+use refusal::Refusal;
+use session::{Answer, SessionRecord};
 use topic_types::ControllerIncarnation;
 
 // A session's record. A flag is any byte: 0 says no, all others yes; a call writes 1 or 0.
@@ -44,10 +45,10 @@ fn flag(set: bool) -> u8
     if set { 1 } else { 0 }
 }
 
-fn floor_of(any: bool, floor: u64) -> Floor
+fn floor_of(any: bool, floor: u64) -> Option<u64>
     ensures { result ≡ floor_of any floor }
 {
-    if any { Floor::At(floor) } else { Floor::Unset }
+    if any { Some(floor) } else { None }
 }
 
 pub fn record_of(c: Record) -> SessionRecord
@@ -66,12 +67,12 @@ pub fn record_of(c: Record) -> SessionRecord
     }
 }
 
-fn has_floor(floor: Floor) -> bool
+fn has_floor(floor: Option<u64>) -> bool
     ensures { result ≡ floor_is_set floor }
 {
     match floor {
-        Floor::Unset => false,
-        Floor::At(_) => true,
+        None => false,
+        Some(_) => true,
     }
 }
 
@@ -93,33 +94,37 @@ pub fn export_record(r: SessionRecord) -> Record
     }
 }
 
-pub fn answer_reply(a: Answer) -> Reply
+pub fn answer_reply(a: Result<Answer, Refusal>) -> Reply
     ensures { result ≡ answer_reply a }
 {
     match a {
-        Answer::Refused(x) => export_reply::refused(x),
-        Answer::Accepted => export_reply::plain(export_reply::ACCEPTED),
-        Answer::Unchanged => export_reply::plain(export_reply::UNCHANGED),
-        Answer::Delta(n) => export_reply::one(export_reply::DELTA, n as u64),
-        Answer::Replay(place, n) => export_reply::two(export_reply::REPLAY, place as u64, n as u64),
+        Err(x) => export_reply::refused(x),
+        Ok(Answer::Accepted) => export_reply::plain(export_reply::ACCEPTED),
+        Ok(Answer::Unchanged) => export_reply::plain(export_reply::UNCHANGED),
+        Ok(Answer::Delta(n)) => export_reply::one(export_reply::DELTA, n as u64),
+        Ok(Answer::Replay(place, n)) => export_reply::two(
+            export_reply::REPLAY,
+            place as u64,
+            n as u64,
+        ),
     }
 }
 
 // The record behind a call: that of before where the call refuses.
-fn left_record(r: Record, a: Answer, next: SessionRecord) -> Record
+fn left_record(r: Record, a: Result<Answer, Refusal>, next: SessionRecord) -> Record
     ensures { result ≡ left_record r a next }
 {
     match a {
-        Answer::Refused(_) => r,
-        Answer::Accepted => export_record(next),
-        Answer::Unchanged => export_record(next),
-        Answer::Delta(_) => export_record(next),
-        Answer::Replay(_, _) => export_record(next),
+        Err(_) => r,
+        Ok(Answer::Accepted) => export_record(next),
+        Ok(Answer::Unchanged) => export_record(next),
+        Ok(Answer::Delta(_)) => export_record(next),
+        Ok(Answer::Replay(_, _)) => export_record(next),
     }
 }
 
 // What a call gives that was given the record r.
-pub fn session_reply(r: Record, a: Answer, next: SessionRecord) -> SessionReply
+pub fn session_reply(r: Record, a: Result<Answer, Refusal>, next: SessionRecord) -> SessionReply
     ensures { result ≡ session_reply r a next }
 {
     let state = left_record(r, a, next);
@@ -128,7 +133,7 @@ pub fn session_reply(r: Record, a: Answer, next: SessionRecord) -> SessionReply
 }
 
 // What an open gives, which was given no record.
-pub fn open_reply(a: Answer, next: SessionRecord) -> SessionReply
+pub fn open_reply(a: Result<Answer, Refusal>, next: SessionRecord) -> SessionReply
     ensures { result ≡ open_reply a next }
 {
     let state = export_record(next);

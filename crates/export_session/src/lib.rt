@@ -80,16 +80,16 @@ pub fn drained(r: Record, store: &[u8], reader: usize, out: &mut [u8]) -> Sessio
 }
 
 // What every call over a store asks first of it and the record: 1, then 22.
-fn check(r: SessionRecord, store: &[u8]) -> Answer
+fn check(r: SessionRecord, store: &[u8]) -> Result<Answer, Refusal>
     ensures { result ≡ check_of r store.now }
 {
     if store.len() < session_store::MIN_STORE {
-        return Answer::Refused(Refusal::StoreTooShort);
+        return Err(Refusal::StoreTooShort);
     }
     if session_store::is_sound(r, store) {
-        Answer::Accepted
+        Ok(Answer::Accepted)
     } else {
-        Answer::Refused(Refusal::MalformedStore)
+        Err(Refusal::MalformedStore)
     }
 }
 

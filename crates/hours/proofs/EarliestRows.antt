@@ -1,12 +1,12 @@
 -- Worked cases of `Earliest`: what the program finds, by computation, is the least of all open seconds. The contract is
 -- that of specs/Rows, around the leap day of 2024.
 -- Assumes nothing.
+use Rattle.std.specs.Prelude.{Some, None, Ok}
 use mathlib.Core.Path.{refl}
 use native.Mathlib.Omega.{arith}
 use mathlib.Core.List.{List}
 use Prim.Native.Nat.{ℕ}
 use Rattle.slice_int.specs.Be.{be_from, be, be_at, bytes_of}
-use Rattle.hours.specs.declared.EarliestAnswer.TheVariants.{At, NoneOpen}
 use Rattle.hours.specs.Contract.{span_of, spans_of, term_count, window_count, terms_of, windows_of, ok_spans, is_contract}
 use Rattle.hours.specs.Hours.{Earliest}
 use Rattle.hours.specs.Steps.{shape_of, wait_for, least_wait, first_from, first_in, first_of}
@@ -23,15 +23,15 @@ is-contract = shaped contract 1 4 refl
 
 pub record EarliestRows : Type 0 where
   -- from the first second of time on: Thursday 2024-02-29 06:00:00
-  pub from_zero : Earliest contract 0 (At 762501600)
+  pub from_zero : Earliest contract 0 (Ok (Some 762501600))
   -- an open second is its own answer: the last one before Thursday's end, at 08:59:59
-  pub itself : Earliest contract 762512399 (At 762512399)
+  pub itself : Earliest contract 762512399 (Ok (Some 762512399))
   -- from that end on: Friday 2024-03-01 22:00:00
-  pub next-window : Earliest contract 762512400 (At 762645600)
+  pub next-window : Earliest contract 762512400 (Ok (Some 762645600))
   -- the week's turn
-  pub turn : Earliest contract 762652800 (At 762652800)
+  pub turn : Earliest contract 762652800 (Ok (Some 762652800))
   -- behind Saturday's window the term ends before another starts
-  pub none : Earliest contract 762656400 NoneOpen
+  pub none : Earliest contract 762656400 (Ok None)
 
 pub earliest-rows : EarliestRows
 unfolding be_from be be_at bytes_of span_of spans_of wait_for least_wait first_from first_in first_of

@@ -4,6 +4,7 @@
 -- `first-term`), some terms (`first-terms`); the answers (`open_told`, `open-not`, `earliest-at`, `earliest-none`),
 -- and that no two answers meet `Earliest` (`earliest-one`).
 -- Assumes nothing.
+use Rattle.std.specs.Prelude.{Option, Some, None, Result, Ok, Err}
 use Prim.Native.Nat.{ℕ, ◌+◌, ◌-◌, ◌*◌, ◌%◌, ◌≤◌, ◌<◌, min, max}
 use native.Mathlib.Omega.{arith}
 use mathlib.Core.Path.{◌≡◌, refl, sym, ap, ◌∙◌, subst}
@@ -16,9 +17,6 @@ use borrow.Author.Tests.{le-leb, leb-true, leb-false, lt-ltb, ltb-true, ltb-fals
 use Rattle.slice.specs.BoolLaws.{both_true}
 use Rattle.refusal.specs.declared.Refusal.TheVariants.{InvalidContract}
 use Rattle.hours.specs.declared.Span.{Span}
-use Rattle.hours.specs.declared.OpenAnswer.TheVariants as answer
-use Rattle.hours.specs.declared.EarliestAnswer.{EarliestAnswer}
-use Rattle.hours.specs.declared.EarliestAnswer.TheVariants.{At, NoneOpen, Refused}
 use Rattle.hours.specs.Contract.{largest, spans_of, windows_of, ok_spans, is_contract}
 use Rattle.hours.specs.Hours.{holds, any_holds, open_in, is_open_at, open_answer, Earliest}
 use Rattle.hours.specs.Steps.{wait_for, least_wait, first_from, first_in, first_of}
@@ -26,6 +24,7 @@ use Rattle.hours.proofs.SpanLaws.{Fine, ok-first, holds-found, holds-further, ho
 use Rattle.hours.proofs.SpanLaws.{wait-none, of_none}
 use Rattle.hours.proofs.SpanLaws.{wait-there, wait-week, wait-soon, first-late, first-there, first-not, first-in}
 use Rattle.hours.proofs.SpanLaws.{Shaped}
+use Rattle.refusal.specs.declared.Refusal.{Refusal}
 
 -- ---- what `holds` says
 
@@ -297,11 +296,11 @@ module _ (l : List ℕ) (t m n : ℕ) (h : Shaped l m n) where
       ∙ ap (λ (ws : List Span). open_in (spans_of m (drop 4 l)) ws u) h.windows-are
 
   pub open-windows : any_holds (spans_of m (drop 4 l)) t ≡ true
-      → (b : Bool) → b ≡ any_holds (spans_of n (drop (4 + 16 * m) l)) (t % 604800) → answer.Answered b ≡ open_answer l t
+      → (b : Bool) → b ≡ any_holds (spans_of n (drop (4 + 16 * m) l)) (t % 604800) → Ok b ≡ open_answer l t
   unfolding open_answer open_in
   open-windows e b f = simp (h.valid, opens-are t, e, ← f)
 
-  pub open-terms : any_holds (spans_of m (drop 4 l)) t ≡ false → answer.Answered false ≡ open_answer l t
+  pub open-terms : any_holds (spans_of m (drop 4 l)) t ≡ false → Ok false ≡ open_answer l t
   unfolding open_answer open_in
   open-terms e = simp (h.valid, opens-are t, e)
 
@@ -313,7 +312,7 @@ module _ (l : List ℕ) (t m n : ℕ) (h : Shaped l m n) where
     first-b : FirstOf (spans_of m (drop 4 l)) (spans_of n (drop (4 + 16 * m) l)) t b
     first-b = subst (FirstOf (spans_of m (drop 4 l)) (spans_of n (drop (4 + 16 * m) l)) t) (sym e) firsts
 
-    pub earliest-at : b < largest → Earliest l t (At b)
+    pub earliest-at : b < largest → Earliest l t (Ok (Some b))
     unfolding Earliest
     earliest-at k = (
       h.valid,
@@ -324,7 +323,7 @@ module _ (l : List ℕ) (t m n : ℕ) (h : Shaped l m n) where
       },
     )
 
-    pub earliest-none : b ≡ largest → Earliest l t NoneOpen
+    pub earliest-none : b ≡ largest → Earliest l t (Ok None)
     unfolding Earliest open_in
     earliest-none k = (
       h.valid,
@@ -335,26 +334,26 @@ module _ (l : List ℕ) (t m n : ℕ) (h : Shaped l m n) where
     )
 
 module _ (l : List ℕ) (t : ℕ) (e : is_contract l ≡ false) where
-  pub open-not : answer.Refused InvalidContract ≡ open_answer l t
+  pub open-not : Err InvalidContract ≡ open_answer l t
   unfolding open_answer
   open-not = simp e
 
-  pub earliest-not : Earliest l t (Refused InvalidContract)
+  pub earliest-not : Earliest l t (Err InvalidContract)
   unfolding Earliest
   earliest-not = (e, refl)
 
 -- no two answers meet `Earliest`
-pub earliest-one : (l : List ℕ) (t : ℕ) (x y : EarliestAnswer) → Earliest l t x → Earliest l t y → x ≡ y
+pub earliest-one : (l : List ℕ) (t : ℕ) (x y : Result (Option ℕ) Refusal) → Earliest l t x → Earliest l t y → x ≡ y
 unfolding Earliest
-earliest-one l t (Refused a) (Refused b) p q = ap Refused (p.1 ∙ sym q.1)
-earliest-one l t (Refused a) (At s) p q = absurd (not-both q.0 p.0)
-earliest-one l t (Refused a) NoneOpen p q = absurd (not-both q.0 p.0)
-earliest-one l t (At s) (Refused b) p q = absurd (not-both p.0 q.0)
-earliest-one l t (At s) (At u) p q =
+earliest-one l t (Err a) (Err b) p q = ap Err (p.1 ∙ sym q.1)
+earliest-one l t (Err a) (Ok (Some s)) p q = absurd (not-both q.0 p.0)
+earliest-one l t (Err a) (Ok None) p q = absurd (not-both q.0 p.0)
+earliest-one l t (Ok (Some s)) (Err b) p q = absurd (not-both p.0 q.0)
+earliest-one l t (Ok (Some s)) (Ok (Some u)) p q =
     let e : s ≡ u =
     omega (arith, p.1.least u q.1.not-before q.1.is_open, q.1.least s p.1.not-before p.1.is_open) in
-    ap At e
-earliest-one l t (At s) NoneOpen p q = absurd (q.1 s p.1.not-before p.1.is_open)
-earliest-one l t NoneOpen (Refused b) p q = absurd (not-both p.0 q.0)
-earliest-one l t NoneOpen (At u) p q = absurd (p.1 u q.1.not-before q.1.is_open)
-earliest-one l t NoneOpen NoneOpen p q = refl
+    ap Ok (Some e)
+earliest-one l t (Ok (Some s)) (Ok None) p q = absurd (q.1 s p.1.not-before p.1.is_open)
+earliest-one l t (Ok None) (Err b) p q = absurd (not-both p.0 q.0)
+earliest-one l t (Ok None) (Ok (Some u)) p q = absurd (p.1 u q.1.not-before q.1.is_open)
+earliest-one l t (Ok None) (Ok None) p q = refl

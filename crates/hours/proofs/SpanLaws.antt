@@ -5,6 +5,7 @@
 -- `holds-found`, ..); the cases of `shape_of` (`shape-short` to `shape-valid`) and what it says (`Shaped`, `shaped`,
 -- `not-shaped`).
 -- Assumes nothing.
+use Rattle.std.specs.Prelude.{Some, None}
 use Prim.Native.Nat.{ℕ, ◌+◌, ◌-◌, ◌*◌, ◌%◌, ◌≤◌, ◌<◌, min, max}
 use native.Mathlib.Omega.{arith}
 use mathlib.Core.Path.{◌≡◌, refl, sym, ap, ◌∙◌}
@@ -19,7 +20,6 @@ use Rattle.slice.proofs.TestLaws.{cond-first, cond-second}
 use Rattle.slice_int.specs.Be.{be_at}
 pub use Rattle.slice_int.proofs.RowLaws.{Row, row-none, row_at}
 use Rattle.hours.specs.declared.Span.{Span}
-use Rattle.hours.specs.declared.Shape.TheVariants.{Counts, Malformed}
 use Rattle.hours.specs.Contract.{week, largest, span_of, spans_of, term_count, window_count, terms_of, windows_of}
 use Rattle.hours.specs.Contract.{ok_spans, is_contract}
 use Rattle.hours.specs.Hours.{holds, any_holds}
@@ -164,7 +164,7 @@ first-in x ws t low e = ap (λ (k : ℕ). first_from k x.end ws) e
 -- ---- bytes as a contract
 
 module _ (l : List ℕ) where
-  not-contract : is_contract l ≡ false → Malformed ≡ shape_of l
+  not-contract : is_contract l ≡ false → None ≡ shape_of l
   unfolding shape_of
   not-contract e = rw e
 
@@ -172,7 +172,7 @@ module _ (l : List ℕ) where
   unfolding is_contract
   sizes-differ h = simp (ne_eqb (4 + 16 * (term_count l + window_count l)) (length l) h, and-false)
 
-  pub shape-short : length l < 4 → Malformed ≡ shape_of l
+  pub shape-short : length l < 4 → None ≡ shape_of l
   shape-short h = not-contract (sizes-differ (λ e. omega arith))
 
   module _ (m n : ℕ) (em : m ≡ be_at 2 l 0) (en : n ≡ be_at 2 l 2) where
@@ -184,11 +184,11 @@ module _ (l : List ℕ) where
     unfolding window_count
     windows-are = sym en
 
-    pub shape-terms : 64 < m → Malformed ≡ shape_of l
+    pub shape-terms : 64 < m → None ≡ shape_of l
     unfolding is_contract
     shape-terms h = not-contract (simp (terms-are, lt-leb m 64 h))
 
-    pub shape-windows : 28 < n → Malformed ≡ shape_of l
+    pub shape-windows : 28 < n → None ≡ shape_of l
     unfolding is_contract
     shape-windows h = not-contract (simp (windows-are, lt-leb n 28 h, and-false))
 
@@ -196,7 +196,7 @@ module _ (l : List ℕ) where
     size_is =
         ap (λ (k : ℕ). 4 + 16 * (k + window_count l)) terms-are ∙ ap (λ (k : ℕ). 4 + 16 * (m + k)) windows-are
 
-    pub shape-length : (length l ≡ 4 + 16 * (m + n) → ⊥) → Malformed ≡ shape_of l
+    pub shape-length : (length l ≡ 4 + 16 * (m + n) → ⊥) → None ≡ shape_of l
     shape-length h = not-contract (sizes-differ (λ e. h (sym e ∙ size_is)))
 
     term-spans : terms_of l ≡ spans_of m (drop 4 l)
@@ -209,19 +209,19 @@ module _ (l : List ℕ) where
         ap (λ (k : ℕ). spans_of k (drop (4 + 16 * term_count l) l)) windows-are
         ∙ ap (λ (k : ℕ). spans_of n (drop (4 + 16 * k) l)) terms-are
 
-    pub shape-bad-term : (b : Bool) → b ≡ ok_spans largest (spans_of m (drop 4 l)) → b ≡ false → Malformed ≡ shape_of l
+    pub shape-bad-term : (b : Bool) → b ≡ ok_spans largest (spans_of m (drop 4 l)) → b ≡ false → None ≡ shape_of l
     unfolding is_contract
     shape-bad-term b e f = not-contract (simp (term-spans, ← e, f, and-false))
 
     pub shape-bad-window : (b : Bool) → b ≡ ok_spans week (spans_of n (drop (4 + 16 * m) l)) → b ≡ false
-        → Malformed ≡ shape_of l
+        → None ≡ shape_of l
     unfolding is_contract
     shape-bad-window b e f = not-contract (simp (window-spans, ← e, f, and-false))
 
     pub shape-valid : m ≤ 64 → n ≤ 28 → length l ≡ 4 + 16 * (m + n)
         → (b : Bool) → b ≡ ok_spans largest (spans_of m (drop 4 l)) → b ≡ true
         → (c : Bool) → c ≡ ok_spans week (spans_of n (drop (4 + 16 * m) l)) → c ≡ true
-        → Counts m n ≡ shape_of l
+        → Some (m, n) ≡ shape_of l
     unfolding shape_of is_contract
     shape-valid hm hn hl b eb fb c ec fc =
         let len = eq-eqb (4 + 16 * (m + n)) (length l) (sym hl) in
@@ -246,7 +246,7 @@ valid-shaped l h =
     let e : 4 + 16 * (term_count l + window_count l) ≡ length l = eqb-true _ _ c.0 in
     record { valid = h; terms-are = refl; windows-are = refl; inside = omega arith; terms-ok = d.0; windows-ok = d.1 }
 
-pub shaped : (l : List ℕ) (m n : ℕ) → Counts m n ≡ shape_of l → Shaped l m n
+pub shaped : (l : List ℕ) (m n : ℕ) → Some (m, n) ≡ shape_of l → Shaped l m n
 unfolding shape_of
 shaped l m n e =
     let p = cond-first (is_contract l) _ _ _ (λ q. let o : ◌≡◌ {A = ℕ} 0 1 = cc in omega arith) (sym e) in
@@ -255,6 +255,6 @@ shaped l m n e =
     let fn : window_count l ≡ n = cc in
     rw fm at (rw fn at (valid-shaped l p.0))
 
-pub not-shaped : (l : List ℕ) → Malformed ≡ shape_of l → is_contract l ≡ false
+pub not-shaped : (l : List ℕ) → None ≡ shape_of l → is_contract l ≡ false
 unfolding shape_of
 not-shaped l e = (cond-second (is_contract l) _ _ _ (λ q. let o : ◌≡◌ {A = ℕ} 0 1 = cc in omega arith) (sym e)).0

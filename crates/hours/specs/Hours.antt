@@ -4,15 +4,12 @@
 -- The earliest second is said as what it is, the least of a set of seconds, and not by a way to find it;
 -- `earliest-one` of proofs/HoursLaws shows that no two answers meet it. specs/Rows has worked cases.
 -- Assumes nothing.
-use Rattle.std.specs.Prelude.{ℕ, ◌%◌, ◌≤◌, ◌≡◌, Bool, true, false, ◌&&◌, ◌||◌, List, [], ◌∷◌, leb, ltb}
+use Rattle.std.specs.Prelude.{ℕ, ◌%◌, ◌≤◌, ◌≡◌, Bool, true, false, ◌&&◌, ◌||◌, List, [], ◌∷◌, leb, ltb, Option, Some, None, Result, Ok, Err}
 use Rattle.refusal.specs.declared.Refusal.TheVariants.{InvalidContract}
 use Rattle.refusal.specs.Steps.{◌>>◌, refuse_unless}
 use Rattle.hours.specs.declared.Span.{Span}
-use Rattle.hours.specs.declared.OpenAnswer.{OpenAnswer}
-use Rattle.hours.specs.declared.OpenAnswer.TheVariants as answer
-use Rattle.hours.specs.declared.EarliestAnswer.{EarliestAnswer}
-use Rattle.hours.specs.declared.EarliestAnswer.TheVariants.{At, NoneOpen, Refused}
 use Rattle.hours.specs.Contract.{week, terms_of, windows_of, is_contract}
+use Rattle.refusal.specs.declared.Refusal.{Refusal}
 
 -- "Start is inside, end is outside"
 abbrev pub holds : Span → ℕ → Bool
@@ -35,10 +32,10 @@ unfoldable pub is_open_at : (contract : List ℕ) (t : ℕ) → Bool
 is_open_at contract t = open_in (terms_of contract) (windows_of contract) t
 
 -- "whether a second is open"; 35 is "the only test"
-unfoldable pub open_answer : (contract : List ℕ) (t : ℕ) → OpenAnswer
+unfoldable pub open_answer : (contract : List ℕ) (t : ℕ) → Result Bool Refusal
 open_answer contract t = do
-  refuse_unless answer.Refused (is_contract contract) InvalidContract  -- 35
-  answer.Answered (is_open_at contract t)
+  refuse_unless Err (is_contract contract) InvalidContract  -- 35
+  Ok (is_open_at contract t)
 
 -- ---- the earliest
 
@@ -53,7 +50,7 @@ abbrev pub Never : (ℕ → Bool) → ℕ → Type 0
 Never opens t = (u : ℕ) → t ≤ u → opens u ≡ true → ⊥
 
 -- "the earliest open second not before a given one, or none if there is none"; 35 is "the only test"
-unfoldable pub Earliest : (contract : List ℕ) (t : ℕ) → EarliestAnswer → Type 0
-Earliest contract t (Refused x) = (is_contract contract ≡ false) × (x ≡ InvalidContract)
-Earliest contract t (At s) = (is_contract contract ≡ true) × Least (is_open_at contract) t s
-Earliest contract t NoneOpen = (is_contract contract ≡ true) × Never (is_open_at contract) t
+unfoldable pub Earliest : (contract : List ℕ) (t : ℕ) → Result (Option ℕ) Refusal → Type 0
+Earliest contract t (Err x) = (is_contract contract ≡ false) × (x ≡ InvalidContract)
+Earliest contract t (Ok (Some s)) = (is_contract contract ≡ true) × Least (is_open_at contract) t s
+Earliest contract t (Ok None) = (is_contract contract ≡ true) × Never (is_open_at contract) t

@@ -2,11 +2,10 @@
 -- the leap day of 2024, the week's turn, and bytes that are 35. The seconds since 2000-01-01 are those of Python's
 -- datetime. The earliest second of the same contract: proofs/EarliestRows.
 -- Assumes nothing.
-use Rattle.std.specs.Prelude.{ℕ, ◌≡◌, refl, true, false, List, [], ◌∷◌, ◌++◌, length, replicate}
+use Rattle.std.specs.Prelude.{ℕ, ◌≡◌, refl, true, false, List, [], ◌∷◌, ◌++◌, length, replicate, Ok, Err}
 use Rattle.slice_int.specs.Be.{be_from, be, be_at, bytes_of}
 use Rattle.refusal.specs.declared.Refusal.TheVariants.{InvalidContract}
 use Rattle.hours.specs.declared.Span.{Span}
-use Rattle.hours.specs.declared.OpenAnswer.TheVariants as answer
 use Rattle.hours.specs.Contract.{span_of, spans_of, term_count, window_count, terms_of, windows_of, ok_spans, is_contract}
 use Rattle.hours.specs.Hours.{any_holds, second_of_week, open_in, is_open_at, open_answer}
 
@@ -96,13 +95,13 @@ instant = span 0 1
 
 pub record ByteRows : Type 0 where
   -- Friday 23:59:59, Saturday 01:00:00; neither terms nor windows
-  pub inside : open_answer (contract_bytes leap_day weekly) 762652799 ≡ answer.Answered true
-  pub outside : open_answer (contract_bytes leap_day weekly) 762656400 ≡ answer.Answered false
-  pub bare : open_answer (contract_bytes [] []) 0 ≡ answer.Answered false
+  pub inside : open_answer (contract_bytes leap_day weekly) 762652799 ≡ Ok true
+  pub outside : open_answer (contract_bytes leap_day weekly) 762656400 ≡ Ok false
+  pub bare : open_answer (contract_bytes [] []) 0 ≡ Ok false
   -- the most terms and windows, and one more
-  pub most : open_answer (contract_bytes (replicate 64 instant) (replicate 28 instant)) 0 ≡ answer.Answered true
-  pub terms-65 : open_answer (contract_bytes (replicate 65 instant) []) 0 ≡ answer.Refused InvalidContract
-  pub windows-29 : open_answer (contract_bytes [] (replicate 29 instant)) 0 ≡ answer.Refused InvalidContract
+  pub most : open_answer (contract_bytes (replicate 64 instant) (replicate 28 instant)) 0 ≡ Ok true
+  pub terms-65 : open_answer (contract_bytes (replicate 65 instant) []) 0 ≡ Err InvalidContract
+  pub windows-29 : open_answer (contract_bytes [] (replicate 29 instant)) 0 ≡ Err InvalidContract
   -- a window that ends with the week, and a second later; ends at the start, of a term and of a window
   pub week-end : is_contract (contract_bytes [] (span 604799 604800 ∷ [])) ≡ true
   pub beyond : is_contract (contract_bytes [] (span 604799 604801 ∷ [])) ≡ false

@@ -3,15 +3,13 @@
 -- The steps of the program: how long to wait for a window, for the first of some, and the first open second of a term
 -- and of some. `largest` stands for none: no second of a term is that late.
 -- Assumes nothing.
-use Rattle.std.specs.Prelude.{ℕ, ◌+◌, ◌-◌, min, max, cond, List, [], ◌∷◌, leb, ltb}
+use Rattle.std.specs.Prelude.{ℕ, ◌+◌, ◌-◌, min, max, cond, List, [], ◌∷◌, leb, ltb, Option, Some, None}
 use Rattle.hours.specs.declared.Span.{Span}
-use Rattle.hours.specs.declared.Shape.{Shape}
-use Rattle.hours.specs.declared.Shape.TheVariants.{Counts, Malformed}
 use Rattle.hours.specs.Contract.{week, largest, term_count, window_count, is_contract}
 use Rattle.hours.specs.Hours.{second_of_week}
 
-unfoldable pub shape_of : List ℕ → Shape
-shape_of l = cond (is_contract l) (Counts (term_count l) (window_count l)) Malformed
+unfoldable pub shape_of : List ℕ → Option (ℕ × ℕ)
+shape_of l = cond (is_contract l) (Some (term_count l, window_count l)) None
 
 -- from a moment of the week to the window: it is there, or comes this week, or next week
 unfoldable pub wait_for : (window : Span) (moment : ℕ) → ℕ

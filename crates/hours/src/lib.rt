@@ -27,34 +27,11 @@ const SPAN: usize = 16;
 // Stands for none: no term holds it, since ends are outside.
 const LARGEST: u64 = u64::MAX;
 
-#[derive(Clone, Copy)]
-pub enum OpenAnswer {
-    // Whether the second is open.
-    Answered(bool),
-    Refused(Refusal),
-}
-
-#[derive(Clone, Copy)]
-pub enum EarliestAnswer {
-    At(u64),
-    // No second from the one given on is open.
-    NoneOpen,
-    Refused(Refusal),
-}
-
 // A term or a weekly window: the start is inside, the end is outside.
 #[derive(Clone, Copy)]
 pub struct Span {
     pub start: u64,
     pub end: u64,
-}
-
-// What bytes are.
-#[derive(Clone, Copy)]
-pub enum Shape {
-    // A contract: how many terms and how many windows it has.
-    Counts(usize, usize),
-    Malformed,
 }
 
 // The span in the 16 bytes from a place on.
@@ -117,44 +94,44 @@ fn any_holds(s: &[u8], at: usize, n: usize, second: u64) -> bool
 }
 
 // Counts, lengths, and every span: what 35 tests.
-fn read_contract(contract: &[u8]) -> Shape
+fn read_contract(contract: &[u8]) -> Option<(usize, usize)>
     ensures { result ≡ shape_of contract.now }
 {
     if contract.len() < HEAD {
-        return Shape::Malformed;
+        return None;
     }
     let terms = slice_int::read_u16(contract, 0) as usize;
     let windows = slice_int::read_u16(contract, 2) as usize;
     if MAX_TERMS < terms {
-        return Shape::Malformed;
+        return None;
     }
     if MAX_WINDOWS < windows {
-        return Shape::Malformed;
+        return None;
     }
     if contract.len() != HEAD + SPAN * (terms + windows) {
-        return Shape::Malformed;
+        return None;
     }
     if !spans_ok(contract, HEAD, terms, LARGEST) {
-        return Shape::Malformed;
+        return None;
     }
     if spans_ok(contract, HEAD + SPAN * terms, windows, WEEK) {
-        Shape::Counts(terms, windows)
+        Some((terms, windows))
     } else {
-        Shape::Malformed
+        None
     }
 }
 
 // Whether some term and some weekly window hold the second.
-pub fn is_open(contract: &[u8], second: u64) -> OpenAnswer
+pub fn is_open(contract: &[u8], second: u64) -> Result<bool, Refusal>
     ensures { result ≡ open_answer contract.now second }
 {
-    let Shape::Counts(terms, windows) = read_contract(contract) else {
-        return OpenAnswer::Refused(Refusal::InvalidContract);
+    let Some((terms, windows)) = read_contract(contract) else {
+        return Err(Refusal::InvalidContract);
     };
     if any_holds(contract, HEAD, terms, second) {
-        OpenAnswer::Answered(any_holds(contract, HEAD + SPAN * terms, windows, second % WEEK))
+        Ok(any_holds(contract, HEAD + SPAN * terms, windows, second % WEEK))
     } else {
-        OpenAnswer::Answered(false)
+        Ok(false)
     }
 }
 
@@ -226,16 +203,16 @@ fn first_of(s: &[u8], terms: usize, windows: usize, second: u64) -> u64
 }
 
 // The earliest open second not before the one given.
-pub fn earliest_open(contract: &[u8], second: u64) -> EarliestAnswer
+pub fn earliest_open(contract: &[u8], second: u64) -> Result<Option<u64>, Refusal>
     ensures { Earliest contract.now second result }
 {
-    let Shape::Counts(terms, windows) = read_contract(contract) else {
-        return EarliestAnswer::Refused(Refusal::InvalidContract);
+    let Some((terms, windows)) = read_contract(contract) else {
+        return Err(Refusal::InvalidContract);
     };
     let first = first_of(contract, terms, windows, second);
     if first == LARGEST {
-        EarliestAnswer::NoneOpen
+        Ok(None)
     } else {
-        EarliestAnswer::At(first)
+        Ok(Some(first))
     }
 }

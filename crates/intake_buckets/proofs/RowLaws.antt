@@ -5,6 +5,7 @@
 -- a value is found marked already (`marked-found`), behind the last row (`marked-last`), with one more row (`marked_next`); the ranges one by one
 -- against the segment's (`Within`): at the start, one that is outside, one that is inside, and the end.
 -- Assumes nothing.
+use Rattle.std.specs.Prelude.{Some, None}
 use Prim.Native.Nat.{ℕ, ◌+◌, ◌-◌, ◌≤◌, ◌<◌}
 use native.Mathlib.Nat.{add-sub_cancel_left}
 use native.Mathlib.Numerals.{add-one}
@@ -19,11 +20,9 @@ use Rattle.ranges.specs.Overlap.{any_overlap}
 use Rattle.ranges.proofs.OverlapLaws.{any_append}
 use Rattle.ranges_marks.specs.Marks.{AllValid, RowMarking}
 use Rattle.ranges_marks.proofs.RowLaws.{valid-left, Apart}
-use Rattle.wire_values.specs.declared.PartStep.TheVariants as step
 use Rattle.wire_values.specs.Places.{NextPart}
 use Rattle.wire_readers.specs.declared.IntRange.{IntRange}
 use Rattle.wire_readers.specs.Messages.{int_range_of}
-use Rattle.intake_content.specs.declared.Outside.TheVariants.{At, Nothing}
 use Rattle.intake_content.specs.Content.{bucket_of, first_outside, outside_of}
 use Rattle.intake_content.proofs.OutsideLaws.{outside_low, outside_high, outside-next}
 use Rattle.intake_buckets.specs.declared.Loaded.{Loaded}
@@ -42,7 +41,7 @@ loading-start p at row l = record { few = omega arith; long = l; split = refl }
 
 module _ {p : List ℕ} {at : ℕ} {row : List KeyRange} {count next : ℕ} (L : Loading p at row count next) where
   -- the range in the next part, `&p[start..start + len]`
-  pub loading-next : (start len after : ℕ) {r : IntRange} {k : KeyRange} → NextPart 5 p next (step.Found start len after)
+  pub loading-next : (start len after : ℕ) {r : IntRange} {k : KeyRange} → NextPart 5 p next (Some (start, len, after))
       → r ≡ int_range_of (take (start + len - start) (drop start p)) → k ≡ bucket_of r → count < 506
       → Loading p at (set row count k) (count + 1) after
   loading-next start len after {r} {k} q e f h =
@@ -56,7 +55,7 @@ module _ {p : List ℕ} {at : ℕ} {row : List KeyRange} {count next : ℕ} (L :
             (sym (append_snoc (take count row) k (buckets_from p after)));
       }
 
-  pub loaded-none : NextPart 5 p next step.Absent → LoadedIs p at (record { row = row; count = count; next = next })
+  pub loaded-none : NextPart 5 p next None → LoadedIs p at (record { row = row; count = count; next = next })
   loaded-none q = record { few = L.few; long = L.long; split = L.split; last = λ _. rw q }
 
   pub loaded-full : 506 ≤ count → LoadedIs p at (record { row = row; count = count; next = next })
@@ -130,11 +129,11 @@ pub within-start : (p : List ℕ) (range : KeyRange) → Within p range 0 0
 within-start p range = record { few = omega arith; left = refl }
 
 module _ {p : List ℕ} {range : KeyRange} {index at : ℕ} (W : Within p range index at) where
-  pub within_end : NextPart 5 p at step.Absent → Nothing ≡ outside_of (first_outside range 0 (buckets_from p 0))
+  pub within_end : NextPart 5 p at None → None ≡ outside_of (first_outside range 0 (buckets_from p 0))
   unfolding first_outside
   within_end q = sym (ap outside_of W.left ∙ rw q)
 
-  module _ (start len after : ℕ) {r : IntRange} {k : KeyRange} (q : NextPart 5 p at (step.Found start len after))
+  module _ (start len after : ℕ) {r : IntRange} {k : KeyRange} (q : NextPart 5 p at (Some (start, len, after)))
       (e : r ≡ int_range_of (take (start + len - start) (drop start p))) (f : k ≡ bucket_of r) where
     next-is : buckets_from p at ≡ k ∷ buckets_from p after
     next-is = rw (q.3, f, e, add-sub_cancel_left start len)
@@ -142,11 +141,11 @@ module _ {p : List ℕ} {range : KeyRange} {index at : ℕ} (W : Within p range 
     opened : first_outside range 0 (buckets_from p 0) ≡ first_outside range index (k ∷ buckets_from p after)
     opened = W.left ∙ ap (first_outside range index) next-is
 
-    pub within_low : k.start < range.start → At index ≡ outside_of (first_outside range 0 (buckets_from p 0))
+    pub within_low : k.start < range.start → Some index ≡ outside_of (first_outside range 0 (buckets_from p 0))
     within_low h = sym (ap outside_of (opened ∙ outside_low range index k _ h))
 
     module _ (h : range.start ≤ k.start) where
-      pub within-high : range.end < k.end → At index ≡ outside_of (first_outside range 0 (buckets_from p 0))
+      pub within-high : range.end < k.end → Some index ≡ outside_of (first_outside range 0 (buckets_from p 0))
       within-high i = sym (ap outside_of (opened ∙ outside_high range index k _ h i))
 
       pub within-next : k.end ≤ range.end → Within p range (index + 1) after

@@ -11,10 +11,8 @@ ghost use Rattle.ranges_marks.specs.Marks.{AllValid};
 ghost use Rattle.intake_content.specs.Content.{first_outside, outside_of};
 ghost use Rattle.intake_buckets.specs.Rows.{buckets_from, LoadedIs};
 
-use intake_content::Outside;
 use ranges_marks::ROW;
 use topic_types::KeyRange;
-use wire_values::PartStep;
 
 // As many ranges as a segment of a packed assignment can have, the place in the segment's bytes behind them.
 #[derive(Clone, Copy)]
@@ -33,10 +31,10 @@ fn load_row(p: &[u8], at: usize) -> Loaded
     let mut next = at;
     while count < ROW {
         match wire_values::next_part(p, next, 5) {
-            PartStep::Absent => {
+            None => {
                 return Loaded { row, count, next };
             }
-            PartStep::Found(start, len, after) => {
+            Some((start, len, after)) => {
                 let r = intake_scan::read_bucket(&p[start..start + len]);
                 row[count] = intake_scan::key_range_of(r);
                 count = count + 1;
@@ -69,24 +67,24 @@ pub fn buckets_overlap(p: &[u8]) -> bool
 }
 
 // The first bucket of the segment p that lies not wholly inside the range.
-pub fn first_outside(p: &[u8], range: KeyRange) -> Outside
+pub fn first_outside(p: &[u8], range: KeyRange) -> Option<usize>
     ensures { result ≡ outside_of (first_outside range 0 (buckets_from p.now 0)) }
 {
     let mut index: usize = 0;
     let mut at: usize = 0;
     loop {
         match wire_values::next_part(p, at, 5) {
-            PartStep::Absent => {
-                return Outside::Nothing;
+            None => {
+                return None;
             }
-            PartStep::Found(start, len, after) => {
+            Some((start, len, after)) => {
                 let r = intake_scan::read_bucket(&p[start..start + len]);
                 let bucket = intake_scan::key_range_of(r);
                 if bucket.start < range.start {
-                    return Outside::At(index);
+                    return Some(index);
                 }
                 if range.end < bucket.end {
-                    return Outside::At(index);
+                    return Some(index);
                 }
                 index = index + 1;
                 at = after;

@@ -4,12 +4,12 @@
 -- over the segments as they came (`content-size`); one that is taken is a packed assignment that fits its widths (`content-fits`), of the
 -- same epoch (`content-epoch`); segments that pass and come in id order are taken as they are (`content-rising`).
 -- Assumes nothing.
+use Rattle.std.specs.Prelude.{Option, Some, None}
 use Prim.Native.Nat.{ℕ, ◌+◌, ◌≤◌, ◌<◌}
 use native.Mathlib.Omega.{arith}
 use mathlib.Core.Path.{◌≡◌, refl, sym, ap, ◌∙◌, subst}
 use mathlib.Core.Bool.{Bool, true, false}
 use mathlib.Core.List.{List, [], map}
-use mathlib.Core.Option.{Option, some, none}
 use lib.Dec.{leb}
 use borrow.Author.Tests.{le-leb, lt-leb, leb-true}
 use Rattle.slice.specs.BoolLaws.{both_true}
@@ -25,16 +25,16 @@ use Rattle.intake_content.proofs.OrderLaws.{Passing, order-size, order-ok, order
 
 -- an assignment that is taken
 pub record Took (parent : List ℕ) (a : WireAssignment) (y : ConsumerAssignment) : Type 0 where
-  pub first : first_refusal parent [] a.segments ≡ none
+  pub first : first_refusal parent [] a.segments ≡ None
   pub fits : size_assignment (consumer_assignment a) ≤ slot_size
   pub is : consumer_assignment a ≡ y
 
 module _ (parent : List ℕ) (a : WireAssignment) where
-  pub content-refused : (x : Refusal) → first_refusal parent [] a.segments ≡ some x → content_of parent a ≡ refused x
+  pub content-refused : (x : Refusal) → first_refusal parent [] a.segments ≡ Some x → content_of parent a ≡ refused x
   unfolding content_of
   content-refused x e = rw e
 
-  module _ (e : first_refusal parent [] a.segments ≡ none) where
+  module _ (e : first_refusal parent [] a.segments ≡ None) where
     pub content-long : slot_size < size_assignment (consumer_assignment a) → content_of parent a ≡ refused AssignmentTooLong
     unfolding content_of
     content-long h = simp (e, lt-leb (size_assignment (consumer_assignment a)) slot_size h)
@@ -67,10 +67,10 @@ module _ (parent : List ℕ) (a : WireAssignment) where
       go : (o : Option Refusal) → first_refusal parent [] a.segments ≡ o
           → (t : Bool) → leb (size_assignment (consumer_assignment a)) slot_size ≡ t
           → content_by o (consumer_assignment a) ≡ taken y → Took parent a y
-      go (some x) p t q f = let z : ◌≡◌ {A = ℕ} 0 1 = cc in absurd (omega arith)
-      go none p true q f =
+      go (Some x) p t q f = let z : ◌≡◌ {A = ℕ} 0 1 = cc in absurd (omega arith)
+      go None p true q f =
           let g : taken (consumer_assignment a) ≡ taken y = rw q at f in record { first = p; fits = leb-true _ _ q; is = cc }
-      go none p false q f =
+      go None p false q f =
           let g : refused AssignmentTooLong ≡ taken y = rw q at f in let z : ◌≡◌ {A = ℕ} 0 1 = cc in absurd (omega arith)
 
   pub content-fits : Wide a → (y : ConsumerAssignment) → content_of parent a ≡ taken y → FitAssignment y × (ok_assignment y ≡ true)

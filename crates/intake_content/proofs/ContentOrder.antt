@@ -5,11 +5,12 @@
 -- none in another (`none-shuffled`); two segments with other ids put in their places (`insert-swap`), and all of them
 -- (`order-shuffled`); what they come to (`content-shuffled`, `taken-shuffled`).
 -- Assumes nothing.
+use Rattle.std.specs.Prelude.{Option, Some, None}
 use Prim.Native.Nat.{ℕ}
 use mathlib.Core.Path.{◌≡◌, refl, sym, ap, ◌∙◌}
 use mathlib.Core.Bool.{Bool, true, false, cond, true≢false}
 use mathlib.Core.List.{List, [], ◌∷◌}
-use mathlib.Core.Option.{Option, some, none, some-ne-none}
+use Rattle.std.proofs.lemmas.Option.{none-some}
 use lib.Dec.{eqb}
 use borrow.Author.Tests.{eqb-true, eqb-false, ne_eqb}
 use Rattle.refusal.specs.declared.Refusal.{Refusal}
@@ -32,7 +33,7 @@ Same s t = (k : ℕ) → holds self k s ≡ holds self k t
 same-cons : (i : ℕ) (s t : List ℕ) → Same s t → Same (i ∷ s) (i ∷ t)
 same-cons i s t h k = go (eqb k i)
   where
-    go : (b : Bool) → is_some (cond b (some i) (find self k s)) ≡ is_some (cond b (some i) (find self k t))
+    go : (b : Bool) → is_some (cond b (Some i) (find self k s)) ≡ is_some (cond b (Some i) (find self k t))
     go true = refl
     go false = h k
 
@@ -40,8 +41,8 @@ same-swap : (i j : ℕ) (s : List ℕ) → Same (i ∷ j ∷ s) (j ∷ i ∷ s)
 same-swap i j s k = go (eqb k i) (eqb k j)
   where
     go : (a b : Bool)
-        → is_some (cond a (some i) (cond b (some j) (find self k s)))
-        ≡ is_some (cond b (some j) (cond a (some i) (find self k s)))
+        → is_some (cond a (Some i) (cond b (Some j) (find self k s)))
+        ≡ is_some (cond b (Some j) (cond a (Some i) (find self k s)))
     go true true = refl
     go true false = refl
     go false true = refl
@@ -62,7 +63,7 @@ seen_same parent s t (w ∷ ws) h =
 apart : (i j : ℕ) (s : List ℕ) → holds self i (j ∷ s) ≡ false → (eqb i j ≡ false) × (holds self i s ≡ false)
 apart i j s h = go (eqb i j) refl h
   where
-    go : (b : Bool) → eqb i j ≡ b → is_some (cond b (some j) (find self i s)) ≡ false
+    go : (b : Bool) → eqb i j ≡ b → is_some (cond b (Some j) (find self i s)) ≡ false
         → (eqb i j ≡ false) × (holds self i s ≡ false)
     go true e f = absurd (true≢false f)
     go false e f = (e, f)
@@ -74,8 +75,8 @@ beyond : (i j : ℕ) (s : List ℕ) → eqb i j ≡ false → holds self i s ≡
 beyond i j s e h = rw e h
 
 module _ (parent : List ℕ) where
-  none-shuffled : {ws vs : List WireSegment} → Shuffled ws vs → (seen : List ℕ) → first_refusal parent seen ws ≡ none
-      → first_refusal parent seen vs ≡ none
+  none-shuffled : {ws vs : List WireSegment} → Shuffled ws vs → (seen : List ℕ) → first_refusal parent seen ws ≡ None
+      → first_refusal parent seen vs ≡ None
   none-shuffled nil seen e = e
   none-shuffled (cons w {xs} {ys} r) seen e =
       let f : First parent seen w xs = refusal-none parent seen w xs e in
@@ -103,14 +104,14 @@ insert-swap g h done n r =
     (rising-insert id_of g (insert id_of h done) (rising-insert id_of h done r))
     (λ k.
     find-insert id_of k h (insert id_of g done)
-    ∙ ap (cond (eqb k h.segment_id) (some h)) (find-insert id_of k g done)
+    ∙ ap (cond (eqb k h.segment_id) (Some h)) (find-insert id_of k g done)
     ∙ go k (eqb k g.segment_id) refl (eqb k h.segment_id) refl
-    ∙ sym (ap (cond (eqb k g.segment_id) (some g)) (find-insert id_of k h done))
+    ∙ sym (ap (cond (eqb k g.segment_id) (Some g)) (find-insert id_of k h done))
     ∙ sym (find-insert id_of k g (insert id_of h done)))
   where
     go : (k : ℕ) (a : Bool) → eqb k g.segment_id ≡ a → (b : Bool) → eqb k h.segment_id ≡ b
-        → cond (eqb k h.segment_id) (some h) (cond (eqb k g.segment_id) (some g) (find id_of k done))
-        ≡ cond (eqb k g.segment_id) (some g) (cond (eqb k h.segment_id) (some h) (find id_of k done))
+        → cond (eqb k h.segment_id) (Some h) (cond (eqb k g.segment_id) (Some g) (find id_of k done))
+        ≡ cond (eqb k g.segment_id) (Some g) (cond (eqb k h.segment_id) (Some h) (find id_of k done))
     go k true p true q =
         let e : g.segment_id ≡ h.segment_id = sym (eqb-true k g.segment_id p) ∙ eqb-true k h.segment_id q in
         absurd (eqb-false g.segment_id h.segment_id n e)
@@ -119,7 +120,7 @@ insert-swap g h done n r =
     go k false p false q = simp (p, q)
 
 module _ (parent : List ℕ) where
-  order-shuffled : {ws vs : List WireSegment} → Shuffled ws vs → (seen : List ℕ) → first_refusal parent seen ws ≡ none
+  order-shuffled : {ws vs : List WireSegment} → Shuffled ws vs → (seen : List ℕ) → first_refusal parent seen ws ≡ None
       → (done : List AssignedSegment) → Rising id_of done → in_id_order done ws ≡ in_id_order done vs
   unfolding in_id_order assigned_segment
   order-shuffled nil seen e done r = refl
@@ -151,13 +152,13 @@ module _ (parent : List ℕ) (a b : WireAssignment) (e : a.layout_epoch ≡ b.la
       go : (o : Option Refusal) → first_refusal parent [] a.segments ≡ o
           → (q : Option Refusal) → first_refusal parent [] b.segments ≡ q
           → AlikeContent (content_of parent a) (content_of parent b)
-      go none p none q =
+      go None p None q =
           let i : in_id_order [] a.segments ≡ in_id_order [] b.segments = order-shuffled parent s [] p [] tt in
           let k : consumer_assignment a ≡ consumer_assignment b = cc in
           equal (cc)
-      go none p (some y) q = absurd (some-ne-none y (sym q ∙ none-shuffled parent s [] p))
-      go (some x) p none q = absurd (some-ne-none x (sym p ∙ none-shuffled parent (shuffled-sym s) [] q))
-      go (some x) p (some y) q = refusals x y (content-refused parent a x p) (content-refused parent b y q)
+      go None p (Some y) q = absurd (none-some y (sym (sym q ∙ none-shuffled parent s [] p)))
+      go (Some x) p None q = absurd (none-some x (sym (sym p ∙ none-shuffled parent (shuffled-sym s) [] q)))
+      go (Some x) p (Some y) q = refusals x y (content-refused parent a x p) (content-refused parent b y q)
 
   -- what is taken in one order is taken in another
   pub taken-shuffled : (y : ConsumerAssignment) → content_of parent b ≡ taken y → content_of parent a ≡ taken y

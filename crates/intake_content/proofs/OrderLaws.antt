@@ -6,12 +6,12 @@
 -- that they are valid (`order-ok`) and fit their widths (`order-fit`); segments that come in id order stay so (`order-rising`,
 -- `order-written`), and no id of theirs is refused (`refusal-rising`).
 -- Assumes nothing.
+use Rattle.std.specs.Prelude.{Option, Some, None}
 use Prim.Native.Nat.{ℕ, suc, ◌+◌, ◌*◌, ◌≤◌, ◌<◌}
 use native.Mathlib.Omega.{arith}
 use mathlib.Core.Path.{◌≡◌, refl, sym, ap, ◌∙◌, subst}
 use mathlib.Core.Bool.{Bool, true, false, cond, true≢false}
 use mathlib.Core.List.{List, [], ◌∷◌, ◌++◌, map, append_assoc, append-nil}
-use mathlib.Core.Option.{Option, some, none}
 use lib.ListN.{length}
 use lib.Dec.{ltb, eqb}
 use borrow.Author.Tests.{le-leb, le-ltb, ne_eqb}
@@ -33,26 +33,26 @@ use Rattle.intake_content.proofs.WideLaws.{WideSegment}
 
 -- a first segment that passes, and those behind it
 pub record First (parent seen : List ℕ) (w : WireSegment) (ws : List WireSegment) : Type 0 where
-  pub passes : segment_fault parent w ≡ none
+  pub passes : segment_fault parent w ≡ None
   pub new : holds self w.segment_id seen ≡ false
-  pub others : first_refusal parent (w.segment_id ∷ seen) ws ≡ none
+  pub others : first_refusal parent (w.segment_id ∷ seen) ws ≡ None
 
 module _ (parent seen : List ℕ) (w : WireSegment) (ws : List WireSegment) where
-  pub refusal-fault : (x : Refusal) → segment_fault parent w ≡ some x → first_refusal parent seen (w ∷ ws) ≡ some x
+  pub refusal-fault : (x : Refusal) → segment_fault parent w ≡ Some x → first_refusal parent seen (w ∷ ws) ≡ Some x
   unfolding first_refusal
   refusal-fault x e = rw e
 
-  pub refusal-duplicate : segment_fault parent w ≡ none → holds self w.segment_id seen ≡ true
-      → first_refusal parent seen (w ∷ ws) ≡ some (DuplicateSegment (wire_id w))
+  pub refusal-duplicate : segment_fault parent w ≡ None → holds self w.segment_id seen ≡ true
+      → first_refusal parent seen (w ∷ ws) ≡ Some (DuplicateSegment (wire_id w))
   unfolding first_refusal
   refusal-duplicate e h = simp (e, h)
 
-  pub refusal-next : segment_fault parent w ≡ none → holds self w.segment_id seen ≡ false
+  pub refusal-next : segment_fault parent w ≡ None → holds self w.segment_id seen ≡ false
       → first_refusal parent seen (w ∷ ws) ≡ first_refusal parent (w.segment_id ∷ seen) ws
   unfolding first_refusal
   refusal-next e h = simp (e, h)
 
-  pub refusal-none : first_refusal parent seen (w ∷ ws) ≡ none → First parent seen w ws
+  pub refusal-none : first_refusal parent seen (w ∷ ws) ≡ None → First parent seen w ws
   unfolding first_refusal
   refusal-none e =
       let later : Option Refusal = first_refusal parent (w.segment_id ∷ seen) ws in
@@ -60,7 +60,7 @@ module _ (parent seen : List ℕ) (w : WireSegment) (ws : List WireSegment) wher
       let q = or-both (duplicate_fault seen w) later p.1 in
       record {
         passes = p.0;
-        new = (if_none (holds self w.segment_id seen) (DuplicateSegment (wire_id w)) none q.0).0;
+        new = (if_none (holds self w.segment_id seen) (DuplicateSegment (wire_id w)) None q.0).0;
         others = q.1;
       }
 
@@ -78,7 +78,7 @@ module _ (seen : List ℕ) (done : List AssignedSegment) (s : SeenIds seen done)
   seen_next k = go (eqb k w.segment_id) ∙ sym (ap is_some (find-insert id_of k (assigned_segment w) done))
     where
       go : (t : Bool)
-          → is_some (cond t (some w.segment_id) (find self k seen)) ≡ is_some (cond t (some (assigned_segment w)) (find id_of k done))
+          → is_some (cond t (Some w.segment_id) (find self k seen)) ≡ is_some (cond t (Some (assigned_segment w)) (find id_of k done))
       go true = refl
       go false = s k
 
@@ -116,7 +116,7 @@ module _ (m : List AssignedSegment → ℕ) (c : AssignedSegment → ℕ) (nil :
       omega (arith, cons y (insert id_of g ys), cons y ys)))
 
   pub measure-order : (parent seen : List ℕ) (done : List AssignedSegment) (ws : List WireSegment) → SeenIds seen done
-      → first_refusal parent seen ws ≡ none → m (in_id_order done ws) ≡ m done + m (map assigned_segment ws)
+      → first_refusal parent seen ws ≡ None → m (in_id_order done ws) ≡ m done + m (map assigned_segment ws)
   unfolding in_id_order
   measure-order parent seen done [] s e = omega arith
   measure-order parent seen done (w ∷ ws) s e =
@@ -126,7 +126,7 @@ module _ (m : List AssignedSegment → ℕ) (c : AssignedSegment → ℕ) (nil :
       let r = measure-order parent (w.segment_id ∷ seen) (insert id_of g done) ws (seen_next seen done s w) f.others in
       omega (arith, cons g (map assigned_segment ws))
 
-module _ (parent : List ℕ) (ws : List WireSegment) (e : first_refusal parent [] ws ≡ none) where
+module _ (parent : List ℕ) (ws : List WireSegment) (e : first_refusal parent [] ws ≡ None) where
   pub order-size : size_segments (in_id_order [] ws) ≡ size_segments (map assigned_segment ws)
   unfolding size_segments
   order-size = omega (arith, measure-order size_segments size_segment refl (λ g gs. refl) parent [] [] ws seen_start e)
@@ -165,19 +165,19 @@ unfolding ok_from
 rises-ok [] o r = refl
 rises-ok (g ∷ gs) o r = rising-ok 0 g gs (omega arith) o r
 
-pub segments-valid : (parent seen : List ℕ) (ws : List WireSegment) → first_refusal parent seen ws ≡ none → Each OkSegment (map assigned_segment ws)
+pub segments-valid : (parent seen : List ℕ) (ws : List WireSegment) → first_refusal parent seen ws ≡ None → Each OkSegment (map assigned_segment ws)
 segments-valid parent seen [] e = tt
 segments-valid parent seen (w ∷ ws) e =
     let f : First parent seen w ws = refusal-none parent seen w ws e in
     (segment-valid parent w f.passes, segments-valid parent (w.segment_id ∷ seen) ws f.others)
 
 pub order-ok-from : (parent seen : List ℕ) (done : List AssignedSegment) (ws : List WireSegment) → ok_from 0 done ≡ true
-    → first_refusal parent seen ws ≡ none → ok_from 0 (in_id_order done ws) ≡ true
+    → first_refusal parent seen ws ≡ None → ok_from 0 (in_id_order done ws) ≡ true
 order-ok-from parent seen done ws o e =
     rises-ok (in_id_order done ws) (order-each OkSegment done ws (ok-each 0 done o) (segments-valid parent seen ws e))
     (order-rises done ws (ok-rises 0 done o))
 
-pub order-ok : (parent : List ℕ) (ws : List WireSegment) → first_refusal parent [] ws ≡ none → ok_from 0 (in_id_order [] ws) ≡ true
+pub order-ok : (parent : List ℕ) (ws : List WireSegment) → first_refusal parent [] ws ≡ None → ok_from 0 (in_id_order [] ws) ≡ true
 unfolding ok_from
 order-ok parent ws e = order-ok-from parent [] [] ws refl e
 
@@ -193,7 +193,7 @@ each_fits [] f = tt
 each_fits (g ∷ gs) f = (f.0, each_fits gs f.1)
 
 -- segments of few bytes have few buckets
-segments-fit : (parent seen : List ℕ) (ws : List WireSegment) → first_refusal parent seen ws ≡ none → Each WideSegment ws
+segments-fit : (parent seen : List ℕ) (ws : List WireSegment) → first_refusal parent seen ws ≡ None → Each WideSegment ws
     → size_segments (map assigned_segment ws) ≤ 2038 → Each FitSegment (map assigned_segment ws)
 unfolding size_segments size_segment assigned_segment
 segments-fit parent seen [] e v h = tt
@@ -202,7 +202,7 @@ segments-fit parent seen (w ∷ ws) e v h =
     let n : length (map bucket_of w.bucket_ranges) ≡ length w.bucket_ranges = length-map bucket_of w.bucket_ranges in
     (segment-fit parent w f.passes v.0 (omega arith), segments-fit parent (w.segment_id ∷ seen) ws f.others v.1 (omega arith))
 
-pub order-fit : (parent : List ℕ) (ws : List WireSegment) → first_refusal parent [] ws ≡ none → Each WideSegment ws
+pub order-fit : (parent : List ℕ) (ws : List WireSegment) → first_refusal parent [] ws ≡ None → Each WideSegment ws
     → size_segments (in_id_order [] ws) ≤ 2038 → FitSegments (in_id_order [] ws)
 order-fit parent ws e v h =
     each_fits (in_id_order [] ws) (order-each FitSegment [] ws tt (segments-fit parent [] ws e v (omega (arith, order-size parent ws e))))
@@ -254,7 +254,7 @@ order-written f h gs o =
 
 -- segments that pass, whose ids rise from low on, where none from low on was seen
 refusal-above : (parent seen : List ℕ) (low : ℕ) (ws : List WireSegment) → ((k : ℕ) → low ≤ k → holds self k seen ≡ false)
-    → Each (Passing parent) ws → ok_from low (map assigned_segment ws) ≡ true → first_refusal parent seen ws ≡ none
+    → Each (Passing parent) ws → ok_from low (map assigned_segment ws) ≡ true → first_refusal parent seen ws ≡ None
 unfolding first_refusal assigned_segment
 refusal-above parent seen low [] n p o = refl
 refusal-above parent seen low (w ∷ ws) n p o =
@@ -266,5 +266,5 @@ refusal-above parent seen low (w ∷ ws) n p o =
     (λ k l. rw (ne_eqb k w.segment_id (λ q. omega arith)) (n k (omega arith))) p.1 (ok-tail low g gs o)
 
 pub refusal-rising : (parent : List ℕ) (ws : List WireSegment) → Each (Passing parent) ws → ok_from 0 (map assigned_segment ws) ≡ true
-    → first_refusal parent [] ws ≡ none
+    → first_refusal parent [] ws ≡ None
 refusal-rising parent ws p o = refusal-above parent [] 0 ws (λ k l. refl) p o

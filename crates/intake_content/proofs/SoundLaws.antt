@@ -4,20 +4,19 @@
 -- range that passes is in order and inside the key space (`Sound`: `valid-sound`, `bucket-sound`); the segment is valid and fits its widths
 -- (`segment-valid`, `segment-range`, `segment-buckets`, `segment-fit`).
 -- Assumes nothing.
+use Rattle.std.specs.Prelude.{Option, Some, None, Result, Ok, Err}
 use Prim.Native.Nat.{ℕ, suc, ◌+◌, ◌^◌, ◌≤◌, ◌<◌}
 use native.Mathlib.Omega.{arith}
 use mathlib.Core.Path.{◌≡◌, refl, ap}
 use mathlib.Core.Bool.{Bool, true, false, cond, false≢true}
 use mathlib.Core.List.{List, [], ◌∷◌, map}
-use mathlib.Core.Option.{Option, some, none, some-ne-none}
+use Rattle.std.proofs.lemmas.Option.{none-some}
 use lib.IntN.{ℤ, pos, negsuc}
 use lib.ListN.{length}
 use lib.Dec.{ltb}
 use borrow.Author.Tests.{ltb-false, le-leb}
 use Rattle.topic_types.specs.declared.SegmentId.{SegmentId}
 use Rattle.topic_types.specs.declared.KeyRange.{KeyRange}
-use Rattle.topic_types.specs.declared.RangeResult.{RangeResult}
-use Rattle.topic_types.specs.declared.RangeResult.TheVariants.{Valid, Invalid}
 use Rattle.topic_types.specs.declared.KeyRangeError.TheVariants.{StartOutOfBounds, EndOutOfBounds, Reversed}
 use Rattle.topic_types.specs.KeyRanges.{max_hash, key_range, new_key_range}
 use Rattle.refusal.specs.declared.Refusal.{Refusal}
@@ -33,38 +32,39 @@ use Rattle.packed.proofs.RoundLaws.{FitRange, FitRanges, FitSegment}
 use Rattle.intake_content.specs.Content.{wire_id, range_fault_by, range_fault, is_valid, is_bucket, bucket_ok, bucket_fault, magnitude, bucket_of}
 use Rattle.intake_content.specs.Content.{buckets_of, overlap_fault, first_outside, outside_fault_by, outside_fault, expected_topic, name_fault}
 use Rattle.intake_content.specs.Content.{segment_fault, assigned_segment}
+use Rattle.topic_types.specs.declared.KeyRangeError.{KeyRangeError}
 
 -- ---- no refusal
 
-no-some : {A B : Type 0} {a : A} → some a ≡ none → B
-no-some {a = a} e = absurd (some-ne-none a e)
+no-some : {A B : Type 0} {a : A} → Some a ≡ None → B
+no-some {a = a} e = absurd (none-some a (sym e))
 
 module _ {A : Type 0} where
-  pub or-both : (o q : Option A) → or_else o q ≡ none → (o ≡ none) × (q ≡ none)
-  or-both none q e = (refl, e)
-  or-both (some a) q e = no-some e
+  pub or-both : (o q : Option A) → or_else o q ≡ None → (o ≡ None) × (q ≡ None)
+  or-both None q e = (refl, e)
+  or-both (Some a) q e = no-some e
 
-  pub if_none : (b : Bool) (x : A) (o : Option A) → cond b (some x) o ≡ none → (b ≡ false) × (o ≡ none)
+  pub if_none : (b : Bool) (x : A) (o : Option A) → cond b (Some x) o ≡ None → (b ≡ false) × (o ≡ None)
   if_none true x o e = no-some e
   if_none false x o e = (refl, e)
 
-  pub unless-none : (b : Bool) (x : A) (o : Option A) → cond b o (some x) ≡ none → (b ≡ true) × (o ≡ none)
+  pub unless-none : (b : Bool) (x : A) (o : Option A) → cond b o (Some x) ≡ None → (b ≡ true) × (o ≡ None)
   unless-none true x o e = (refl, e)
   unless-none false x o e = no-some e
 
 -- ---- each test
 
 pub record Passed (parent : List ℕ) (w : WireSegment) : Type 0 where
-  pub range : range_fault w ≡ none
-  pub buckets : bucket_fault (wire_id w) 0 w.bucket_ranges ≡ none
+  pub range : range_fault w ≡ None
+  pub buckets : bucket_fault (wire_id w) 0 w.bucket_ranges ≡ None
   pub apart : any_overlap (buckets_of w) ≡ false
-  pub inside : first_outside (key_range w.hash_start w.hash_end) 0 (buckets_of w) ≡ none
+  pub inside : first_outside (key_range w.hash_start w.hash_end) 0 (buckets_of w) ≡ None
   pub parent-ok : is_parent parent ≡ true
   pub topic : same_bytes w.segment_topic (expected_topic parent w) ≡ true
 
-pub no-outside : (id : SegmentId) (o : Option ℕ) → outside_fault_by id o ≡ none → o ≡ none
-no-outside id none e = refl
-no-outside id (some i) e = no-some e
+pub no-outside : (id : SegmentId) (o : Option ℕ) → outside_fault_by id o ≡ None → o ≡ None
+no-outside id None e = refl
+no-outside id (Some i) e = no-some e
 
 module _ (parent : List ℕ) (w : WireSegment) where
   -- what is tested behind 11, behind the buckets, behind the range, and behind the parent
@@ -81,18 +81,18 @@ module _ (parent : List ℕ) (w : WireSegment) where
   same_topic = same_bytes w.segment_topic (expected_topic parent w)
 
   abbrev after_parent : Option Refusal
-  after_parent = cond same_topic none (some (AttachmentMismatch (wire_id w)))
+  after_parent = cond same_topic None (Some (AttachmentMismatch (wire_id w)))
 
-  pub passed : segment_fault parent w ≡ none → Passed parent w
+  pub passed : segment_fault parent w ≡ None → Passed parent w
   unfolding segment_fault name_fault
   passed e =
       let nine = or-both (range_fault w) after_range e in
       let ten = or-both (bucket_fault (wire_id w) 0 w.bucket_ranges) after_buckets nine.1 in
       let others = or-both (overlap_fault w) after_overlap ten.1 in
-      let eleven = if_none (any_overlap (buckets_of w)) (OverlappingBucketRanges (wire_id w)) none others.0 in
+      let eleven = if_none (any_overlap (buckets_of w)) (OverlappingBucketRanges (wire_id w)) None others.0 in
       let named = or-both (outside_fault w) (name_fault parent w) others.1 in
       let twelve = unless-none (is_parent parent) InvalidParent after_parent named.1 in
-      let thirteen = unless-none same_topic (AttachmentMismatch (wire_id w)) none twelve.1 in
+      let thirteen = unless-none same_topic (AttachmentMismatch (wire_id w)) None twelve.1 in
       record {
         range = nine.0;
         buckets = ten.0;
@@ -102,7 +102,7 @@ module _ (parent : List ℕ) (w : WireSegment) where
         topic = thirteen.0;
       }
 
-  pub passes : Passed parent w → segment_fault parent w ≡ none
+  pub passes : Passed parent w → segment_fault parent w ≡ None
   unfolding segment_fault name_fault
   passes p = simp (p.range, p.buckets, p.apart, p.inside, p.parent-ok, p.topic)
 
@@ -121,17 +121,17 @@ unfolding new_key_range
 valid-sound start end e = go (ltb max_hash start) (ltb max_hash end) (ltb end start) refl refl refl e
   where
     go : (a b c : Bool) → ltb max_hash start ≡ a → ltb max_hash end ≡ b → ltb end start ≡ c
-        → is_valid (cond a (Invalid (StartOutOfBounds start)) (cond b (Invalid (EndOutOfBounds end))
-        (cond c (Invalid (Reversed start end)) (Valid (key_range start end))))) ≡ true
+        → is_valid (cond a (Err (StartOutOfBounds start)) (cond b (Err (EndOutOfBounds end))
+        (cond c (Err (Reversed start end)) (Ok (key_range start end))))) ≡ true
         → Sound (key_range start end)
     go true b c p q r f = absurd (false≢true f)
     go false true c p q r f = absurd (false≢true f)
     go false false true p q r f = absurd (false≢true f)
     go false false false p q r f = record { order = ltb-false end start r; end = ltb-false max_hash end q }
 
-fault-valid : (id : SegmentId) (r : RangeResult) → range_fault_by id r ≡ none → is_valid r ≡ true
-fault-valid id (Valid r) e = refl
-fault-valid id (Invalid x) e = no-some e
+fault-valid : (id : SegmentId) (r : Result KeyRange KeyRangeError) → range_fault_by id r ≡ None → is_valid r ≡ true
+fault-valid id (Ok r) e = refl
+fault-valid id (Err x) e = no-some e
 
 pub bucket-sound : (r : IntRange) → bucket_ok r ≡ true → Sound (bucket_of r)
 bucket-sound r e = go r.start r.end e
@@ -142,7 +142,7 @@ bucket-sound r e = go r.start r.end e
     go (negsuc a) b f = absurd (false≢true f)
 
 -- a row of buckets without fault
-buckets-sound : (id : SegmentId) (index : ℕ) (rs : List IntRange) → bucket_fault id index rs ≡ none
+buckets-sound : (id : SegmentId) (index : ℕ) (rs : List IntRange) → bucket_fault id index rs ≡ None
     → FitRanges (map bucket_of rs) × (all_in_order (map bucket_of rs) ≡ true)
 unfolding bucket_fault all_in_order
 buckets-sound id index [] e = (tt, refl)
@@ -158,7 +158,7 @@ pub length-map : {A B : Type 0} (f : A → B) (l : List A) → length (map f l) 
 length-map f [] = refl
 length-map f (x ∷ l) = ap suc (length-map f l)
 
-module _ (parent : List ℕ) (w : WireSegment) (e : segment_fault parent w ≡ none) where
+module _ (parent : List ℕ) (w : WireSegment) (e : segment_fault parent w ≡ None) where
   range-sound : Sound (key_range w.hash_start w.hash_end)
   range-sound =
       valid-sound w.hash_start w.hash_end (fault-valid (wire_id w) (new_key_range w.hash_start w.hash_end) (passed parent w e).range)

@@ -4,6 +4,7 @@
 -- and that of several parts (`join-fitting`); its numbers and parts (`number-below`, `parts-bytes`); so an assignment's epoch and ids
 -- (`Wide`: `update-wide`, `response-wide`), and the ends of a segment's range (`start-below`, `end_below`).
 -- Assumes nothing.
+use Rattle.std.specs.Prelude.{Option, Some, None}
 use Prim.Native.Nat.{ℕ, zero, suc, ◌-◌, ◌^◌, ◌<◌}
 use native.Mathlib.Omega.{arith}
 use mathlib.Core.Path.{◌≡◌, refl}
@@ -11,18 +12,12 @@ use mathlib.Core.List.{List, [], ◌∷◌}
 use lib.ListN.{length, drop}
 use lib.Dec.{leb, eqb}
 use Rattle.slice.proofs.PartLaws.{Bytes, Bytes-take, Bytes-drop}
-use Rattle.wire.specs.declared.varint.Varint.{Varint}
-use Rattle.wire.specs.declared.varint.Varint.TheVariants as varint
 use Rattle.wire.specs.declared.WireType.{WireType}
 use Rattle.wire.specs.declared.WireType.TheVariants as type
-use Rattle.wire.specs.declared.Key.{Key}
-use Rattle.wire.specs.declared.Key.TheVariants as key
 use Rattle.wire.specs.Varints.{varint_of}
 use Rattle.wire.specs.Field.{number_from, part_from, fixed_of, number_body, part_of, key_read, body_of}
 use Rattle.wire.specs.Fields.{Payload, number, bytes, fixed, cut, Field, bad_key, field, payload_of, field_by, size_by, fields_after, fields_of}
 use Rattle.wire.proofs.VarintLaws.{varint-fits}
-use Rattle.wire_values.specs.declared.Last.{Last}
-use Rattle.wire_values.specs.declared.Last.TheVariants as last
 use Rattle.wire_values.specs.Values.{numbers_of, parts_of, last_after, join_fields, merged_fields, or_zero, number_in}
 use Rattle.wire_readers.specs.Messages.{WireSegment, read_segment, WireAssignment, read_assignment, update_of, response_of}
 use Rattle.keyed.proofs.KeyedLaws.{choose}
@@ -44,14 +39,14 @@ abbrev pub Fitting : List Field → Type 0
 Fitting fs = Each FittingField fs
 
 module _ (l : List ℕ) (h : Bytes l) where
-  number-fitting : (v : Varint) → varint_of l ≡ v → FittingContent (payload_of (number_from v) l)
-  number-fitting (varint.Value v n) e = varint-fits l h v n e
-  number-fitting varint.Broken e = tt
+  number-fitting : (v : Option (ℕ × ℕ)) → varint_of l ≡ v → FittingContent (payload_of (number_from v) l)
+  number-fitting (Some (v, n)) e = varint-fits l h v n e
+  number-fitting None e = tt
 
-  part-fitting : (v : Varint) → FittingContent (payload_of (part_from v (length l)) l)
-  part-fitting (varint.Value v n) =
+  part-fitting : (v : Option (ℕ × ℕ)) → FittingContent (payload_of (part_from v (length l)) l)
+  part-fitting (Some (v, n)) =
       choose (λ b. FittingContent (payload_of b l)) (leb _ (length l)) (λ t. Bytes-take v (drop n l) (Bytes-drop n l h)) (λ t. tt)
-  part-fitting varint.Broken = tt
+  part-fitting None = tt
 
   fixed-fitting : (n : ℕ) → FittingContent (payload_of (fixed_of n l) l)
   unfolding fixed_of
@@ -64,9 +59,9 @@ module _ (l : List ℕ) (h : Bytes l) where
   body-fitting type.Len = part-fitting (varint_of l)
   body-fitting type.I32 = fixed-fitting 4
 
-field-fitting : (k : Key) (l : List ℕ) → Bytes l → FittingField (field_by k l)
-field-fitting (key.Found f w n) l h = body-fitting (drop n l) (Bytes-drop n l h) w
-field-fitting key.Broken l h = tt
+field-fitting : (k : Option (ℕ × WireType × ℕ)) (l : List ℕ) → Bytes l → FittingField (field_by k l)
+field-fitting (Some (f, w, n)) l h = body-fitting (drop n l) (Bytes-drop n l h) w
+field-fitting None l h = tt
 
 after-fitting : (n : ℕ) (l : List ℕ) → Bytes l → Fitting (fields_after n l)
 after-fitting n [] h = tt
@@ -105,12 +100,12 @@ parts-bytes n (field f w (bytes l) ∷ fs) h = let p = parts-bytes n fs h.1 in c
 parts-bytes n (field f w fixed ∷ fs) h = parts-bytes n fs h.1
 parts-bytes n (field f w cut ∷ fs) h = parts-bytes n fs h.1
 
-last-below : (x : Last) (l : List ℕ) → or_zero x < 2 ^ 64 → Each Below l → or_zero (last_after x l) < 2 ^ 64
+last-below : (x : Option ℕ) (l : List ℕ) → or_zero x < 2 ^ 64 → Each Below l → or_zero (last_after x l) < 2 ^ 64
 last-below x [] h f = h
-last-below x (v ∷ l) h f = last-below (last.Found v) l f.0 f.1
+last-below x (v ∷ l) h f = last-below (Some v) l f.0 f.1
 
 pub number-below : (n : ℕ) (fs : List Field) → Fitting fs → number_in n fs < 2 ^ 64
-number-below n fs h = last-below last.Absent (numbers_of n fs) (omega arith) (numbers-below n fs h)
+number-below n fs h = last-below None (numbers_of n fs) (omega arith) (numbers-below n fs h)
 
 -- ---- assignments
 

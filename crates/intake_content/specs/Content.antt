@@ -4,12 +4,9 @@
 -- "per segment in wire order 9 to 14, 15" (01); 34 "directly after 11" (02 e): each segment is tested by itself (9, 10, 11, 34, 12, 13), then
 -- its id against those before it (14). When all segments have passed, the packed assignment has to fit a slot (15).
 -- Assumes nothing.
-use Rattle.std.specs.Prelude.{ℕ, ◌+◌, ℤ, pos, negsuc, Bool, true, false, cond, ◌&&◌, List, [], ◌∷◌, map, leb}
-use Rattle.std.proofs.Math.Option.{Option, some, none}
+use Rattle.std.specs.Prelude.{ℕ, ◌+◌, ℤ, pos, negsuc, Bool, true, false, cond, ◌&&◌, List, [], ◌∷◌, map, leb, Option, Some, None, Result, Ok, Err}
 use Rattle.topic_types.specs.declared.SegmentId.{SegmentId}
 use Rattle.topic_types.specs.declared.KeyRange.{KeyRange}
-use Rattle.topic_types.specs.declared.RangeResult.{RangeResult}
-use Rattle.topic_types.specs.declared.RangeResult.TheVariants.{Valid, Invalid}
 use Rattle.topic_types.specs.KeyRanges.{key_range, new_key_range}
 use Rattle.refusal.specs.declared.Refusal.{Refusal}
 use Rattle.refusal.specs.declared.Refusal.TheVariants.{InvalidRange, InvalidBucketRange, OverlappingBucketRanges}
@@ -23,8 +20,7 @@ use Rattle.wire_readers.specs.declared.IntRange.{IntRange}
 use Rattle.wire_readers.specs.Messages.{WireSegment, WireAssignment}
 use Rattle.keyed.specs.Keyed.{or_else, self, holds, insert}
 use Rattle.packed.specs.Assignment.{AssignedSegment, id_of, ConsumerAssignment, size_assignment, slot_size}
-use Rattle.intake_content.specs.declared.Outside.{Outside}
-use Rattle.intake_content.specs.declared.Outside.TheVariants.{At, Nothing}
+use Rattle.topic_types.specs.declared.KeyRangeError.{KeyRangeError}
 
 abbrev pub wire_id : WireSegment → SegmentId
 wire_id w = record { 0 = w.segment_id }
@@ -32,17 +28,17 @@ wire_id w = record { 0 = w.segment_id }
 -- ---- one segment: 9, 10, 11, 34, 12, 13, `AssignedSegment::try_from_pb`
 
 -- 9: "start above 65,535, then end above 65,535, then end below start"
-abbrev pub range_fault_by : SegmentId → RangeResult → Option Refusal
-range_fault_by id (Valid r) = none
-range_fault_by id (Invalid e) = some (InvalidRange id e)
+abbrev pub range_fault_by : SegmentId → Result KeyRange KeyRangeError → Option Refusal
+range_fault_by id (Ok r) = None
+range_fault_by id (Err e) = Some (InvalidRange id e)
 
 abbrev pub range_fault : WireSegment → Option Refusal
 range_fault w = range_fault_by (wire_id w) (new_key_range w.hash_start w.hash_end)
 
 -- "A bucket range also fails when negative."
-abbrev pub is_valid : RangeResult → Bool
-is_valid (Valid r) = true
-is_valid (Invalid e) = false
+abbrev pub is_valid : Result KeyRange KeyRangeError → Bool
+is_valid (Ok r) = true
+is_valid (Err e) = false
 
 abbrev pub is_bucket : (start end : ℤ) → Bool
 is_bucket (pos start) (pos end) = is_valid (new_key_range start end)
@@ -54,8 +50,8 @@ bucket_ok r = is_bucket r.start r.end
 
 -- 10: the first bucket range that fails, with its place among the segment's and its ends as they came
 unfoldable pub bucket_fault : SegmentId → ℕ → List IntRange → Option Refusal
-bucket_fault id index [] = none
-bucket_fault id index (r ∷ rs) = cond (bucket_ok r) (bucket_fault id (index + 1) rs) (some (InvalidBucketRange id index r.start r.end))
+bucket_fault id index [] = None
+bucket_fault id index (r ∷ rs) = cond (bucket_ok r) (bucket_fault id (index + 1) rs) (Some (InvalidBucketRange id index r.start r.end))
 
 -- the range that a valid one is
 abbrev pub magnitude : ℤ → ℕ
@@ -71,7 +67,7 @@ buckets_of w = map bucket_of w.bucket_ranges
 
 -- 11: bucket ranges "may not share a value"
 abbrev pub overlap_fault : WireSegment → Option Refusal
-overlap_fault w = cond (any_overlap (buckets_of w)) (some (OverlappingBucketRanges (wire_id w))) none
+overlap_fault w = cond (any_overlap (buckets_of w)) (Some (OverlappingBucketRanges (wire_id w))) None
 
 -- 34: "A bucket not wholly inside is to be turned down" (02 e); the bucket lies wholly inside the segment's range
 abbrev pub is_inside : (range bucket : KeyRange) → Bool
@@ -79,26 +75,26 @@ is_inside range bucket = leb range.start bucket.start && leb bucket.end range.en
 
 -- "the first such bucket": its place, counted from index on
 unfoldable pub first_outside : KeyRange → ℕ → List KeyRange → Option ℕ
-first_outside range index [] = none
-first_outside range index (b ∷ bs) = cond (is_inside range b) (first_outside range (index + 1) bs) (some index)
+first_outside range index [] = None
+first_outside range index (b ∷ bs) = cond (is_inside range b) (first_outside range (index + 1) bs) (Some index)
 
 -- "34 with segment id and bucket index (from 0)"
 abbrev pub outside_fault_by : SegmentId → Option ℕ → Option Refusal
-outside_fault_by id none = none
-outside_fault_by id (some index) = some (BucketOutsideSegment id index)
+outside_fault_by id None = None
+outside_fault_by id (Some index) = Some (BucketOutsideSegment id index)
 
 abbrev pub outside_fault : WireSegment → Option Refusal
 outside_fault w = outside_fault_by (wire_id w) (first_outside (key_range w.hash_start w.hash_end) 0 (buckets_of w))
 
 -- the first such bucket of a stored list, in stored order, which rises by id
 unfoldable pub outside_in : List AssignedSegment → Option Refusal
-outside_in [] = none
+outside_in [] = None
 outside_in (g ∷ gs) = or_else (outside_fault_by (record { 0 = g.segment_id }) (first_outside g.range 0 g.buckets)) (outside_in gs)
 
 -- as the walks over buckets answer it
-abbrev pub outside_of : Option ℕ → Outside
-outside_of none = Nothing
-outside_of (some index) = At index
+abbrev pub outside_of : Option ℕ → Option ℕ
+outside_of None = None
+outside_of (Some index) = Some index
 
 -- the name that the segment has to have
 abbrev pub expected_topic : List ℕ → WireSegment → List ℕ
@@ -108,8 +104,8 @@ expected_topic parent w = segment_topic (path_of parent) (key_range w.hash_start
 unfoldable pub name_fault : List ℕ → WireSegment → Option Refusal
 name_fault parent w =
     cond (is_parent parent)
-    (cond (same_bytes w.segment_topic (expected_topic parent w)) none (some (AttachmentMismatch (wire_id w))))
-    (some InvalidParent)
+    (cond (same_bytes w.segment_topic (expected_topic parent w)) None (Some (AttachmentMismatch (wire_id w))))
+    (Some InvalidParent)
 
 unfoldable pub segment_fault : List ℕ → WireSegment → Option Refusal
 segment_fault parent w =
@@ -120,11 +116,11 @@ segment_fault parent w =
 
 -- 14
 abbrev pub duplicate_fault : List ℕ → WireSegment → Option Refusal
-duplicate_fault seen w = cond (holds self w.segment_id seen) (some (DuplicateSegment (wire_id w))) none
+duplicate_fault seen w = cond (holds self w.segment_id seen) (Some (DuplicateSegment (wire_id w))) None
 
 -- the first refusal in wire order; seen are the ids of the segments before
 unfoldable pub first_refusal : (parent seen : List ℕ) → List WireSegment → Option Refusal
-first_refusal parent seen [] = none
+first_refusal parent seen [] = None
 first_refusal parent seen (w ∷ ws) =
     or_else (segment_fault parent w) (or_else (duplicate_fault seen w) (first_refusal parent (w.segment_id ∷ seen) ws))
 
@@ -151,8 +147,8 @@ abbrev pub within_slot : ConsumerAssignment → Content
 within_slot a = cond (leb (size_assignment a) slot_size) (taken a) (refused AssignmentTooLong)
 
 abbrev pub content_by : Option Refusal → ConsumerAssignment → Content
-content_by (some x) a = refused x
-content_by none a = within_slot a
+content_by (Some x) a = refused x
+content_by None a = within_slot a
 
 unfoldable pub content_of : List ℕ → WireAssignment → Content
 content_of parent a = content_by (first_refusal parent [] a.segments) (consumer_assignment a)

@@ -4,13 +4,13 @@
 -- front of others (`buckets-end`, `buckets-next`), which are valid (`buckets-valid`); a segment's head (`head-row`, `head-written`) and the segment (`segment-taken`); an assignment's segments, none and one in front
 -- of others (`segments-end`, `segments-next`), how many (`segments-few`), their order (`segments-ready`), and the assignment (`ordered-taken`).
 -- Assumes nothing.
+use Rattle.std.specs.Prelude.{None}
 use Prim.Native.Nat.{ℕ, zero, suc, ◌+◌, ◌-◌, ◌*◌, ◌/◌, ◌%◌, ◌^◌, ◌≤◌, ◌<◌}
 use native.Mathlib.Numerals.{add-one}
 use native.Mathlib.Omega.{arith}
 use mathlib.Core.Path.{◌≡◌, refl, sym, ap, subst, ◌∙◌}
 use mathlib.Core.Bool.{Bool, true, false, ◌&&◌, ◌||◌}
 use mathlib.Core.List.{List, [], ◌∷◌, ◌++◌, map, append_assoc}
-use mathlib.Core.Option.{none}
 use lib.ListN.{length, take, drop, length-append}
 use lib.Seq.{drop_at, length-take-le}
 use lib.Dec.{leb}
@@ -143,7 +143,7 @@ buckets-next {p} {at} {next} {start} {end} low high from rising {still} b b₁ p
     }
 
 -- ranges between low and high lie inside
-buckets-inside : (low high index : ℕ) (rs : List KeyRange) → Each (Inside low high) rs → first_outside (key_range low high) index rs ≡ none
+buckets-inside : (low high index : ℕ) (rs : List KeyRange) → Each (Inside low high) rs → first_outside (key_range low high) index rs ≡ None
 unfolding first_outside
 buckets-inside low high index [] u = refl
 buckets-inside low high index (r ∷ rs) u =

@@ -4,7 +4,7 @@
 --
 -- The answer has one direction: what is told is so, and an assignment of which nothing is told may be valid all the same.
 -- Assumes nothing.
-use Rattle.std.specs.Prelude.{ℕ, ◌≡◌, List}
+use Rattle.std.specs.Prelude.{ℕ, ◌≡◌, List, Option, Some, None}
 use Rattle.slice_int.specs.Put.{put}
 use Rattle.wire.specs.Fields.{fields_of}
 use Rattle.wire_schema.specs.declared.MessageKind.TheVariants.{ScalableConsumerAssignment}
@@ -12,8 +12,6 @@ use Rattle.wire_schema.specs.FirstFault.{Sound}
 use Rattle.wire_readers.specs.Messages.{read_assignment}
 use Rattle.packed.specs.Assignment.{ConsumerAssignment, encode_assignment, size_assignment}
 use Rattle.intake_content.specs.Content.{content_of, taken}
-use Rattle.intake_ordered.specs.declared.OrderedIntake.{OrderedIntake}
-use Rattle.intake_ordered.specs.declared.OrderedIntake.TheVariants.{Taken, Other}
 
 -- the assignment s has no fault, wherever it is nested; below the parent nothing refuses it; and the buffer holds it packed, in n bytes
 pub record OrderedTaken (parent s b : List ℕ) (epoch n : ℕ) (b' : List ℕ) : Type 0 where
@@ -24,6 +22,6 @@ pub record OrderedTaken (parent s b : List ℕ) (epoch n : ℕ) (b' : List ℕ) 
   pub size : n ≡ size_assignment assignment
   pub packed : b' ≡ put b 0 (encode_assignment assignment)
 
-abbrev pub OrderedIs : (parent s b : List ℕ) → OrderedIntake → (b' : List ℕ) → Type 0
-OrderedIs parent s b (Taken epoch n) b' = OrderedTaken parent s b epoch n b'
-OrderedIs parent s b Other b' = Unit {0}
+abbrev pub OrderedIs : (parent s b : List ℕ) → Option (ℕ × ℕ) → (b' : List ℕ) → Type 0
+OrderedIs parent s b (Some (epoch, n)) b' = OrderedTaken parent s b epoch n b'
+OrderedIs parent s b None b' = Unit {0}

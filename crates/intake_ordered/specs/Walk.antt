@@ -5,7 +5,7 @@
 -- A part is told by its row of fields, and what it holds by the value that stands for it: a range, a segment. What is told of a row that
 -- is walked over is told from a place on, so that a turn of the walk puts one entry in front of those that follow.
 -- Assumes nothing.
-use Rattle.std.specs.Prelude.{ℕ, ◌+◌, ◌-◌, ◌*◌, ◌≤◌, ◌≡◌, Bool, true, List, ◌∷◌, map, length, take, drop}
+use Rattle.std.specs.Prelude.{ℕ, ◌+◌, ◌-◌, ◌*◌, ◌≤◌, ◌≡◌, Bool, true, List, ◌∷◌, map, length, take, drop, Option, Some, None}
 use Rattle.topic_types.specs.declared.KeyRange.{KeyRange}
 use Rattle.topic_types.specs.KeyRanges.{max_hash}
 use Rattle.ranges.specs.Overlap.{rising_from}
@@ -20,14 +20,6 @@ use Rattle.packed.specs.Fit.{FitRanges, FitSegment, FitSegments}
 use Rattle.keyed.specs.Each.{Each}
 use Rattle.intake_content.specs.Passing.{Passing}
 use Rattle.writer_message.specs.WireRows.{numbered, parted, part_row, wire_range, wire_segment}
-use Rattle.intake_ordered.specs.declared.Buckets.{Buckets}
-use Rattle.intake_ordered.specs.declared.Buckets.TheVariants as buckets
-use Rattle.intake_ordered.specs.declared.Head.{Head}
-use Rattle.intake_ordered.specs.declared.Head.TheVariants as head
-use Rattle.intake_ordered.specs.declared.Segment.{Segment}
-use Rattle.intake_ordered.specs.declared.Segment.TheVariants as segment
-use Rattle.intake_ordered.specs.declared.Segments.{Segments}
-use Rattle.intake_ordered.specs.declared.Segments.TheVariants as segments
 
 -- ---- a segment's buckets
 
@@ -52,9 +44,9 @@ pub record BucketsFrom (p : List ℕ) (at low high from : ℕ) (before : Bool) (
   pub room : to ≤ length b
   pub wrote : b' ≡ put b place (encode_ranges ranges)
 
-abbrev pub BucketsAre : (p : List ℕ) (at low high : ℕ) (b : List ℕ) (place : ℕ) (b' : List ℕ) → Buckets → Type 0
-BucketsAre p at low high b place b' (buckets.All to rising) = BucketsFrom p at low high 0 true b place to rising b'
-BucketsAre p at low high b place b' buckets.Other = Unit {0}
+abbrev pub BucketsAre : (p : List ℕ) (at low high : ℕ) (b : List ℕ) (place : ℕ) (b' : List ℕ) → Option (ℕ × Bool) → Type 0
+BucketsAre p at low high b place b' (Some (to, rising)) = BucketsFrom p at low high 0 true b place to rising b'
+BucketsAre p at low high b place b' None = Unit {0}
 
 -- ---- a segment
 
@@ -67,9 +59,9 @@ pub record HeadRow (p : List ℕ) (id start end from to : ℕ) : Type 0 where
   pub ordered : from ≤ to
   pub within : to ≤ length p
 
-abbrev pub HeadIs : List ℕ → Head → Type 0
-HeadIs p (head.Found id start end from to) = HeadRow p id start end from to
-HeadIs p head.Absent = Unit {0}
+abbrev pub HeadIs : List ℕ → Option (ℕ × ℕ × ℕ × ℕ × ℕ) → Type 0
+HeadIs p (Some (id, start, end, from, to)) = HeadRow p id start end from to
+HeadIs p None = Unit {0}
 
 -- the part p says a segment that passes, and its record, written from a place on, ends at the place to
 pub record SegmentTaken (parent p b : List ℕ) (used id to : ℕ) (b' : List ℕ) : Type 0 where
@@ -84,9 +76,9 @@ pub record SegmentTaken (parent p b : List ℕ) (used id to : ℕ) (b' : List �
   pub room : to ≤ length b
   pub wrote : b' ≡ put b used (encode_segment segment)
 
-abbrev pub SegmentIs : (parent p b : List ℕ) (used : ℕ) (b' : List ℕ) → Segment → Type 0
-SegmentIs parent p b used b' (segment.Taken id to) = SegmentTaken parent p b used id to b'
-SegmentIs parent p b used b' segment.Other = Unit {0}
+abbrev pub SegmentIs : (parent p b : List ℕ) (used : ℕ) (b' : List ℕ) → Option (ℕ × ℕ) → Type 0
+SegmentIs parent p b used b' (Some (id, to)) = SegmentTaken parent p b used id to b'
+SegmentIs parent p b used b' None = Unit {0}
 
 -- ---- an assignment's segments
 
@@ -111,6 +103,6 @@ pub record SegmentsFrom (parent s : List ℕ) (at low : ℕ) (before : Bool) (b 
   pub room : to ≤ length b
   pub wrote : b' ≡ put b used (encode_segments segments)
 
-abbrev pub SegmentsAre : (parent s : List ℕ) (at : ℕ) (b b' : List ℕ) → Segments → Type 0
-SegmentsAre parent s at b b' (segments.All count to rising) = SegmentsFrom parent s at 0 true b assignment_head count to rising b'
-SegmentsAre parent s at b b' segments.Other = Unit {0}
+abbrev pub SegmentsAre : (parent s : List ℕ) (at : ℕ) (b b' : List ℕ) → Option (ℕ × ℕ × Bool) → Type 0
+SegmentsAre parent s at b b' (Some (count, to, rising)) = SegmentsFrom parent s at 0 true b assignment_head count to rising b'
+SegmentsAre parent s at b b' None = Unit {0}

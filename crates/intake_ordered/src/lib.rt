@@ -13,52 +13,10 @@ ghost use Rattle.packed.specs.Assignment.{slot_size, record_head, bucket_size, d
 ghost use Rattle.intake_ordered.specs.Walk.{BucketsAre, HeadIs, SegmentIs, SegmentsAre};
 ghost use Rattle.intake_ordered.specs.Taken.{OrderedIs};
 
-use intake_ordered_bucket::{Bucket, MAX_HASH};
+use intake_ordered_bucket::MAX_HASH;
 use name_parents::SCHEME;
 use packed::{BUCKET, RECORD_HEAD};
 use topic_types::{KeyRange, SegmentId};
-use wire_ordered::{NumberAt, Part};
-
-// The buckets of a segment.
-#[derive(Clone, Copy)]
-enum Buckets {
-    // All are taken: the place behind them, and whether they rise.
-    All(usize, bool),
-    Other,
-}
-
-// What stands before a segment's buckets.
-#[derive(Clone, Copy)]
-enum Head {
-    // Its id, its range's start and end, and where its topic starts and ends.
-    Found(u64, u64, u64, usize, usize),
-    Absent,
-}
-
-// One segment.
-#[derive(Clone, Copy)]
-enum Segment {
-    // It is taken: its id, and the place behind its record.
-    Taken(u64, usize),
-    Other,
-}
-
-// The segments of an assignment.
-#[derive(Clone, Copy)]
-enum Segments {
-    // All are taken: how many there are, the place behind their records, and whether their ids rise.
-    All(usize, usize, bool),
-    Other,
-}
-
-// What is told of an assignment.
-#[derive(Clone, Copy)]
-pub enum OrderedIntake {
-    // It is valid: its epoch, and the packed assignment's size.
-    Taken(u64, usize),
-    // Nothing.
-    Other,
-}
 
 fn and(a: bool, b: bool) -> bool
     ensures { result ≡ (a && b) }
@@ -75,7 +33,7 @@ fn take_buckets(
     highest: u64,
     b: &mut [u8],
     place: usize,
-) -> Buckets
+) -> Option<(usize, bool)>
     requires { place ≤ length b.old }
     ensures { BucketsAre p.now first lowest highest b.old place b.new result }
 {
@@ -84,17 +42,17 @@ fn take_buckets(
     let mut to = place;
     let mut rising = true;
     while at < p.len() {
-        let Bucket::Found(start, end, next) = intake_ordered_bucket::bucket_at(p, at) else {
-            return Buckets::Other;
+        let Some((start, end, next)) = intake_ordered_bucket::bucket_at(p, at) else {
+            return None;
         };
         if start < lowest {
-            return Buckets::Other;
+            return None;
         }
         if highest < end {
-            return Buckets::Other;
+            return None;
         }
         if b.len() - to < BUCKET {
-            return Buckets::Other;
+            return None;
         }
         slice_int::write_u32(b, to, (start * 65536 + end) as u32);
         rising = and(rising, low <= start);
@@ -102,7 +60,7 @@ fn take_buckets(
         low = end + 1;
         to = to + BUCKET;
     }
-    Buckets::All(to, rising)
+    Some((to, rising))
 }
 
 // The n buckets that were written from a place on share no value: told already where they rise.
@@ -118,28 +76,28 @@ fn buckets_apart(b: &[u8], place: usize, n: usize, rising: bool) -> bool
 }
 
 // Fields 1 to 4 of the segment p.
-fn head_of(p: &[u8]) -> Head
+fn head_of(p: &[u8]) -> Option<(u64, u64, u64, usize, usize)>
     ensures { HeadIs p.now result }
 {
-    let NumberAt::Found(id, second) = wire_ordered::number_at(1, p, 0) else {
-        return Head::Absent;
+    let Some((id, second)) = wire_ordered::number_at(1, p, 0) else {
+        return None;
     };
-    let NumberAt::Found(start, third) = wire_ordered::number_at(2, p, second) else {
-        return Head::Absent;
+    let Some((start, third)) = wire_ordered::number_at(2, p, second) else {
+        return None;
     };
-    let NumberAt::Found(end, fourth) = wire_ordered::number_at(3, p, third) else {
-        return Head::Absent;
+    let Some((end, fourth)) = wire_ordered::number_at(3, p, third) else {
+        return None;
     };
-    let Part::Found(from, to) = wire_ordered::part_at(4, p, fourth) else {
-        return Head::Absent;
+    let Some((from, to)) = wire_ordered::part_at(4, p, fourth) else {
+        return None;
     };
     if end < start {
-        return Head::Absent;
+        return None;
     }
     if MAX_HASH < end {
-        return Head::Absent;
+        return None;
     }
-    Head::Found(id, start, end, from, to)
+    Some((id, start, end, from, to))
 }
 
 // Writes the head of a record: id, range, and count of buckets.
@@ -154,38 +112,43 @@ fn write_head(b: &mut [u8], at: usize, id: u64, start: u64, end: u64, count: usi
 }
 
 // The segment in the part p, its record written behind the used bytes.
-fn take_segment(p: &[u8], parent: &[u8], b: &mut [u8], used: usize) -> Segment
+fn take_segment(p: &[u8], parent: &[u8], b: &mut [u8], used: usize) -> Option<(u64, usize)>
     requires parent_value { (is_parent parent.now ≡ true) × (is_utf8 parent.now ≡ true) }
     requires b_len { (length b.old ≡ slot_size) × (used ≤ slot_size) }
     ensures { SegmentIs parent.now p.now b.old used b.new result }
 {
-    let Head::Found(id, start, end, from, to) = head_of(p) else {
-        return Segment::Other;
+    let Some((id, start, end, from, to)) = head_of(p) else {
+        return None;
     };
     let range = KeyRange {
         start: start as u32,
         end: end as u32,
     };
     if !name_topic::is_segment_topic(&p[from..to], &parent[SCHEME..], range, SegmentId(id)) {
-        return Segment::Other;
+        return None;
     }
     if b.len() - used < RECORD_HEAD {
-        return Segment::Other;
+        return None;
     }
     let place = used + RECORD_HEAD;
-    let Buckets::All(last, rising) = take_buckets(p, to, start, end, b, place) else {
-        return Segment::Other;
+    let Some((last, rising)) = take_buckets(p, to, start, end, b, place) else {
+        return None;
     };
     let count = (last - place) / BUCKET;
     if !buckets_apart(b, place, count, rising) {
-        return Segment::Other;
+        return None;
     }
     write_head(b, used, id, start, end, count);
-    Segment::Taken(id, last)
+    Some((id, last))
 }
 
 // The segments of the assignment s from the place first on, in whatever order, their records written from the place 10 on as they come.
-fn take_segments(s: &[u8], first: usize, parent: &[u8], b: &mut [u8]) -> Segments
+fn take_segments(
+    s: &[u8],
+    first: usize,
+    parent: &[u8],
+    b: &mut [u8],
+) -> Option<(usize, usize, bool)>
     requires parent_value { (is_parent parent.now ≡ true) × (is_utf8 parent.now ≡ true) }
     requires b_len { length b.old ≡ slot_size }
     ensures { SegmentsAre parent.now s.now first b.old b.new result }
@@ -196,15 +159,15 @@ fn take_segments(s: &[u8], first: usize, parent: &[u8], b: &mut [u8]) -> Segment
     let mut count: usize = 0;
     let mut rising = true;
     while at < s.len() {
-        let Part::Found(from, next) = wire_ordered::part_at(2, s, at) else {
-            return Segments::Other;
+        let Some((from, next)) = wire_ordered::part_at(2, s, at) else {
+            return None;
         };
-        let Segment::Taken(id, last) = take_segment(&s[from..next], parent, b, used) else {
-            return Segments::Other;
+        let Some((id, last)) = take_segment(&s[from..next], parent, b, used) else {
+            return None;
         };
         // No id is above the highest.
         if id == u64::MAX {
-            return Segments::Other;
+            return None;
         }
         rising = and(rising, low <= id);
         at = next;
@@ -212,28 +175,28 @@ fn take_segments(s: &[u8], first: usize, parent: &[u8], b: &mut [u8]) -> Segment
         used = last;
         count = count + 1;
     }
-    Segments::All(count, used, rising)
+    Some((count, used, rising))
 }
 
 // The assignment in the part s below a parent, packed at the front of the buffer. What the buffer holds where nothing is told is free.
-pub fn take_ordered(s: &[u8], parent: &[u8], b: &mut [u8]) -> OrderedIntake
+pub fn take_ordered(s: &[u8], parent: &[u8], b: &mut [u8]) -> Option<(u64, usize)>
     requires b_len { length b.old ≡ slot_size }
     requires parent_value { is_utf8 parent.now ≡ true }
     ensures { OrderedIs parent.now s.now b.old result b.new }
 {
     if !name_topic::is_parent(parent) {
-        return OrderedIntake::Other;
+        return None;
     }
-    let NumberAt::Found(epoch, first) = wire_ordered::number_at(1, s, 0) else {
-        return OrderedIntake::Other;
+    let Some((epoch, first)) = wire_ordered::number_at(1, s, 0) else {
+        return None;
     };
-    let Segments::All(count, used, rising) = take_segments(s, first, parent, b) else {
-        return OrderedIntake::Other;
+    let Some((count, used, rising)) = take_segments(s, first, parent, b) else {
+        return None;
     };
     if !packed_sort::order_records(b, count, rising) {
-        return OrderedIntake::Other;
+        return None;
     }
     slice_int::write_u16(b, packed::ASSIGNMENT_COUNT, count as u16);
     slice_int::write_u64(b, 0, epoch);
-    OrderedIntake::Taken(epoch, used)
+    Some((epoch, used))
 }

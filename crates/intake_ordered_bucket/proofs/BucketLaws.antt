@@ -4,6 +4,7 @@
 -- `wide-told`); a number of three bytes (`three`) and a part of eight (`eight`); the bytes of a word by its tests
 -- (`wide`), and the bucket (`wide-bucket`).
 -- Assumes nothing.
+use Rattle.std.specs.Prelude.{Option, Some, None}
 use Prim.Native.Nat.{ℕ, ◌+◌, ◌-◌, ◌*◌, ◌/◌, ◌%◌, ◌≤◌, ◌<◌}
 use native.Mathlib.Nat.{div-div-eq-div-mul}
 use native.Mathlib.Omega.{arith}
@@ -14,7 +15,6 @@ use lib.Seq.{get_or-take, get_or-drop, length-take-le}
 use Rattle.slice.proofs.PartLaws.{Bytes, rest}
 use Rattle.slice_int.specs.Be.{be_at}
 use Rattle.slice_int.proofs.BeLaws.{be-at-add, be-at-one}
-use Rattle.wire.specs.declared.varint.Varint.TheVariants as varint
 use Rattle.wire.specs.declared.WireType.TheVariants as wire
 use Rattle.wire.specs.Varints.{varint_of}
 use Rattle.wire.specs.Field.{body_of}
@@ -25,8 +25,6 @@ use Rattle.wire.proofs.FieldsLaws.{fields-nil}
 use Rattle.wire_ordered.specs.Ordered.{NumberIs, PartField}
 use Rattle.wire_ordered.proofs.OrderedLaws.{number-field, part_field}
 use Rattle.intake_ordered_bucket.specs.Buckets.{RangeOf, RangeRow, RangeIs, WordIs, BucketAt, WideIs}
-use Rattle.intake_ordered_bucket.specs.declared.RangeIn.{RangeIn}
-use Rattle.intake_ordered_bucket.specs.declared.RangeIn.TheVariants as range-in
 
 -- nothing is left of a row
 pub row-end : (s : List ℕ) (at : ℕ) → length s ≤ at → fields_of (drop at s) ≡ []
@@ -45,15 +43,15 @@ range-row {q} {start} {end} {second} {behind} m n e o h =
     }
 
 -- .. told of where it is in order and within the key space
-pub range-told : {q : List ℕ} {start end : ℕ} (r : RangeIn) → RangeOf start end r → (start ≤ end → end ≤ 65535 → RangeRow q start end) → RangeIs q r
-range-told (range-in.Found s e) h f = rw (h.0, h.1) (f h.2 h.3)
-range-told range-in.Absent h f = tt
+pub range-told : {q : List ℕ} {start end : ℕ} (r : Option (ℕ × ℕ)) → RangeOf start end r → (start ≤ end → end ≤ 65535 → RangeRow q start end) → RangeIs q r
+range-told (Some (s, e)) h f = rw (h.0, h.1) (f h.2 h.3)
+range-told None h f = tt
 
 -- .. and of a field of 10 bytes
-pub wide-told : {p : List ℕ} {at start end : ℕ} (r : RangeIn) → RangeOf start end r
+pub wide-told : {p : List ℕ} {at start end : ℕ} (r : Option (ℕ × ℕ)) → RangeOf start end r
     → (start ≤ end → end ≤ 65535 → BucketAt p at start end (at + 10)) → WideIs p at r
-wide-told (range-in.Found s e) h f = rw (h.0, h.1) (f h.2 h.3)
-wide-told range-in.Absent h f = tt
+wide-told (Some (s, e)) h f = rw (h.0, h.1) (f h.2 h.3)
+wide-told None h f = tt
 
 -- ---- a bucket in one word
 
@@ -71,12 +69,12 @@ three f q at low high h e a b c =
     let x : get_or s 0 0 ≡ get_or q (at + 1) 0 = get_or-drop (at + 1) q 0 0 ∙ ap (λ (i : ℕ). get_or q i 0) (let z : at + 1 + 0 ≡ at + 1 = omega arith in z) in
     let y : get_or s 1 0 ≡ get_or q (at + 2) 0 = get_or-drop (at + 1) q 1 0 ∙ ap (λ (i : ℕ). get_or q i 0) (let z : at + 1 + 1 ≡ at + 2 = omega arith in z) in
     let w : get_or s 2 0 ≡ get_or q (at + 3) 0 = get_or-drop (at + 1) q 2 0 ∙ ap (λ (i : ℕ). get_or q i 0) (let z : at + 1 + 2 ≡ at + 3 = omega arith in z) in
-    let v : varint_of s ≡ varint.Value (get_or s 0 0 - 128 + 128 * (get_or s 1 0 - 128) + 16384 * get_or s 2 0) 3 =
+    let v : varint_of s ≡ Some (get_or s 0 0 - 128 + 128 * (get_or s 1 0 - 128) + 16384 * get_or s 2 0, 3) =
     varint-behind-two s (omega arith) (omega arith) (omega arith) (omega arith)
     ∙ shifted-ends s 2 (get_or s 0 0 - 128 + 128 * (get_or s 1 0 - 128)) 16384 (omega arith) (omega arith) (omega arith) in
     let m : at + 1 + 3 ≡ at + 4 = omega arith in
     let total : ℕ = get_or q (at + 1) 0 - 128 + 128 * (get_or q (at + 2) 0 - 128) + 16384 * get_or q (at + 3) 0 in
-    let u : varint_of s ≡ varint.Value total 3 = rw (x, y, w) at v in
+    let u : varint_of s ≡ Some (total, 3) = rw (x, y, w) at v in
     subst (NumberIs f q at total) m (number-field f q at (omega arith) low high e total 3 (ap varint_of (rest q (at + 1)) ∙ u))
 
 -- a part of eight bytes
@@ -85,7 +83,7 @@ eight p at h e f =
     let s : List ℕ = drop (at + 1) p in
     let n : length s ≡ length p - (at + 1) = length-drop (at + 1) p in
     let x : get_or s 0 0 ≡ 8 = get_or-drop (at + 1) p 0 0 ∙ ap (λ (i : ℕ). get_or p i 0) (let z : at + 1 + 0 ≡ at + 1 = omega arith in z) ∙ f in
-    let v : varint_of s ≡ varint.Value 8 1 = varint-one s (omega arith) (omega arith) ∙ ap (λ (i : ℕ). varint.Value i 1) x in
+    let v : varint_of s ≡ Some (8, 1) = varint-one s (omega arith) (omega arith) ∙ ap (λ (i : ℕ). Some (i, 1)) x in
     let m : at + 1 + 1 ≡ at + 2 = omega arith in
     let k : at + 1 + 1 + 8 ≡ at + 10 = omega arith in
     subst (λ (i : ℕ). PartField 5 p at i (at + 10)) m

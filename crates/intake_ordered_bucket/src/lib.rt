@@ -7,55 +7,37 @@
 ghost use Rattle.std.specs.Prelude.{◌<◌};
 ghost use Rattle.intake_ordered_bucket.specs.Buckets.{RangeOf, RangeIs, WordIs, WideIs, BucketIs};
 
-use wire_ordered::{NumberAt, Part};
-
 // The highest value of the key space, as wide as a number of a message.
 pub const MAX_HASH: u64 = topic_types::MAX_HASH as u64;
 
 // The bytes of a bucket's field each number of which has three bytes.
 const WIDE: usize = 10;
 
-// A range that a part is.
-#[derive(Clone, Copy)]
-enum RangeIn {
-    // Its start and its end.
-    Found(u64, u64),
-    Absent,
-}
-
-// A bucket of a segment.
-#[derive(Clone, Copy)]
-pub enum Bucket {
-    // Its start and its end, and the place behind its field.
-    Found(u64, u64, usize),
-    Absent,
-}
-
 // The range from a start to an end, where it is not reversed and lies in the key space.
-fn range_of(start: u64, end: u64) -> RangeIn
+fn range_of(start: u64, end: u64) -> Option<(u64, u64)>
     ensures { RangeOf start end result }
 {
     if end < start {
-        return RangeIn::Absent;
+        return None;
     }
     if MAX_HASH < end {
-        return RangeIn::Absent;
+        return None;
     }
-    RangeIn::Found(start, end)
+    Some((start, end))
 }
 
 // The range that the part is: fields 1 and 2, and nothing else.
-fn range_in(q: &[u8]) -> RangeIn
+fn range_in(q: &[u8]) -> Option<(u64, u64)>
     ensures { RangeIs q.now result }
 {
-    let NumberAt::Found(start, second) = wire_ordered::number_at(1, q, 0) else {
-        return RangeIn::Absent;
+    let Some((start, second)) = wire_ordered::number_at(1, q, 0) else {
+        return None;
     };
-    let NumberAt::Found(end, behind) = wire_ordered::number_at(2, q, second) else {
-        return RangeIn::Absent;
+    let Some((end, behind)) = wire_ordered::number_at(2, q, second) else {
+        return None;
     };
     if behind != q.len() {
-        return RangeIn::Absent;
+        return None;
     }
     range_of(start, end)
 }
@@ -74,39 +56,39 @@ fn bucket_word(p: &[u8], at: usize) -> u64
 }
 
 // The bucket at a place, each number of which has three bytes: one word tells it.
-fn wide_bucket(p: &[u8], at: usize) -> RangeIn
+fn wide_bucket(p: &[u8], at: usize) -> Option<(u64, u64)>
     ensures { WideIs p.now at result }
 {
     let w = bucket_word(p, at);
     if w / 72057594037927936 != 8 {
-        return RangeIn::Absent;
+        return None;
     }
     if w / 16777216 % 256 != 16 {
-        return RangeIn::Absent;
+        return None;
     }
     if w / 36028797018963968 % 2 != 1 {
-        return RangeIn::Absent;
+        return None;
     }
     if w / 140737488355328 % 2 != 1 {
-        return RangeIn::Absent;
+        return None;
     }
     if w / 549755813888 % 2 != 0 {
-        return RangeIn::Absent;
+        return None;
     }
     if w / 8388608 % 2 != 1 {
-        return RangeIn::Absent;
+        return None;
     }
     if w / 32768 % 2 != 1 {
-        return RangeIn::Absent;
+        return None;
     }
     if w / 128 % 2 != 0 {
-        return RangeIn::Absent;
+        return None;
     }
     if p[at] != 42 {
-        return RangeIn::Absent;
+        return None;
     }
     if p[at + 1] != 8 {
-        return RangeIn::Absent;
+        return None;
     }
     let start = w / 281474976710656 % 128
         + w / 1099511627776 % 128 * 128
@@ -116,17 +98,17 @@ fn wide_bucket(p: &[u8], at: usize) -> RangeIn
 }
 
 // The bucket of the segment p at a place.
-pub fn bucket_at(p: &[u8], at: usize) -> Bucket
+pub fn bucket_at(p: &[u8], at: usize) -> Option<(u64, u64, usize)>
     ensures { BucketIs p.now at result }
 {
-    if let RangeIn::Found(start, end) = wide_bucket(p, at) {
-        return Bucket::Found(start, end, at + WIDE);
+    if let Some((start, end)) = wide_bucket(p, at) {
+        return Some((start, end, at + WIDE));
     }
-    let Part::Found(from, next) = wire_ordered::part_at(5, p, at) else {
-        return Bucket::Absent;
+    let Some((from, next)) = wire_ordered::part_at(5, p, at) else {
+        return None;
     };
-    let RangeIn::Found(start, end) = range_in(&p[from..next]) else {
-        return Bucket::Absent;
+    let Some((start, end)) = range_in(&p[from..next]) else {
+        return None;
     };
-    Bucket::Found(start, end, next)
+    Some((start, end, next))
 }

@@ -1,6 +1,7 @@
 -- Laws of one bucket range: what the tests of `is_bucket` say of it (`negative-fails`, `high-fails`, `order-decides`), the bounds of a
 -- valid one (`bucket-fits`), and its ends as they are held (`magnitude-negative`, `magnitude-is`, `magnitude-fits`).
 -- Assumes nothing.
+use Rattle.std.specs.Prelude.{Ok, Err}
 use Prim.Native.Nat.{ℕ, ◌≤◌, ◌<◌}
 use native.Mathlib.Decide.{dec_le}
 use native.Mathlib.Omega.{arith}
@@ -15,14 +16,13 @@ use borrow.Author.Tests.{ltb-true, ltb-false, not-true, lt-ltb, le-ltb, le-leb, 
 use Rattle.slice.specs.BoolLaws.{both_true}
 use Rattle.topic_types.specs.declared.KeyRange.{KeyRange}
 use Rattle.topic_types.specs.declared.KeyRangeError.{KeyRangeError}
-use Rattle.topic_types.specs.declared.RangeResult.TheVariants.{Valid, Invalid}
 use Rattle.topic_types.specs.KeyRanges.{max_hash, new_key_range}
 use Rattle.intake_content.specs.Content.{is_valid, is_bucket, magnitude}
 
 -- ---- the tests of a range of numbers
 
 tests : (x y z : Bool) (a b d : KeyRangeError) (r : KeyRange)
-    → is_valid (cond x (Invalid a) (cond y (Invalid b) (cond z (Invalid d) (Valid r)))) ≡ not x && (not y && not z)
+    → is_valid (cond x (Err a) (cond y (Err b) (cond z (Err d) (Ok r)))) ≡ not x && (not y && not z)
 tests true y z a b d r = refl
 tests false true z a b d r = refl
 tests false false true a b d r = refl

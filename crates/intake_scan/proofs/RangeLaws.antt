@@ -3,6 +3,7 @@
 -- In order: a number with a one-byte key (`number_at`); a varint as the program reads it (`VarintAt`); the two numbers are the range's ends
 -- (`usual-range`).
 -- Assumes nothing.
+use Rattle.std.specs.Prelude.{Some}
 use Prim.Native.Nat.{ℕ, ◌+◌, ◌-◌, ◌*◌, ◌/◌, ◌%◌, ◌≤◌, ◌<◌}
 use native.Mathlib.Omega.{arith}
 use mathlib.Core.Path.{◌≡◌, refl, sym, ap, ◌∙◌}
@@ -10,9 +11,7 @@ use mathlib.Core.List.{List, [], ◌∷◌}
 use lib.ListN.{length, take, drop, get_or, length-drop}
 use lib.Seq.{drop-drop, get_or-drop}
 use Rattle.slice.proofs.PartLaws.{rest}
-use Rattle.wire.specs.declared.varint.Varint.TheVariants as varint
 use Rattle.wire.specs.declared.WireType.TheVariants as wire
-use Rattle.wire.specs.declared.Key.TheVariants as key
 use Rattle.wire.specs.declared.Body.TheVariants as body
 use Rattle.wire.specs.Varints.{varint_of}
 use Rattle.wire.specs.Field.{key_read}
@@ -28,30 +27,30 @@ use Rattle.wire_readers.specs.declared.IntRange.{IntRange}
 use Rattle.wire_readers.specs.Messages.{int_range_of}
 
 module _ (f : ℕ) (low : 0 < f) (high : f < 16) (s : List ℕ) (at : ℕ) (h : at < length s) (e : get_or s at 0 ≡ 8 * f) where
-  key-at : key_read (drop at s) ≡ key.Found f wire.Varint 1
+  key-at : key_read (drop at s) ≡ Some (f, wire.Varint, 1)
   key-at =
       let z : at + 0 ≡ at = omega arith in
       let b : get_or (drop at s) 0 0 ≡ 8 * f = get_or-drop at s 0 0 ∙ ap (λ (i : ℕ). get_or s i 0) z ∙ e in
-      let v : varint_of (drop at s) ≡ varint.Value (8 * f) 1 =
+      let v : varint_of (drop at s) ≡ Some (8 * f, 1) =
       varint-one (drop at s) (omega (arith, length-drop at s)) (omega arith) ∙ rw b in
       let d : 8 * f / 8 ≡ f = omega arith in
       let m : 8 * f % 8 ≡ 0 = omega arith in
       key-typed (drop at s) (8 * f) 1 v (omega arith) (λ q. omega arith) 0 m ∙ rw d
 
   -- the number stands behind the key, as `&s[at + 1..]`
-  number_at : (v n : ℕ) → varint_of (take (length s - (at + 1)) (drop (at + 1) s)) ≡ varint.Value v n → NumberAt s at f v (1 + n)
+  number_at : (v n : ℕ) → varint_of (take (length s - (at + 1)) (drop (at + 1) s)) ≡ Some (v, n) → NumberAt s at f v (1 + n)
   number_at v n g =
-      let q : varint_of (take (length (drop at s) - 1) (drop 1 (drop at s))) ≡ varint.Value v n =
+      let q : varint_of (take (length (drop at s) - 1) (drop 1 (drop at s))) ≡ Some (v, n) =
       ap varint_of (rest (drop at s) 1 ∙ drop-drop 1 at s ∙ sym (rest s (at + 1))) ∙ g in
-      let w = front-of-body (drop at s) f wire.Varint 1 (body.Number v n) key-at (number-value _ v n q) in
-      front_at s at h (front.Number f v (1 + n)) (ap front_of (rest s at) ∙ w)
+      let w = front-of-body (drop at s) f wire.Varint 1 (Some (body.Number v n)) key-at (number-value _ v n q) in
+      front_at s at h (Some (front.Number f v (1 + n))) (ap front_of (rest s at) ∙ w)
 
 -- a varint in `&s[at..]`, which it does not leave
 pub record VarintAt (s : List ℕ) (at v n : ℕ) : Type 0 where
-  pub is : varint_of (take (length s - at) (drop at s)) ≡ varint.Value v n
+  pub is : varint_of (take (length s - at) (drop at s)) ≡ Some (v, n)
   pub inside : n ≤ length s - at
 
-pub varint-at : (s : List ℕ) (at v n : ℕ) → varint_of (take (length s - at) (drop at s)) ≡ varint.Value v n → VarintAt s at v n
+pub varint-at : (s : List ℕ) (at v n : ℕ) → varint_of (take (length s - at) (drop at s)) ≡ Some (v, n) → VarintAt s at v n
 varint-at s at v n e =
     let z = varint-size (drop at s) v n (ap varint_of (sym (rest s at)) ∙ e) in
     record { is = e; inside = omega (arith, length-drop at s, z) }

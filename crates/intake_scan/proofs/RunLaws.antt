@@ -4,12 +4,12 @@
 -- a whole row: where it is not valid, its fault (`run-bad`); where it is valid, it has none (`run-valid`), as many buckets as were counted
 -- (`run-count`), each in order and inside the key space (`run_ok`), and where it rises no two share a value (`run-rising`).
 -- Assumes nothing.
+use Rattle.std.specs.Prelude.{Some, None}
 use Prim.Native.Nat.{◌+◌, ◌≤◌}
 use native.Mathlib.Omega.{arith}
 use mathlib.Core.Path.{◌≡◌, refl, sym, ap, ◌∙◌}
 use mathlib.Core.Bool.{Bool, true, false, cond, true≢false, false≢true}
 use mathlib.Core.List.{List, [], ◌∷◌, map, foldl}
-use mathlib.Core.Option.{some, none}
 use lib.ListN.{length}
 use lib.Dec.{leb}
 use borrow.Author.Tests.{le-leb}
@@ -100,7 +100,7 @@ count-after run (r ∷ rs) g e =
     ap (λ (x : BucketRun). x.count) p.is ∙ q ∙ omega arith
 
 module _ (id : SegmentId) where
-  none_after : (run : BucketRun) (rs : List IntRange) → run.valid ≡ true → (after run rs).valid ≡ true → bucket_fault id run.count rs ≡ none
+  none_after : (run : BucketRun) (rs : List IntRange) → run.valid ≡ true → (after run rs).valid ≡ true → bucket_fault id run.count rs ≡ None
   unfolding bucket_fault
   none_after run [] g e = refl
   none_after run (r ∷ rs) g e = let p = parts run r rs g e in rw p.ok (none_after (counted run r) rs refl p.valid)
@@ -109,7 +109,7 @@ module _ (id : SegmentId) where
   FaultAfter run rs =
       (after run rs).valid ≡ false
       → bucket_fault id run.count rs
-      ≡ some (InvalidBucketRange id (after run rs).count (after run rs).last.start (after run rs).last.end)
+      ≡ Some (InvalidBucketRange id (after run rs).count (after run rs).last.start (after run rs).last.end)
 
   -- a row's first bucket, with what holds of those behind it
   fault-first : (run : BucketRun) (r : IntRange) (rs : List IntRange) → run.valid ≡ true → FaultAfter (counted run r) rs
@@ -152,12 +152,12 @@ rising-after run (r ∷ rs) g e h =
 
 module _ (rs : List IntRange) where
   pub run-bad : (id : SegmentId) → (run_of rs).valid ≡ false
-      → bucket_fault id 0 rs ≡ some (InvalidBucketRange id (run_of rs).count (run_of rs).last.start (run_of rs).last.end)
+      → bucket_fault id 0 rs ≡ Some (InvalidBucketRange id (run_of rs).count (run_of rs).last.start (run_of rs).last.end)
   unfolding run_of
   run-bad id g = fault-after id no_buckets rs refl g
 
   module _ (g : (run_of rs).valid ≡ true) where
-    pub run-valid : (id : SegmentId) → bucket_fault id 0 rs ≡ none
+    pub run-valid : (id : SegmentId) → bucket_fault id 0 rs ≡ None
     unfolding run_of
     run-valid id = none_after id no_buckets rs refl g
 

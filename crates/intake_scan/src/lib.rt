@@ -12,7 +12,6 @@ ghost use Rattle.intake_content.specs.Content.{bucket_ok, magnitude, bucket_of};
 ghost use Rattle.intake_scan.specs.Scan.{no_buckets, room_for, with_bucket, bucket_written, ScanIs};
 
 use topic_types::KeyRange;
-use wire::Varint;
 use wire_readers::{IntRange, SegmentHead};
 use wire_values::Front;
 
@@ -47,7 +46,7 @@ pub fn read_bucket(p: &[u8]) -> IntRange
     if p[0] != 8 {
         return wire_readers::read_range(p);
     }
-    let Varint::Value(start, m) = wire::read_short_varint(&p[1..]) else {
+    let Some((start, m)) = wire::read_short_varint(&p[1..]) else {
         return wire_readers::read_range(p);
     };
     let second = 1 + m;
@@ -58,7 +57,7 @@ pub fn read_bucket(p: &[u8]) -> IntRange
         return wire_readers::read_range(p);
     }
     let third = second + 1;
-    let Varint::Value(end, n) = wire::read_short_varint(&p[third..]) else {
+    let Some((end, n)) = wire::read_short_varint(&p[third..]) else {
         return wire_readers::read_range(p);
     };
     if third + n != p.len() {
@@ -193,16 +192,16 @@ pub fn scan_segment(p: &[u8], b: &mut [u8], at: usize) -> SegmentScan
     let mut from: usize = 0;
     while from < p.len() {
         match wire_values::read_front(&p[from..]) {
-            Front::Broken => {
+            None => {
                 return segment_scan(numbers, topic_start, topic_len, run);
             }
-            Front::Number(f, v, size) => {
+            Some(Front::Number(f, v, size)) => {
                 if f < 4 {
                     numbers[f as usize] = v;
                 }
                 from = from + size;
             }
-            Front::Part(f, start, len) => {
+            Some(Front::Part(f, start, len)) => {
                 let begin = from + start;
                 let end = begin + len;
                 if f == 4 {
@@ -215,7 +214,7 @@ pub fn scan_segment(p: &[u8], b: &mut [u8], at: usize) -> SegmentScan
                 }
                 from = end;
             }
-            Front::Fixed(size) => {
+            Some(Front::Fixed(size)) => {
                 from = from + size;
             }
         }

@@ -3,13 +3,13 @@
 --
 -- What a test has said stands as an equation; the segment's numbers and buckets are those of the walk over it (`SegmentIs`, `ScanOf`).
 -- Assumes nothing.
+use Rattle.std.specs.Prelude.{Option, Some, None, ⊤, Result, Ok, Err}
 use Prim.Native.Nat.{ℕ, ◌+◌, ◌-◌}
 use native.Mathlib.Nat.{add-sub_cancel_left}
 use native.Mathlib.Omega.{arith}
 use mathlib.Core.Path.{◌≡◌, refl, sym, ap, subst, ◌∙◌}
 use mathlib.Core.Bool.{Bool, true, false, cond}
 use mathlib.Core.List.{List, [], ◌∷◌, map}
-use mathlib.Core.Option.{Option, some, none}
 use lib.ListN.{length, take, drop}
 use borrow.Author.Tests.{leb-true}
 use Rattle.slice.specs.BoolLaws.{both_true}
@@ -18,8 +18,6 @@ use Rattle.slice.proofs.PartLaws.{rest}
 use Rattle.topic_types.specs.declared.KeyRange.{KeyRange}
 use Rattle.topic_types.specs.declared.KeyRangeError.{KeyRangeError}
 use Rattle.topic_types.specs.declared.SegmentId.{SegmentId}
-use Rattle.topic_types.specs.declared.RangeResult.{RangeResult}
-use Rattle.topic_types.specs.declared.RangeResult.TheVariants.{Valid, Invalid}
 use Rattle.topic_types.specs.KeyRanges.{key_range, new_key_range}
 use Rattle.refusal.specs.declared.Refusal.{Refusal}
 use Rattle.refusal.specs.declared.Refusal.TheVariants.{InvalidRange, InvalidBucketRange, OverlappingBucketRanges}
@@ -34,15 +32,11 @@ use Rattle.keyed.specs.Keyed.{or_else}
 use Rattle.wire_readers.specs.declared.SegmentHead.{SegmentHead}
 use Rattle.wire_readers.specs.Messages.{read_segment}
 use Rattle.wire_readers.specs.Places.{SegmentIs}
-use Rattle.intake_content.specs.declared.Outside.{Outside}
-use Rattle.intake_content.specs.declared.Outside.TheVariants.{At, Nothing}
 use Rattle.intake_content.specs.Content.{wire_id, bucket_fault, bucket_of, buckets_of, overlap_fault, first_outside, outside_of, outside_fault, name_fault, segment_fault}
 use Rattle.intake_content.proofs.OutsideLaws.{place_found, place_none}
 use Rattle.intake_scan.specs.declared.SegmentScan.{SegmentScan}
 use Rattle.intake_scan.proofs.RunLaws.{run-bad, run-valid, run-count, run_ok, run-rising}
 use Rattle.intake_buckets.specs.Rows.{buckets_from}
-use Rattle.intake_segment.specs.declared.Verdict.{Verdict}
-use Rattle.intake_segment.specs.declared.Verdict.TheVariants.{Accepted, Refused}
 use Rattle.intake_segment.specs.Verdicts.{verdict_of, ScanOf}
 
 abbrev id_of : SegmentHead → SegmentId
@@ -50,7 +44,7 @@ id_of head = record { 0 = head.segment_id }
 
 -- ---- the name
 
-pub name-no-parent : (parent p : List ℕ) → is_parent parent ≡ false → Refused InvalidParent ≡ verdict_of (name_fault parent (read_segment p))
+pub name-no-parent : (parent p : List ℕ) → is_parent parent ≡ false → Err InvalidParent ≡ verdict_of (name_fault parent (read_segment p))
 unfolding name_fault
 name-no-parent parent p e = rw e
 
@@ -64,15 +58,15 @@ module _ (parent : List ℕ) {p : List ℕ} {head : SegmentHead} (S : SegmentIs 
       (segment_topic (take (length parent - 8) (drop 8 parent)) (key_range head.hash_start head.hash_end) (id_of head))
 
   module _ (g : is_parent parent ≡ true) {t : Bool} (said : t ≡ same) where
-    opened : name_fault parent (read_segment p) ≡ cond t none (some (AttachmentMismatch (id_of head)))
+    opened : name_fault parent (read_segment p) ≡ cond t None (Some (AttachmentMismatch (id_of head)))
     unfolding name_fault
     opened =
         rw (g, said, add-sub_cancel_left head.topic_start head.topic_len, rest parent 8, S.topic, S.start, S.end, S.id)
 
-    pub name-valid : t ≡ true → Accepted ≡ verdict_of (name_fault parent (read_segment p))
+    pub name-valid : t ≡ true → (Ok record {}) ≡ verdict_of (name_fault parent (read_segment p))
     name-valid y = sym (ap verdict_of opened ∙ rw y)
 
-    pub name-other : t ≡ false → Refused (AttachmentMismatch (id_of head)) ≡ verdict_of (name_fault parent (read_segment p))
+    pub name-other : t ≡ false → Err (AttachmentMismatch (id_of head)) ≡ verdict_of (name_fault parent (read_segment p))
     name-other y = sym (ap verdict_of opened ∙ rw y)
 
 -- ---- the buckets inside the range, then the name
@@ -85,7 +79,7 @@ buckets-are p = refl
 abbrev pub inside_fault : List ℕ → List ℕ → Option Refusal
 inside_fault parent p = or_else (outside_fault (read_segment p)) (name_fault parent (read_segment p))
 
-module _ (parent : List ℕ) {p : List ℕ} {head : SegmentHead} (S : SegmentIs p head) {r : Outside}
+module _ (parent : List ℕ) {p : List ℕ} {head : SegmentHead} (S : SegmentIs p head) {r : Option ℕ}
     (said : r ≡ outside_of (first_outside (key_range head.hash_start head.hash_end) 0 (buckets_from p 0))) where
   -- the place that the walk found, in the segment's terms
   abbrev place : Option ℕ
@@ -94,10 +88,10 @@ module _ (parent : List ℕ) {p : List ℕ} {head : SegmentHead} (S : SegmentIs 
   place_is : r ≡ outside_of place
   place_is = rw (← S.start, ← S.end, buckets-are p) said
 
-  pub outside-found : {i : ℕ} → r ≡ At i → Refused (BucketOutsideSegment (id_of head) i) ≡ verdict_of (inside_fault parent p)
+  pub outside-found : {i : ℕ} → r ≡ Some i → Err (BucketOutsideSegment (id_of head) i) ≡ verdict_of (inside_fault parent p)
   outside-found {i} e = rw (place_found place i (sym e ∙ place_is), S.id)
 
-  pub outside-none : r ≡ Nothing → {v : Verdict} → v ≡ verdict_of (name_fault parent (read_segment p)) → v ≡ verdict_of (inside_fault parent p)
+  pub outside-none : r ≡ None → {v : Result ⊤ Refusal} → v ≡ verdict_of (name_fault parent (read_segment p)) → v ≡ verdict_of (inside_fault parent p)
   outside-none e f = rw (place_none place (sym e ∙ place_is)) f
 
 -- ---- the buckets, then the others
@@ -123,14 +117,14 @@ buckets_fault parent p =
 
 module _ (parent : List ℕ) {p : List ℕ} {scan : SegmentScan} (S : ScanOf p scan) where
   pub bucket-bad : scan.run.valid ≡ false
-      → Refused (InvalidBucketRange (id_of scan.head) scan.run.count scan.run.last.start scan.run.last.end)
+      → Err (InvalidBucketRange (id_of scan.head) scan.run.count scan.run.last.start scan.run.last.end)
       ≡ verdict_of (buckets_fault parent p)
   bucket-bad g =
       let b = run-bad (read_segment p).bucket_ranges (wire_id (read_segment p)) (rw S.run at g) in
       rw (b, S.run, S.head.id)
 
   module _ (g : scan.run.valid ≡ true) where
-    valid : (id : SegmentId) → bucket_fault id 0 (read_segment p).bucket_ranges ≡ none
+    valid : (id : SegmentId) → bucket_fault id 0 (read_segment p).bucket_ranges ≡ None
     valid = run-valid (read_segment p).bucket_ranges (rw S.run at g)
 
     pub buckets-valid : AllValid (buckets_from p 0)
@@ -139,31 +133,31 @@ module _ (parent : List ℕ) {p : List ℕ} {scan : SegmentScan} (S : ScanOf p s
         subst AllValid (buckets-are p) (all_valid (buckets_of (read_segment p)) o.0 o.1)
 
     -- no two share a value
-    apart : any_overlap (buckets_of (read_segment p)) ≡ false → {r : Verdict} → r ≡ verdict_of (inside_fault parent p)
+    apart : any_overlap (buckets_of (read_segment p)) ≡ false → {r : Result ⊤ Refusal} → r ≡ verdict_of (inside_fault parent p)
         → r ≡ verdict_of (buckets_fault parent p)
     apart a e = rw (valid (wire_id (read_segment p)), a) e
 
     -- there are none
-    pub buckets-none : scan.run.count ≡ 0 → {r : Verdict} → r ≡ verdict_of (name_fault parent (read_segment p))
+    pub buckets-none : scan.run.count ≡ 0 → {r : Result ⊤ Refusal} → r ≡ verdict_of (name_fault parent (read_segment p))
         → r ≡ verdict_of (buckets_fault parent p)
     unfolding any_overlap first_outside
     buckets-none h e =
         let w = read_segment p in
         let n : length w.bucket_ranges ≡ 0 = sym (run-count w.bucket_ranges (rw S.run at g)) ∙ (rw S.run at h) in
         let b : buckets_of w ≡ [] = ap (map bucket_of) (none_left w.bucket_ranges n) in
-        let o : first_outside (key_range w.hash_start w.hash_end) 0 (buckets_of w) ≡ none =
+        let o : first_outside (key_range w.hash_start w.hash_end) 0 (buckets_of w) ≡ None =
         ap (first_outside (key_range w.hash_start w.hash_end) 0) b in
         apart (ap any_overlap b) (rw o e)
 
-    pub buckets-rise : scan.run.rising ≡ true → {r : Verdict} → r ≡ verdict_of (inside_fault parent p)
+    pub buckets-rise : scan.run.rising ≡ true → {r : Result ⊤ Refusal} → r ≡ verdict_of (inside_fault parent p)
         → r ≡ verdict_of (buckets_fault parent p)
     buckets-rise h e = apart (run-rising (read_segment p).bucket_ranges (rw S.run at g) (rw S.run at h)) e
 
     module _ {t : Bool} (said : t ≡ any_overlap (buckets_from p 0)) where
-      pub buckets-apart : t ≡ false → {r : Verdict} → r ≡ verdict_of (inside_fault parent p) → r ≡ verdict_of (buckets_fault parent p)
+      pub buckets-apart : t ≡ false → {r : Result ⊤ Refusal} → r ≡ verdict_of (inside_fault parent p) → r ≡ verdict_of (buckets_fault parent p)
       buckets-apart y e = apart (ap any_overlap (buckets-are p) ∙ sym said ∙ y) e
 
-      pub buckets-overlap : t ≡ true → Refused (OverlappingBucketRanges (id_of scan.head)) ≡ verdict_of (buckets_fault parent p)
+      pub buckets-overlap : t ≡ true → Err (OverlappingBucketRanges (id_of scan.head)) ≡ verdict_of (buckets_fault parent p)
       buckets-overlap y =
           let a : any_overlap (buckets_of (read_segment p)) ≡ true = ap any_overlap (buckets-are p) ∙ sym said ∙ y in
           rw (valid (wire_id (read_segment p)), a, S.head.id)
@@ -172,16 +166,16 @@ module _ (parent : List ℕ) {p : List ℕ} {scan : SegmentScan} (S : ScanOf p s
 
 module _ (parent : List ℕ) {p : List ℕ} {head : SegmentHead} (S : SegmentIs p head) where
   -- what `KeyRange::new` said of the numbers of the walk, it says of the segment's
-  range-is : {q : RangeResult} → new_key_range head.hash_start head.hash_end ≡ q
+  range-is : {q : Result KeyRange KeyRangeError} → new_key_range head.hash_start head.hash_end ≡ q
       → new_key_range (read_segment p).hash_start (read_segment p).hash_end ≡ q
   range-is h = rw (← S.start, ← S.end) h
 
-  pub range-bad : {e : KeyRangeError} → new_key_range head.hash_start head.hash_end ≡ Invalid e
-      → Refused (InvalidRange (id_of head) e) ≡ verdict_of (segment_fault parent (read_segment p))
+  pub range-bad : {e : KeyRangeError} → new_key_range head.hash_start head.hash_end ≡ Err e
+      → Err (InvalidRange (id_of head) e) ≡ verdict_of (segment_fault parent (read_segment p))
   unfolding segment_fault
   range-bad h = rw (range-is h, S.id)
 
-  pub range-valid : {k : KeyRange} {r : Verdict} → new_key_range head.hash_start head.hash_end ≡ Valid k
+  pub range-valid : {k : KeyRange} {r : Result ⊤ Refusal} → new_key_range head.hash_start head.hash_end ≡ Ok k
       → r ≡ verdict_of (buckets_fault parent p) → r ≡ verdict_of (segment_fault parent (read_segment p))
   unfolding segment_fault
   range-valid h e = rw (range-is h) e

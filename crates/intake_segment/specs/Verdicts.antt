@@ -2,19 +2,16 @@
 --
 -- What the tests of one segment answer.
 -- Assumes nothing.
-use Rattle.std.specs.Prelude.{◌≡◌, List, ℕ}
-use Rattle.std.proofs.Math.Option.{Option, some, none}
+use Rattle.std.specs.Prelude.{◌≡◌, List, ℕ, Option, Some, None, ⊤, Result, Ok, Err}
 use Rattle.refusal.specs.declared.Refusal.{Refusal}
 use Rattle.wire_readers.specs.Messages.{read_segment}
 use Rattle.wire_readers.specs.Places.{SegmentIs}
 use Rattle.intake_scan.specs.declared.SegmentScan.{SegmentScan}
 use Rattle.intake_scan.specs.Scan.{run_of}
-use Rattle.intake_segment.specs.declared.Verdict.{Verdict}
-use Rattle.intake_segment.specs.declared.Verdict.TheVariants.{Accepted, Refused}
 
-abbrev pub verdict_of : Option Refusal → Verdict
-verdict_of none = Accepted
-verdict_of (some x) = Refused x
+abbrev pub verdict_of : Option Refusal → Result ⊤ Refusal
+verdict_of None = Ok record {}
+verdict_of (Some x) = Err x
 
 -- the scan is the segment p's
 pub record ScanOf (p : List ℕ) (scan : SegmentScan) : Type 0 where

@@ -11,27 +11,20 @@ ghost use Rattle.wire_readers.specs.Places.{SegmentIs};
 ghost use Rattle.intake_content.specs.Content.{wire_id, bucket_fault, overlap_fault, outside_fault, name_fault, segment_fault};
 ghost use Rattle.intake_segment.specs.Verdicts.{verdict_of, ScanOf};
 
-use intake_content::Outside;
 use intake_scan::SegmentScan;
 use name_parents::SCHEME;
 use refusal::Refusal;
-use topic_types::{KeyRange, RangeResult, SegmentId};
+use topic_types::{KeyRange, SegmentId};
 use wire_readers::SegmentHead;
 
-#[derive(Clone, Copy)]
-pub enum Verdict {
-    Accepted,
-    Refused(Refusal),
-}
-
 // The parent (12), then the segment's name (13).
-fn check_name(p: &[u8], parent: &[u8], parent_valid: bool, head: SegmentHead) -> Verdict
+fn check_name(p: &[u8], parent: &[u8], parent_valid: bool, head: SegmentHead) -> Result<(), Refusal>
     requires parent_valid_value { parent_valid ≡ is_parent parent.now }
     requires segment_is { SegmentIs p.now head }
     ensures { result ≡ verdict_of (name_fault parent.now (read_segment p.now)) }
 {
     if !parent_valid {
-        return Verdict::Refused(Refusal::InvalidParent);
+        return Err(Refusal::InvalidParent);
     }
     let segment_id = SegmentId(head.segment_id);
     let range = KeyRange {
@@ -41,14 +34,19 @@ fn check_name(p: &[u8], parent: &[u8], parent_valid: bool, head: SegmentHead) ->
     let from = head.topic_start;
     let to = from + head.topic_len;
     if name_topic::is_segment_topic(&p[from..to], &parent[SCHEME..], range, segment_id) {
-        Verdict::Accepted
+        Ok(())
     } else {
-        Verdict::Refused(Refusal::AttachmentMismatch { segment_id })
+        Err(Refusal::AttachmentMismatch { segment_id })
     }
 }
 
 // Each bucket against the segment's range (34), then the name.
-fn check_inside(p: &[u8], parent: &[u8], parent_valid: bool, head: SegmentHead) -> Verdict
+fn check_inside(
+    p: &[u8],
+    parent: &[u8],
+    parent_valid: bool,
+    head: SegmentHead,
+) -> Result<(), Refusal>
     requires parent_valid_value { parent_valid ≡ is_parent parent.now }
     requires segment_is { SegmentIs p.now head }
     ensures { result ≡ verdict_of (or_else (outside_fault (read_segment p.now)) (name_fault parent.now (read_segment p.now))) }
@@ -58,16 +56,21 @@ fn check_inside(p: &[u8], parent: &[u8], parent_valid: bool, head: SegmentHead) 
         end: head.hash_end,
     };
     match intake_buckets::first_outside(p, range) {
-        Outside::At(index) => {
+        Some(index) => {
             let segment_id = SegmentId(head.segment_id);
-            Verdict::Refused(Refusal::BucketOutsideSegment { segment_id, index })
+            Err(Refusal::BucketOutsideSegment { segment_id, index })
         }
-        Outside::Nothing => check_name(p, parent, parent_valid, head),
+        None => check_name(p, parent, parent_valid, head),
     }
 }
 
 // Each bucket (10), then all of them (11), unless they rise; then the segment's range (34) and the name. Without buckets the name alone.
-fn check_buckets(p: &[u8], parent: &[u8], parent_valid: bool, scan: SegmentScan) -> Verdict
+fn check_buckets(
+    p: &[u8],
+    parent: &[u8],
+    parent_valid: bool,
+    scan: SegmentScan,
+) -> Result<(), Refusal>
     requires parent_valid_value { parent_valid ≡ is_parent parent.now }
     requires scan_of { ScanOf p.now scan }
     ensures { result ≡ verdict_of (or_else (bucket_fault (wire_id (read_segment p.now)) 0 (read_segment p.now).bucket_ranges)
@@ -79,7 +82,7 @@ fn check_buckets(p: &[u8], parent: &[u8], parent_valid: bool, scan: SegmentScan)
     let segment_id = SegmentId(head.segment_id);
     if !run.valid {
         let last = run.last;
-        return Verdict::Refused(Refusal::InvalidBucketRange {
+        return Err(Refusal::InvalidBucketRange {
             segment_id,
             index: run.count,
             start: last.start,
@@ -93,23 +96,28 @@ fn check_buckets(p: &[u8], parent: &[u8], parent_valid: bool, scan: SegmentScan)
         return check_inside(p, parent, parent_valid, head);
     }
     if intake_buckets::buckets_overlap(p) {
-        return Verdict::Refused(Refusal::OverlappingBucketRanges { segment_id });
+        return Err(Refusal::OverlappingBucketRanges { segment_id });
     }
     check_inside(p, parent, parent_valid, head)
 }
 
 // The segment in the part p: its range (9), then buckets and name.
-pub fn check_segment(p: &[u8], parent: &[u8], parent_valid: bool, scan: SegmentScan) -> Verdict
+pub fn check_segment(
+    p: &[u8],
+    parent: &[u8],
+    parent_valid: bool,
+    scan: SegmentScan,
+) -> Result<(), Refusal>
     requires parent_valid_value { parent_valid ≡ is_parent parent.now }
     requires scan_of { ScanOf p.now scan }
     ensures { result ≡ verdict_of (segment_fault parent.now (read_segment p.now)) }
 {
     let head = scan.head;
     match KeyRange::new(head.hash_start, head.hash_end) {
-        RangeResult::Invalid(source) => {
+        Err(source) => {
             let segment_id = SegmentId(head.segment_id);
-            Verdict::Refused(Refusal::InvalidRange { segment_id, source })
+            Err(Refusal::InvalidRange { segment_id, source })
         }
-        RangeResult::Valid(_) => check_buckets(p, parent, parent_valid, scan),
+        Ok(_) => check_buckets(p, parent, parent_valid, scan),
     }
 }

@@ -4,13 +4,14 @@
 -- no value is taken no bucket meets the range (`none-meets`); the answer by the least hash (`at-is`), by what is found
 -- (`in_is`), and of a packed assignment.
 -- Assumes nothing.
+use Rattle.std.specs.Prelude.{Option, Some, None}
 use Prim.Native.Nat.{ℕ, suc, ◌/◌, ◌%◌, ◌^◌, ◌≤◌, ◌<◌}
 use native.Mathlib.Nat.{mod-eq_of_lt}
 use native.Mathlib.Omega.{arith}
 use mathlib.Core.Path.{◌≡◌, refl, sym, ap, ◌∙◌, subst}
 use mathlib.Core.Bool.{Bool, true, false, ◌&&◌, ◌||◌, true≢false}
 use mathlib.Core.List.{List, [], ◌∷◌}
-use mathlib.Core.Option.{Option, some, none, none-ne-some, some-injective}
+use Rattle.std.proofs.lemmas.Option.{none-some, same_Some}
 use lib.ListN.{length}
 use lib.Dec.{leb, eqb}
 use borrow.Author.Tests.{leb-true}
@@ -29,8 +30,6 @@ use Rattle.key_murmur3.specs.Murmur3.{murmur3}
 use Rattle.key_lookup.specs.Lookup.{key_hash, any_holds, takes}
 use Rattle.key_for_hash.specs.Inverse.{key_bytes, key_for_hash}
 use Rattle.key_for_hash.proofs.KeyLaws.{always-one}
-use Rattle.key_in_segment.specs.declared.Least.{Least}
-use Rattle.key_in_segment.specs.declared.Least.TheVariants.{Value, NoValue}
 use Rattle.key_in_segment.specs.Least.{least_taken, LeastValue, LeastOf}
 use Rattle.key_in_segment.specs.SegmentKey.{key_at, key_in, key_in_segment}
 use Rattle.key_in_segment.specs.Answered.{NoneFalls, Answered}
@@ -40,21 +39,21 @@ use Rattle.key_in_segment.proofs.LeastLaws.{least-taken, within-holds, start-tak
 
 -- it is the first, or one of the others
 found-by : (P : AssignedSegment → Type 0) (id : ℕ) (x : AssignedSegment) (gs : List AssignedSegment) (g : AssignedSegment) → P x
-    → (find id_of id gs ≡ some g → P g) → find id_of id (x ∷ gs) ≡ some g → P g
+    → (find id_of id gs ≡ Some g → P g) → find id_of id (x ∷ gs) ≡ Some g → P g
 found-by P id x gs g px rest e = go (eqb id x.segment_id) refl
   where
     go : (t : Bool) → eqb id x.segment_id ≡ t → P g
     go true h = subst P (some-injective x g (sym (rw h) ∙ e)) px
     go false h = rest (sym (rw h) ∙ e)
 
-found-valid : (id low : ℕ) (gs : List AssignedSegment) (g : AssignedSegment) → ok_from low gs ≡ true → find id_of id gs ≡ some g → ok_segment g ≡ true
-found-valid id low [] g o e = absurd (none-ne-some g e)
+found-valid : (id low : ℕ) (gs : List AssignedSegment) (g : AssignedSegment) → ok_from low gs ≡ true → find id_of id gs ≡ Some g → ok_segment g ≡ true
+found-valid id low [] g o e = absurd (none-some g e)
 found-valid id low (x ∷ gs) g o e =
     found-by (λ (y : AssignedSegment). ok_segment y ≡ true) id x gs g (ok-segment low x gs o)
     (found-valid id (suc x.segment_id) gs g (ok-tail low x gs o)) e
 
-found-fit : (id : ℕ) (gs : List AssignedSegment) (g : AssignedSegment) → FitSegments gs → find id_of id gs ≡ some g → FitSegment g
-found-fit id [] g f e = absurd (none-ne-some g e)
+found-fit : (id : ℕ) (gs : List AssignedSegment) (g : AssignedSegment) → FitSegments gs → find id_of id gs ≡ Some g → FitSegment g
+found-fit id [] g f e = absurd (none-some g e)
 found-fit id (x ∷ gs) g f e = found-by FitSegment id x gs g f.0 (found-fit id gs g f.1) e
 
 -- ---- no bucket meets the range
@@ -81,7 +80,7 @@ none-meets r (b ∷ bs) h o w =
 
 -- ---- the answers
 
-module _ (gs : List AssignedSegment) (id : ℕ) (g : AssignedSegment) (e : find id_of id gs ≡ some g) (ok : ok_segment g ≡ true) (fit : FitSegment g) where
+module _ (gs : List AssignedSegment) (id : ℕ) (g : AssignedSegment) (e : find id_of id gs ≡ Some g) (ok : ok_segment g ≡ true) (fit : FitSegment g) where
   ordered : g.range.start ≤ g.range.end
   unfolding ok_segment
   ordered = leb-true g.range.start g.range.end (both_true (is_in_order g.range) _ ok).0
@@ -93,9 +92,9 @@ module _ (gs : List AssignedSegment) (id : ℕ) (g : AssignedSegment) (e : find 
       let o : all_in_order g.buckets ≡ true = (both_true (all_in_order g.buckets) _ (both_true (is_in_order g.range) _ ok).1).0 in
       record { bucketed = z; apart = none-meets g.range g.buckets ordered o (λ v. taken-bucketed g z v ∙ w v) }
 
-  at-is : (x : Least) → LeastOf (λ v. takes v g) x → Answered gs id (key_at x)
+  at-is : (x : Option ℕ) → LeastOf (λ v. takes v g) x → Answered gs id (key_at x)
   unfolding key_at
-  at-is (Value v) w =
+  at-is (Some v) w =
       let b : v ≤ g.range.end = (taken-within g v w.passes).high in
       let s : g.range.end < 256 ^ 2 = fit.range.end in
       let h : murmur3 (key_bytes (key_for_hash v)) ≡ v = (always-one v (omega arith)).has in
@@ -106,13 +105,13 @@ module _ (gs : List AssignedSegment) (id : ℕ) (g : AssignedSegment) (e : find 
         upper = ap (λ (n : ℕ). n / 2 ^ 16) h ∙ omega arith;
         smallest = subst (λ (n : ℕ). LeastValue (λ u. takes u g) n) q w;
       }
-  at-is NoValue w = λ y f. subst NoneFalls (some-injective g y (sym e ∙ f)) (none-falls w)
+  at-is None w = λ y f. subst NoneFalls (some-injective g y (sym e ∙ f)) (none-falls w)
 
 in_is : (gs : List AssignedSegment) (id : ℕ) → ok_from 0 gs ≡ true → FitSegments gs → (o : Option AssignedSegment) → find id_of id gs ≡ o
     → Answered gs id (key_in o)
 unfolding key_in
-in_is gs id ok fit (some g) e = at-is gs id g e (found-valid id 0 gs g ok e) (found-fit id gs g fit e) (least_taken g) (least-taken g)
-in_is gs id ok fit none e = λ g f. absurd (none-ne-some g (sym e ∙ f))
+in_is gs id ok fit (Some g) e = at-is gs id g e (found-valid id 0 gs g ok e) (found-fit id gs g fit e) (least_taken g) (least-taken g)
+in_is gs id ok fit None e = λ g f. absurd (none-some g (sym e ∙ f))
 
 pub answer-is : (l : List ℕ) (id : ℕ) → Bytes l → is_assignment l ≡ true → Answered (decode_assignment l).segments id (key_in_segment l id)
 unfolding key_in_segment is_assignment starts_assignment ok_assignment

@@ -5,6 +5,7 @@
 -- `least-common`), of a range and a row (`least-row`); a segment without buckets and with (`least-whole`,
 -- `least-bucketed`); a row range by range (`lesser-none`, `row-turn`).
 -- Assumes nothing.
+use Rattle.std.specs.Prelude.{Option, Some, None}
 use Prim.Native.Nat.{ℕ, zero, suc, ◌+◌, ◌-◌, ◌≤◌, ◌<◌, min, max}
 use native.Mathlib.Decide.{dec_le}
 use native.Mathlib.Omega.{arith}
@@ -19,29 +20,27 @@ use Rattle.ranges.specs.Meaning.{Within}
 use Rattle.ranges_calls.specs.Calls.{holds}
 use Rattle.packed.specs.Assignment.{AssignedSegment}
 use Rattle.key_lookup.specs.Lookup.{any_holds, in_buckets, takes}
-use Rattle.key_in_segment.specs.declared.Least.{Least}
-use Rattle.key_in_segment.specs.declared.Least.TheVariants.{Value, NoValue}
 use Rattle.key_in_segment.specs.Least.{first_passing, least_taken, LeastValue, LeastOf}
 use Rattle.key_in_segment.specs.Ends.{lesser_of, least_common, least_in}
 
 -- ---- there is only one
 
-pub least-one : (p : ℕ → Bool) (x y : Least) → LeastOf p x → LeastOf p y → x ≡ y
-least-one p (Value a) (Value b) v w =
+pub least-one : (p : ℕ → Bool) (x y : Option ℕ) → LeastOf p x → LeastOf p y → x ≡ y
+least-one p (Some a) (Some b) v w =
     let h : a ≤ b = v.least b w.passes in
     let k : b ≤ a = w.least a v.passes in
     let e : a ≡ b = omega arith in
-    ap Value e
-least-one p (Value a) NoValue v w = absurd (true≢false (sym v.passes ∙ w a))
-least-one p NoValue (Value b) v w = absurd (true≢false (sym w.passes ∙ v b))
-least-one p NoValue NoValue v w = refl
+    ap Some e
+least-one p (Some a) None v w = absurd (true≢false (sym v.passes ∙ w a))
+least-one p None (Some b) v w = absurd (true≢false (sym w.passes ∙ v b))
+least-one p None None v w = refl
 
 -- ---- the first of a row of values
 
 module _ (p : ℕ → Bool) where
   -- the first of them, v, passes or not
-  first_by : (v : ℕ) (rest : Least) → ((u : ℕ) → u < v → p u ≡ false) → (p v ≡ false → LeastOf p rest) → (t : Bool) → p v ≡ t
-      → LeastOf p (cond t (Value v) rest)
+  first_by : (v : ℕ) (rest : Option ℕ) → ((u : ℕ) → u < v → p u ≡ false) → (p v ≡ false → LeastOf p rest) → (t : Bool) → p v ≡ t
+      → LeastOf p (cond t (Some v) rest)
   first_by v rest below other false e = other e
   first_by v rest below other true e = record { passes = e; least = λ u k. go u k (dec_le v u) }
     where
@@ -78,9 +77,9 @@ least-taken g =
 
 -- ---- the least of either of two tests
 
-least-ext : (p q : ℕ → Bool) (x : Least) → ((u : ℕ) → p u ≡ q u) → LeastOf p x → LeastOf q x
-least-ext p q (Value v) e w = record { passes = sym (e v) ∙ w.passes; least = λ u k. w.least u (e u ∙ k) }
-least-ext p q NoValue e w = λ u. sym (e u) ∙ w u
+least-ext : (p q : ℕ → Bool) (x : Option ℕ) → ((u : ℕ) → p u ≡ q u) → LeastOf p x → LeastOf q x
+least-ext p q (Some v) e w = record { passes = sym (e v) ∙ w.passes; least = λ u k. w.least u (e u ∙ k) }
+least-ext p q None e w = λ u. sym (e u) ∙ w u
 
 module _ (p q : ℕ → Bool) where
   abbrev either : ℕ → Bool
@@ -93,10 +92,10 @@ module _ (p q : ℕ → Bool) where
       go true e = let j : a ≤ u = x.least u e in omega arith
       go false e = let j : b ≤ u = y.least u (sym (ap (λ (t : Bool). t || q u) e) ∙ k) in omega arith
 
-  least-either : (x y : Least) → LeastOf p x → LeastOf q y → LeastOf either (lesser_of x y)
-  least-either NoValue y v w = least-ext q either y (λ u. sym (ap (λ (t : Bool). t || q u) (v u))) w
-  least-either (Value a) NoValue v w = least-ext p either (Value a) (λ u. sym (ap (λ (t : Bool). p u || t) (w u) ∙ or-false (p u))) v
-  least-either (Value a) (Value b) v w = go (dec_le a b)
+  least-either : (x y : Option ℕ) → LeastOf p x → LeastOf q y → LeastOf either (lesser_of x y)
+  least-either None y v w = least-ext q either y (λ u. sym (ap (λ (t : Bool). t || q u) (v u))) w
+  least-either (Some a) None v w = least-ext p either (Some a) (λ u. sym (ap (λ (t : Bool). p u || t) (w u) ∙ or-false (p u))) v
+  least-either (Some a) (Some b) v w = go (dec_le a b)
     where
       go : Dec (a ≤ b) → LeastValue either (min a b)
       go (yes h) =
@@ -123,13 +122,13 @@ within-holds u r w = rw (le-leb r.start u w.low, le-leb u r.end w.high)
 
 -- by the higher start
 module _ (a b : KeyRange) (v : ℕ) (e : v ≡ max a.start b.start) where
-  pub common-none : min a.end b.end < v → NoValue ≡ least_common a b
+  pub common-none : min a.end b.end < v → None ≡ least_common a b
   unfolding least_common
   common-none h = rw (lt-leb (max a.start b.start) (min a.end b.end) (omega arith))
 
-  pub common-some : v ≤ a.end → v ≤ b.end → Value v ≡ least_common a b
+  pub common-some : v ≤ a.end → v ≤ b.end → Some v ≡ least_common a b
   unfolding least_common
-  common-some h k = rw (le-leb (max a.start b.start) (min a.end b.end) (omega arith)) (ap Value e)
+  common-some h k = rw (le-leb (max a.start b.start) (min a.end b.end) (omega arith)) (ap Some e)
 
 module _ (a b : KeyRange) where
   abbrev both : ℕ → Bool
@@ -153,7 +152,7 @@ module _ (a b : KeyRange) where
   unfolding least_common
   least-common = go (leb high low) refl
     where
-      go : (t : Bool) → leb high low ≡ t → LeastOf both (cond t (Value high) NoValue)
+      go : (t : Bool) → leb high low ≡ t → LeastOf both (cond t (Some high) None)
       go true e =
           let h : high ≤ low = leb-true high low e in
           record {
@@ -189,9 +188,9 @@ pub taken-within : (g : AssignedSegment) (v : ℕ) → takes v g ≡ true → Wi
 unfolding takes
 taken-within g v e = holds-within v g.range (both_true (holds v g.range) _ e).0
 
-pub least-whole : (g : AssignedSegment) → g.buckets ≡ [] → g.range.start ≤ g.range.end → Value g.range.start ≡ least_taken g
+pub least-whole : (g : AssignedSegment) → g.buckets ≡ [] → g.range.start ≤ g.range.end → Some g.range.start ≡ least_taken g
 least-whole g e h =
-    least-one (λ v. takes v g) (Value g.range.start) (least_taken g)
+    least-one (λ v. takes v g) (Some g.range.start) (least_taken g)
     (record { passes = start-taken g e h; least = λ u k. (taken-within g u k).low }) (least-taken g)
 
 -- with buckets it takes what one of them has
@@ -211,19 +210,19 @@ least-bucketed g z =
 
 -- ---- one turn over a row: what was found so far, and what is left
 
-pub lesser-none : (x : Least) → lesser_of x NoValue ≡ x
-lesser-none (Value a) = refl
-lesser-none NoValue = refl
+pub lesser-none : (x : Option ℕ) → lesser_of x None ≡ x
+lesser-none (Some a) = refl
+lesser-none None = refl
 
-lesser-assoc : (x y z : Least) → lesser_of x (lesser_of y z) ≡ lesser_of (lesser_of x y) z
-lesser-assoc NoValue y z = refl
-lesser-assoc (Value a) NoValue z = refl
-lesser-assoc (Value a) (Value b) NoValue = refl
-lesser-assoc (Value a) (Value b) (Value d) = let e : min a (min b d) ≡ min (min a b) d = omega arith in ap Value e
+lesser-assoc : (x y z : Option ℕ) → lesser_of x (lesser_of y z) ≡ lesser_of (lesser_of x y) z
+lesser-assoc None y z = refl
+lesser-assoc (Some a) None z = refl
+lesser-assoc (Some a) (Some b) None = refl
+lesser-assoc (Some a) (Some b) (Some d) = let e : min a (min b d) ≡ min (min a b) d = omega arith in ap Some e
 
 -- a range more
-pub row-turn : (r b : KeyRange) (rs : List KeyRange) (best next : Least) → next ≡ lesser_of best (least_common r b)
+pub row-turn : (r b : KeyRange) (rs : List KeyRange) (best next : Option ℕ) → next ≡ lesser_of best (least_common r b)
     → lesser_of best (least_in r (b ∷ rs)) ≡ lesser_of next (least_in r rs)
 unfolding least_in
 row-turn r b rs best next e =
-    lesser-assoc best (least_common r b) (least_in r rs) ∙ ap (λ (x : Least). lesser_of x (least_in r rs)) (sym e)
+    lesser-assoc best (least_common r b) (least_in r rs) ∙ ap (λ (x : Option ℕ). lesser_of x (least_in r rs)) (sym e)

@@ -4,6 +4,7 @@
 -- `at-bucketed`); records by the first of them (`key-found`, `key-further`, `key-none`); the cases of `key_in_segment`
 -- (`key-malformed`, `key-whole`).
 -- Assumes nothing.
+use Rattle.std.specs.Prelude.{Some, None, Ok, Err}
 use Prim.Native.Nat.{ℕ, ◌+◌, ◌*◌, ◌≤◌}
 use mathlib.Core.Path.{◌≡◌, refl, sym, ap, ap₂, ◌∙◌}
 use mathlib.Core.Bool.{true, false}
@@ -19,8 +20,6 @@ use Rattle.slice_int.specs.Be.{be_at}
 use Rattle.packed.specs.Assignment.{AssignedSegment, id_of, decode_range, decode_ranges, decode_segment, decode_segments, size_segment, ok_segment, is_assignment}
 use Rattle.packed.proofs.AssignmentLaws.{length-ranges_of, segment-at, seen_size}
 use Rattle.packed.proofs.WholeLaws.{Whole}
-use Rattle.key_in_segment.specs.declared.Least.TheVariants.{Value}
-use Rattle.key_in_segment.specs.declared.KeyAnswer.TheVariants.{NoKey, Refused}
 use Rattle.key_in_segment.specs.Least.{least_taken}
 use Rattle.key_in_segment.specs.Ends.{least_in}
 use Rattle.key_in_segment.specs.SegmentKey.{key_at, key_in, key_in_segment}
@@ -44,12 +43,12 @@ module _ (s : List ℕ) (p : ℕ) (r : KeyRange) (n : ℕ) (er : r ≡ decode_ra
   buckets-are : g.buckets ≡ decode_ranges n (drop (p + 14) s)
   buckets-are = ap (λ (x : AssignedSegment). x.buckets) seen
 
-  pub at-whole : ok_segment g ≡ true → n ≡ 0 → Value r.start ≡ least_taken g
+  pub at-whole : ok_segment g ≡ true → n ≡ 0 → Some r.start ≡ least_taken g
   unfolding ok_segment decode_ranges
   at-whole ok z =
       let h : g.range.start ≤ g.range.end = leb-true _ _ (both_true (leb g.range.start g.range.end) _ ok).0 in
       let e : g.buckets ≡ [] = buckets-are ∙ ap (λ (k : ℕ). decode_ranges k (drop (p + 14) s)) z in
-      ap (λ (x : KeyRange). Value x.start) (sym range-is) ∙ least-whole g e h
+      ap (λ (x : KeyRange). Some x.start) (sym range-is) ∙ least-whole g e h
 
   pub at-bucketed : (n ≡ 0 → ⊥) → least_in r (decode_ranges n (drop (p + 14) s)) ≡ least_taken g
   at-bucketed z =
@@ -68,14 +67,14 @@ module _ (id : ℕ) (g : AssignedSegment) (gs : List AssignedSegment) where
   unfolding key_in
   key-further e = rw (ne_eqb id g.segment_id e)
 
-pub key-none : (id : ℕ) → NoKey ≡ key_in (find id_of id [])
+pub key-none : (id : ℕ) → (Ok None) ≡ key_in (find id_of id [])
 unfolding key_in
 key-none id = refl
 
 -- ---- the cases of `key_in_segment`
 
 module _ (s : List ℕ) (id : ℕ) where
-  pub key-malformed : is_assignment s ≡ false → Refused MalformedInput ≡ key_in_segment s id
+  pub key-malformed : is_assignment s ≡ false → Err MalformedInput ≡ key_in_segment s id
   unfolding key_in_segment
   key-malformed e = rw e
 

@@ -2,23 +2,21 @@
 --
 -- How src/ finds the least value, by the ends of ranges.
 -- Assumes nothing.
-use Rattle.std.specs.Prelude.{min, max, cond, List, [], ◌∷◌, leb}
+use Rattle.std.specs.Prelude.{min, max, cond, List, [], ◌∷◌, leb, ℕ, Option, Some, None}
 use Rattle.topic_types.specs.declared.KeyRange.{KeyRange}
-use Rattle.key_in_segment.specs.declared.Least.{Least}
-use Rattle.key_in_segment.specs.declared.Least.TheVariants.{Value, NoValue}
 
 -- the lesser of two values, if there are any
-abbrev pub lesser_of : (x y : Least) → Least
-lesser_of NoValue y = y
-lesser_of (Value a) NoValue = Value a
-lesser_of (Value a) (Value b) = Value (min a b)
+abbrev pub lesser_of : (x y : Option ℕ) → Option ℕ
+lesser_of None y = y
+lesser_of (Some a) None = Some a
+lesser_of (Some a) (Some b) = Some (min a b)
 
 -- the least value of two ranges
-unfoldable pub least_common : (a b : KeyRange) → Least
+unfoldable pub least_common : (a b : KeyRange) → Option ℕ
 least_common a b =
-    cond (leb (max a.start b.start) (min a.end b.end)) (Value (max a.start b.start)) NoValue
+    cond (leb (max a.start b.start) (min a.end b.end)) (Some (max a.start b.start)) None
 
 -- the least value of a range that lies in one of a row
-unfoldable pub least_in : KeyRange → List KeyRange → Least
-least_in r [] = NoValue
+unfoldable pub least_in : KeyRange → List KeyRange → Option ℕ
+least_in r [] = None
 least_in r (b ∷ bs) = lesser_of (least_common r b) (least_in r bs)

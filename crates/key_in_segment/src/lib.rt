@@ -13,41 +13,18 @@ ghost use Rattle.key_in_segment.specs.Ends.{lesser_of, least_common, least_in};
 ghost use Rattle.key_in_segment.specs.SegmentKey.{key_at, key_in, key_in_segment};
 
 use key_for_hash::TestKey;
-use packed::Packed;
 use refusal::Refusal;
 use topic_types::{KeyRange, SegmentId};
 
-// The least of some values.
-#[derive(Clone, Copy)]
-pub enum Least {
-    Value(u32),
-    // There is none.
-    NoValue,
-}
-
-#[derive(Clone, Copy)]
-pub enum KeyAnswer {
-    Key(TestKey),
-    // The id is not in the list, or the segment has buckets and none meets its range.
-    NoKey,
-    Refused(Refusal),
-}
-
 // The lesser of two values, if there are any.
-fn lesser(a: Least, b: Least) -> Least
+fn lesser(a: Option<u32>, b: Option<u32>) -> Option<u32>
     ensures { result ≡ lesser_of a b }
 {
     match a {
-        Least::NoValue => b,
-        Least::Value(x) => match b {
-            Least::NoValue => Least::Value(x),
-            Least::Value(y) => {
-                if x < y {
-                    Least::Value(x)
-                } else {
-                    Least::Value(y)
-                }
-            }
+        None => b,
+        Some(x) => match b {
+            None => Some(x),
+            Some(y) => { if x < y { Some(x) } else { Some(y) } }
         },
     }
 }
@@ -59,25 +36,25 @@ fn greater(a: u32, b: u32) -> u32
 }
 
 // The least value that lies in both ranges.
-fn least_common(a: KeyRange, b: KeyRange) -> Least
+fn least_common(a: KeyRange, b: KeyRange) -> Option<u32>
     ensures { result ≡ least_common a b }
 {
     let start = greater(a.start, b.start);
     if a.end < start {
-        return Least::NoValue;
+        return None;
     }
     if b.end < start {
-        return Least::NoValue;
+        return None;
     }
-    Least::Value(start)
+    Some(start)
 }
 
 // The least value of a range that lies in one of the n ranges from a place on.
-fn least_in(s: &[u8], at: usize, n: usize, range: KeyRange) -> Least
+fn least_in(s: &[u8], at: usize, n: usize, range: KeyRange) -> Option<u32>
     requires { at + bucket_size * n ≤ length s.now }
     ensures { result ≡ least_in range (decode_ranges n (drop at s.now)) }
 {
-    let mut best = Least::NoValue;
+    let mut best = None;
     let mut p = at;
     let mut left = n;
     while 0 < left {
@@ -89,7 +66,7 @@ fn least_in(s: &[u8], at: usize, n: usize, range: KeyRange) -> Least
 }
 
 // The least hash that the segment takes whose record stands at the place p.
-fn least_at(s: &[u8], p: usize) -> Least
+fn least_at(s: &[u8], p: usize) -> Option<u32>
     requires s_in_bounds { p + size_segment (decode_segment (drop p s.now)) ≤ length s.now }
     requires s_value { ok_segment (decode_segment (drop p s.now)) ≡ true }
     ensures { result ≡ least_taken (decode_segment (drop p s.now)) }
@@ -97,23 +74,23 @@ fn least_at(s: &[u8], p: usize) -> Least
     let range = packed::range_at(s, p + packed::RECORD_RANGE);
     let count = slice_int::read_u16(s, p + packed::RECORD_COUNT) as usize;
     if count == 0 {
-        return Least::Value(range.start);
+        return Some(range.start);
     }
     least_in(s, p + packed::RECORD_HEAD, count, range)
 }
 
 // The key of a hash, if there is one.
-fn key_at(least: Least) -> KeyAnswer
+fn key_at(least: Option<u32>) -> Result<Option<TestKey>, Refusal>
     ensures { result ≡ key_at least }
 {
     match least {
-        Least::Value(hash) => KeyAnswer::Key(key_for_hash::key_for_hash(hash)),
-        Least::NoValue => KeyAnswer::NoKey,
+        Some(hash) => Ok(Some(key_for_hash::key_for_hash(hash))),
+        None => Ok(None),
     }
 }
 
 // The key of the segment with the id among the m records from the place 10 on.
-fn key_among(s: &[u8], m: usize, id: u64) -> KeyAnswer
+fn key_among(s: &[u8], m: usize, id: u64) -> Result<Option<TestKey>, Refusal>
     requires { Rest s.now assignment_head m }
     ensures { result ≡ key_in (find id_of id (decode_segments m (drop assignment_head s.now))) }
 {
@@ -126,16 +103,16 @@ fn key_among(s: &[u8], m: usize, id: u64) -> KeyAnswer
         p = p + packed_records::size_at(s, p);
         left = left - 1;
     }
-    KeyAnswer::NoKey
+    Ok(None)
 }
 
 // The key whose hash is the smallest that the segment with the id takes, its upper 16 bits 0. Bytes that are no packed
 // assignment are refused (20).
-pub fn key_in_segment(assignment: &[u8], id: SegmentId) -> KeyAnswer
+pub fn key_in_segment(assignment: &[u8], id: SegmentId) -> Result<Option<TestKey>, Refusal>
     ensures { result ≡ key_in_segment assignment.now id.0 }
 {
-    let Packed::Assignment(_, count) = packed::read_whole(assignment) else {
-        return KeyAnswer::Refused(Refusal::MalformedInput);
+    let Some((_, count)) = packed::read_whole(assignment) else {
+        return Err(Refusal::MalformedInput);
     };
     key_among(assignment, count, id.0)
 }

@@ -4,6 +4,7 @@
 -- lowest id where ids rise; `answer-lowest`: so does `segment_for_key`, for every key that is not too long and every packed
 -- assignment.
 -- Assumes nothing.
+use Rattle.std.specs.Prelude.{Option, Some, None, Result, Ok, Err}
 use Prim.Native.Nat.{ℕ, suc, ◌≤◌}
 use native.Mathlib.Nat.{le_refl}
 use native.Mathlib.Omega.{arith}
@@ -20,8 +21,8 @@ use Rattle.packed.specs.Assignment.{AssignedSegment, slot_size, size_assignment,
 use Rattle.packed.specs.Assignment.{decode_assignment, starts_assignment, is_assignment}
 use Rattle.key_lookup.specs.Lookup.{longest_key, key_hash, takes, first_taking, segment_for_key}
 use Rattle.key_lookup.specs.Lowest.{LowestId, Lowest}
-use Rattle.key_lookup.specs.declared.SegmentAnswer.{SegmentAnswer}
-use Rattle.key_lookup.specs.declared.SegmentAnswer.TheVariants.{Segment, NoSegment, Refused}
+use Rattle.refusal.specs.declared.Refusal.{Refusal}
+use Rattle.topic_types.specs.declared.SegmentId.{SegmentId}
 
 -- every id of a list is at least the number from which it rises
 above : (low : ℕ) (gs : List AssignedSegment) → ok_from low gs ≡ true → (g : AssignedSegment) → Memᴰ g gs → low ≤ g.segment_id
@@ -56,9 +57,9 @@ found hash x gs low e t =
     }
 
 -- the first does not take it: what is said of the others is said of all
-passed : (hash : ℕ) (x : AssignedSegment) (gs : List AssignedSegment) (r : SegmentAnswer) → takes hash x ≡ false → Lowest hash gs r
+passed : (hash : ℕ) (x : AssignedSegment) (gs : List AssignedSegment) (r : Result (Option SegmentId) Refusal) → takes hash x ≡ false → Lowest hash gs r
     → Lowest hash (x ∷ gs) r
-passed hash x gs (Segment id) t w =
+passed hash x gs (Ok (Some id)) t w =
     record {
       segment = w.segment;
       member = Memᴰ.tail w.member;
@@ -70,12 +71,12 @@ passed hash x gs (Segment id) t w =
           (λ (n : Memᴰ g gs). w.least g n k)
           (Memᴰ.cases_cons m);
     }
-passed hash x gs NoSegment t w =
+passed hash x gs (Ok None) t w =
     λ g m. ⊎_elim (λ (q : g ≡ x). ap (takes hash) q ∙ t) (λ (n : Memᴰ g gs). w g n) (Memᴰ.cases_cons m)
-passed hash x gs (Refused y) t w = w
+passed hash x gs (Err y) t w = w
 
 first_by : (hash low : ℕ) (x : AssignedSegment) (gs : List AssignedSegment) → ok_from low (x ∷ gs) ≡ true → Lowest hash gs (first_taking hash gs)
-    → (t : Bool) → takes hash x ≡ t → Lowest hash (x ∷ gs) (cond t (Segment (record { 0 = x.segment_id })) (first_taking hash gs))
+    → (t : Bool) → takes hash x ≡ t → Lowest hash (x ∷ gs) (cond t (Ok (Some (record { 0 = x.segment_id }))) (first_taking hash gs))
 first_by hash low x gs e w true q = found hash x gs low e q
 first_by hash low x gs e w false q = passed hash x gs (first_taking hash gs) q w
 

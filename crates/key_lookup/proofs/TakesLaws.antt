@@ -4,6 +4,7 @@
 -- `takes-outside`, `takes_whole`, `takes-bucketed`); records by the first of them (`first_found`, `first-further`,
 -- `first-none`); the cases of `segment_for_key` (`for-long`, `for-malformed`, `for-whole`).
 -- Assumes nothing.
+use Rattle.std.specs.Prelude.{Some, None, Ok, Err}
 use Prim.Native.Nat.{ℕ, zero, suc, ◌+◌, ◌*◌, ◌≤◌, ◌<◌}
 use mathlib.Core.Path.{◌≡◌, refl, sym, ap, ◌∙◌}
 use mathlib.Core.Bool.{Bool, true, false, ◌&&◌, ◌||◌}
@@ -18,7 +19,6 @@ use Rattle.slice_int.specs.Be.{be_at}
 use Rattle.packed.specs.Assignment.{AssignedSegment, decode_range, decode_ranges, decode_segment, decode_segments, size_segment, is_assignment}
 use Rattle.packed.proofs.AssignmentLaws.{segment-at, seen_size}
 use Rattle.key_lookup.specs.Lookup.{longest_key, key_hash, any_holds, in_buckets, takes, first_taking, segment_for_key}
-use Rattle.key_lookup.specs.declared.SegmentAnswer.TheVariants.{Segment, NoSegment, Refused}
 use Rattle.packed.proofs.WholeLaws.{Whole}
 
 -- ---- a row of ranges
@@ -63,7 +63,7 @@ module _ (s : List ℕ) (p hash : ℕ) (r : KeyRange) (er : r ≡ decode_range (
 -- ---- records by the first of them
 
 module _ (hash : ℕ) (g : AssignedSegment) (gs : List AssignedSegment) where
-  pub first_found : takes hash g ≡ true → Segment (record { 0 = g.segment_id }) ≡ first_taking hash (g ∷ gs)
+  pub first_found : takes hash g ≡ true → Ok (Some (record { 0 = g.segment_id })) ≡ first_taking hash (g ∷ gs)
   unfolding first_taking
   first_found e = rw e
 
@@ -71,19 +71,19 @@ module _ (hash : ℕ) (g : AssignedSegment) (gs : List AssignedSegment) where
   unfolding first_taking
   first-further e = rw e
 
-pub first-none : (hash : ℕ) → NoSegment ≡ first_taking hash []
+pub first-none : (hash : ℕ) → (Ok None) ≡ first_taking hash []
 unfolding first_taking
 first-none hash = refl
 
 -- ---- the cases of `segment_for_key`
 
 module _ (key s : List ℕ) where
-  pub for-long : longest_key < length key → Refused KeyTooLong ≡ segment_for_key key s
+  pub for-long : longest_key < length key → Err KeyTooLong ≡ segment_for_key key s
   unfolding segment_for_key
   for-long h = rw (lt-ltb longest_key (length key) h)
 
   module _ (h : length key ≤ longest_key) where
-    pub for-malformed : is_assignment s ≡ false → Refused MalformedInput ≡ segment_for_key key s
+    pub for-malformed : is_assignment s ≡ false → Err MalformedInput ≡ segment_for_key key s
     unfolding segment_for_key
     for-malformed e = rw (le-ltb longest_key (length key) h, e)
 

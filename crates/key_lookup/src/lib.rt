@@ -6,21 +6,11 @@ ghost use Rattle.packed.specs.Assignment.{assignment_head, bucket_size, decode_r
 ghost use Rattle.packed.proofs.AssignmentLaws.{Rest};
 ghost use Rattle.key_lookup.specs.Lookup.{any_holds, takes, first_taking, segment_for_key};
 
-use packed::Packed;
 use refusal::Refusal;
 use topic_types::{KeyRange, SegmentId};
 
 // The most bytes of a key.
 pub const LONGEST_KEY: usize = 65535;
-
-#[derive(Clone, Copy)]
-pub enum SegmentAnswer {
-    // The segment's id.
-    Segment(SegmentId),
-    // No segment takes the key.
-    NoSegment,
-    Refused(Refusal),
-}
 
 // One of the n ranges from a place on has the hash: it shares a value with the range of the hash alone.
 fn bucket_holds(s: &[u8], at: usize, n: usize, hash: u32) -> bool
@@ -48,7 +38,7 @@ fn segment_takes(s: &[u8], p: usize, hash: u32) -> bool
 }
 
 // The first of the m records from the place 10 on that takes the hash.
-fn first_taking(s: &[u8], m: usize, hash: u32) -> SegmentAnswer
+fn first_taking(s: &[u8], m: usize, hash: u32) -> Result<Option<SegmentId>, Refusal>
     requires { Rest s.now assignment_head m }
     ensures { result ≡ first_taking hash (decode_segments m (drop assignment_head s.now)) }
 {
@@ -56,24 +46,24 @@ fn first_taking(s: &[u8], m: usize, hash: u32) -> SegmentAnswer
     let mut left = m;
     while 0 < left {
         if segment_takes(s, p, hash) {
-            return SegmentAnswer::Segment(SegmentId(packed_records::id_at(s, p)));
+            return Ok(Some(SegmentId(packed_records::id_at(s, p))));
         }
         p = p + packed_records::size_at(s, p);
         left = left - 1;
     }
-    SegmentAnswer::NoSegment
+    Ok(None)
 }
 
 // The segment that takes the key: the lowest id whose range has the key's hash and which has no buckets or a bucket that
 // has it. A key above LONGEST_KEY is refused first (32), then bytes that are no packed assignment (20).
-pub fn segment_for_key(key: &[u8], assignment: &[u8]) -> SegmentAnswer
+pub fn segment_for_key(key: &[u8], assignment: &[u8]) -> Result<Option<SegmentId>, Refusal>
     ensures { result ≡ segment_for_key key.now assignment.now }
 {
     if LONGEST_KEY < key.len() {
-        return SegmentAnswer::Refused(Refusal::KeyTooLong);
+        return Err(Refusal::KeyTooLong);
     }
-    let Packed::Assignment(_, count) = packed::read_whole(assignment) else {
-        return SegmentAnswer::Refused(Refusal::MalformedInput);
+    let Some((_, count)) = packed::read_whole(assignment) else {
+        return Err(Refusal::MalformedInput);
     };
     first_taking(assignment, count, key_murmur3::hash(key) % 65536)
 }

@@ -1,23 +1,22 @@
 -- Public: lists whose entries have a key, a number, and what is done to them by key: what the Rust keeps in a
 -- `BTreeMap` is such a list whose keys rise. An id is its own key; a segment's key is its id.
 -- Assumes nothing.
-use Rattle.std.specs.Prelude.{Bool, true, false, cond, List, [], ◌∷◌, ℕ, ◌<◌, eqb, ltb}
-use Rattle.std.proofs.Math.Option.{Option, some, none}
+use Rattle.std.specs.Prelude.{Bool, true, false, cond, List, [], ◌∷◌, ℕ, ◌<◌, eqb, ltb, Option, Some, None}
 
 -- the first where there is one, else the second
 abbrev pub or_else : {A : Type 0} → (x o : Option A) → Option A
-or_else (some a) o = some a
-or_else none o = o
+or_else (Some a) o = Some a
+or_else None o = o
 
 -- there is one
 abbrev pub is_some : {A : Type 0} → Option A → Bool
-is_some (some a) = true
-is_some none = false
+is_some (Some a) = true
+is_some None = false
 
 -- the entry, if it passes the test
 abbrev pub only : {A : Type 0} → (A → Bool) → Option A → Option A
-only p none = none
-only p (some a) = cond (p a) (some a) none
+only p None = None
+only p (Some a) = cond (p a) (Some a) None
 
 -- the entries that pass the test, in their order
 abbrev pub filter : {A : Type 0} → (A → Bool) → List A → List A
@@ -41,8 +40,8 @@ module _ {A : Type 0} (key : A → ℕ) where
 
   -- the entry with key k
   abbrev pub find : ℕ → List A → Option A
-  find k [] = none
-  find k (x ∷ xs) = cond (eqb k (key x)) (some x) (find k xs)
+  find k [] = None
+  find k (x ∷ xs) = cond (eqb k (key x)) (Some x) (find k xs)
 
   -- some entry has key k
   abbrev pub holds : ℕ → List A → Bool

@@ -4,7 +4,6 @@
 // it is found. The words of a line that passes are read by the functions of `log_lines`.
 #![tactic(auto)]
 
-use log_lines::Decimal;
 use log_text::{decimal, newline, quoted, text};
 use std::io;
 use std::io::Write;
@@ -77,8 +76,8 @@ fn damaged_word<W: Write>(to: &mut W, at: u64, reason: &[u8], word: &[u8]) -> io
 
 fn test_number<W: Write>(to: &mut W, at: u64, word: &[u8]) -> io::Result<bool> {
     match log_lines::number(word) {
-        Decimal::Value(_) => Ok(true),
-        Decimal::Invalid => damaged_word(to, at, b"not a number: ", word),
+        Some(_) => Ok(true),
+        None => damaged_word(to, at, b"not a number: ", word),
     }
 }
 

@@ -117,43 +117,35 @@ pub fn place_of(row: &[u8], w: &[u8]) -> usize {
     k
 }
 
-// A word as a decimal number.
-#[derive(Clone, Copy)]
-pub enum Decimal {
-    Value(u64),
-    // It is none, or one that does not fit 64 bits.
-    Invalid,
-}
-
-pub fn number(s: &[u8]) -> Decimal {
+pub fn number(s: &[u8]) -> Option<u64> {
     let mut v: u64 = 0;
     let mut i: usize = 0;
     while i < s.len() {
         let b = s[i];
         if b < b'0' {
-            return Decimal::Invalid;
+            return None;
         }
         if b'9' < b {
-            return Decimal::Invalid;
+            return None;
         }
         let d = (b - b'0') as u64;
         if (u64::MAX - d) / 10 < v {
-            return Decimal::Invalid;
+            return None;
         }
         v = v * 10 + d;
         i = i + 1;
     }
     if i == 0 {
-        return Decimal::Invalid;
+        return None;
     }
-    Decimal::Value(v)
+    Some(v)
 }
 
 // Number k of a line; 0 where the word is none.
 pub fn number_at(line: &[u8], k: usize) -> u64 {
     match number(word(line, k)) {
-        Decimal::Value(v) => v,
-        Decimal::Invalid => 0,
+        Some(v) => v,
+        None => 0,
     }
 }
 

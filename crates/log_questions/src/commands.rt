@@ -1,5 +1,6 @@
 // What the outer message of a connection carries.
 use log_text::{labelled, refused, text};
+use refusal::Refusal;
 use std::io;
 use std::io::Write;
 use wire_command::Command;
@@ -21,7 +22,11 @@ fn message<W: Write>(
 }
 
 // A command that carries none: its type, and of one of the three the parts of its message.
-fn command_type<W: Write>(to: &mut W, label: &[u8], c: Command) -> io::Result<bool> {
+fn command_type<W: Write>(
+    to: &mut W,
+    label: &[u8],
+    c: Result<Command, Refusal>,
+) -> io::Result<bool> {
     let r = wire_command::command_reply(c);
     text(to, label)?;
     log_text::attached_as(to, true, r.first)?;
@@ -35,11 +40,25 @@ fn command_type<W: Write>(to: &mut W, label: &[u8], c: Command) -> io::Result<bo
 pub fn carried<W: Write>(to: &mut W, bytes: &[u8]) -> io::Result<bool> {
     let c = wire_command::read_command(bytes);
     match c {
-        Command::Update(start, len, id) => message(to, b"update", start, len, b" consumer ", id),
-        Command::Response(start, len, id) => message(to, b"response", start, len, b" request ", id),
-        Command::Watch(start, len, id) => message(to, b"watch", start, len, b" watch ", id),
-        Command::Parts(_, _) => command_type(to, b"parts", c),
-        Command::Other(_) => command_type(to, b"other", c),
-        Command::Refused(x) => refused(to, x),
+        Ok(Command::Update(start, len, id)) => message(
+            to,
+            b"update",
+            start,
+            len,
+            b" consumer ",
+            id,
+        ),
+        Ok(Command::Response(start, len, id)) => message(
+            to,
+            b"response",
+            start,
+            len,
+            b" request ",
+            id,
+        ),
+        Ok(Command::Watch(start, len, id)) => message(to, b"watch", start, len, b" watch ", id),
+        Ok(Command::Parts(_, _)) => command_type(to, b"parts", c),
+        Ok(Command::Other(_)) => command_type(to, b"other", c),
+        Err(x) => refused(to, x),
     }
 }

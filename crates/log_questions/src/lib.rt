@@ -8,10 +8,6 @@
 mod commands;
 mod segments;
 
-use attach_entries::LogAnswer;
-use charge::ChargeAnswer;
-use churn::ChurnAnswer;
-use hours::{EarliestAnswer, OpenAnswer};
 use log_calls::Question;
 use log_text::{decimal, labelled, refused, text};
 use std::io;
@@ -52,35 +48,33 @@ fn charge<W: Write>(to: &mut W, segment: &[u8], line: &[u8]) -> io::Result<bool>
         log_lines::number_at(line, 4),
     );
     match answer {
-        ChargeAnswer::Charged(cost, remainder) => {
-            pair(to, b"charged ", cost, b" remainder ", remainder)
-        }
-        ChargeAnswer::Refused(x) => refused(to, x),
+        Ok((cost, remainder)) => { pair(to, b"charged ", cost, b" remainder ", remainder) }
+        Err(x) => refused(to, x),
     }
 }
 
 // Sum and largest of the lost counts.
 pub fn churn<W: Write>(to: &mut W, window: &[u8]) -> io::Result<bool> {
     match churn::current(window) {
-        ChurnAnswer::Counted(t) => pair(to, b"lost ", t.sum, b" largest ", t.largest),
-        ChurnAnswer::Refused(x) => refused(to, x),
+        Ok(t) => pair(to, b"lost ", t.sum, b" largest ", t.largest),
+        Err(x) => refused(to, x),
     }
 }
 
 // Whether a second is open.
 fn is_open<W: Write>(to: &mut W, contract: &[u8], second: u64) -> io::Result<bool> {
     match hours::is_open(contract, second) {
-        OpenAnswer::Answered(b) => yes(to, b),
-        OpenAnswer::Refused(x) => refused(to, x),
+        Ok(b) => yes(to, b),
+        Err(x) => refused(to, x),
     }
 }
 
 // The earliest open second.
 fn earliest_open<W: Write>(to: &mut W, contract: &[u8], second: u64) -> io::Result<bool> {
     match hours::earliest_open(contract, second) {
-        EarliestAnswer::At(at) => number(to, at),
-        EarliestAnswer::NoneOpen => none(to),
-        EarliestAnswer::Refused(x) => refused(to, x),
+        Ok(Some(at)) => number(to, at),
+        Ok(None) => none(to),
+        Err(x) => refused(to, x),
     }
 }
 
@@ -89,8 +83,8 @@ fn check_log<W: Write>(to: &mut W, deltas: &[u8], line: &[u8]) -> io::Result<boo
     let mut log = log_lines::large_buffer();
     let n = log_lines::bytes_at(line, 2, &mut log);
     match attach_log::check(deltas, &log[..n]) {
-        LogAnswer::Answered(b) => yes(to, b),
-        LogAnswer::Refused(x) => refused(to, x),
+        Ok(b) => yes(to, b),
+        Err(x) => refused(to, x),
     }
 }
 

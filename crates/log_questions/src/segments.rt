@@ -1,17 +1,14 @@
 // Questions about the list that is held: which segment takes a key, and a key that falls in a segment. Where no list is
 // held there is none.
 use crate::{none, number};
-use key_in_segment::KeyAnswer;
-use key_lookup::SegmentAnswer;
 use log_text::refused;
-use packed::Packed;
 use std::io;
 use std::io::Write;
 use topic_types::SegmentId;
 
 // The list at the front of a slot, as long as it is; empty where there is none.
 fn list_of(slot: &[u8]) -> &[u8] {
-    if let Packed::Assignment(size, _) = packed::read_front(slot) {
+    if let Some((size, _)) = packed::read_front(slot) {
         if size <= slot.len() {
             return &slot[..size];
         }
@@ -37,9 +34,9 @@ pub fn segment<W: Write>(to: &mut W, slot: &[u8], key: &[u8]) -> io::Result<bool
         return none(to);
     }
     match key_lookup::segment_for_key(key, list) {
-        SegmentAnswer::Segment(id) => number(to, id.0),
-        SegmentAnswer::NoSegment => none(to),
-        SegmentAnswer::Refused(x) => refused(to, x),
+        Ok(Some(id)) => number(to, id.0),
+        Ok(None) => none(to),
+        Err(x) => refused(to, x),
     }
 }
 
@@ -50,8 +47,8 @@ pub fn key<W: Write>(to: &mut W, slot: &[u8], id: u64) -> io::Result<bool> {
         return none(to);
     }
     match key_in_segment::key_in_segment(list, SegmentId(id)) {
-        KeyAnswer::Key(k) => key_bytes(to, k.first, k.second, k.third, k.fourth),
-        KeyAnswer::NoKey => none(to),
-        KeyAnswer::Refused(x) => refused(to, x),
+        Ok(Some(k)) => key_bytes(to, k.first, k.second, k.third, k.fourth),
+        Ok(None) => none(to),
+        Err(x) => refused(to, x),
     }
 }

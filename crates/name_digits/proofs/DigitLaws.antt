@@ -5,6 +5,7 @@
 -- `id_other`, `id-large`, `id-is`); both read backwards (`word-told`, `word_none`, `id-told`, `id-none`); the bound of four hexadecimal
 -- digits (`word_bound`).
 -- Assumes nothing.
+use Rattle.std.specs.Prelude.{Some, None}
 use Prim.Native.Nat.{ℕ, ◌+◌, ◌*◌, ◌^◌, ◌≤◌, ◌<◌}
 use native.Mathlib.Nat.{mul_assoc, pow-succ', pow-le-pow_right}
 use native.Mathlib.Numerals.{add-one}
@@ -19,7 +20,6 @@ use lib.Dec.{eqb}
 use borrow.Author.Tests.{lt-ltb, le-ltb, eq-eqb, eqb-true, ne_eqb}
 use Rattle.slice.specs.BoolLaws.{both_true}
 use Rattle.name_parents.specs.Classes.{is_digit_byte, is_hex_digit}
-use Rattle.name_digits.specs.declared.Number.TheVariants.{Is, None}
 use Rattle.name_digits.specs.Digits.{every, all_digits, all_hex_digits, value_from, digit_value, hex_digit_value, decimal_value, hex_value}
 use Rattle.name_digits.specs.Digits.{is_hex_word, is_segment_id, hex_word, segment_id_of}
 use Rattle.slice.proofs.TestLaws.{cond-first, cond-second}
@@ -85,7 +85,7 @@ module _ (s : List ℕ) where
   unfolding hex_word is_hex_word
   word-other e = rw (e, and-false)
 
-  pub word-is : (v : ℕ) → length s ≡ 4 → all_hex_digits s ≡ true → value_from 16 hex_digit_value 0 s ≡ v → hex_word s ≡ Is v
+  pub word-is : (v : ℕ) → length s ≡ 4 → all_hex_digits s ≡ true → value_from 16 hex_digit_value 0 s ≡ v → hex_word s ≡ Some v
   unfolding hex_word is_hex_word hex_value
   word-is v h e f = rw (eq-eqb (length s) 4 h, e, f)
 
@@ -117,26 +117,26 @@ module _ (s : List ℕ) where
   first-digit (inr h) = rw (ne_eqb (get_or s 0 0) 0x30 h) (or-true (eqb (length s) 1))
 
   pub id-is : (v : ℕ) → 0 < length s → (length s ≡ 1) ⊎ (get_or s 0 0 ≡ 0x30 → ⊥) → all_digits s ≡ true → value_from 10 digit_value 0 s ≡ v
-      → v < 2 ^ 64 → segment_id_of s ≡ Is v
+      → v < 2 ^ 64 → segment_id_of s ≡ Some v
   unfolding segment_id_of is_segment_id decimal_value
   id-is v h z e f b = rw (lt-ltb 0 (length s) h, e, first-digit z, f, lt-ltb v (2 ^ 64) b)
 
 -- ---- the cases read backwards
 
-none_is : {n : ℕ} → None ≡ Is n → ⊥
+none_is : {n : ℕ} → None ≡ Some n → ⊥
 none_is q = let z : ◌≡◌ {A = ℕ} 0 1 = cc in omega arith
 
-number_is : (t : Bool) (n m : ℕ) → cond t (Is n) None ≡ Is m → (t ≡ true) × (n ≡ m)
+number_is : (t : Bool) (n m : ℕ) → cond t (Some n) None ≡ Some m → (t ≡ true) × (n ≡ m)
 number_is t n m e =
-    let p = cond-first t (Is n) None (Is m) none_is e in
+    let p = cond-first t (Some n) None (Some m) none_is e in
     let q = p.1 in
     (p.0, cc)
 
-number-none : (t : Bool) (n : ℕ) → cond t (Is n) None ≡ None → t ≡ false
-number-none t n e = (cond-second t (Is n) None None (λ q. none_is (sym q)) e).0
+number-none : (t : Bool) (n : ℕ) → cond t (Some n) None ≡ None → t ≡ false
+number-none t n e = (cond-second t (Some n) None None (λ q. none_is (sym q)) e).0
 
 module _ (s : List ℕ) where
-  pub word-told : (n : ℕ) → hex_word s ≡ Is n → (is_hex_word s ≡ true) × (hex_value s ≡ n)
+  pub word-told : (n : ℕ) → hex_word s ≡ Some n → (is_hex_word s ≡ true) × (hex_value s ≡ n)
   unfolding hex_word
   word-told n = number_is (is_hex_word s) (hex_value s) n
 
@@ -144,7 +144,7 @@ module _ (s : List ℕ) where
   unfolding hex_word
   word_none = number-none (is_hex_word s) (hex_value s)
 
-  pub id-told : (n : ℕ) → segment_id_of s ≡ Is n → (is_segment_id s ≡ true) × (decimal_value s ≡ n)
+  pub id-told : (n : ℕ) → segment_id_of s ≡ Some n → (is_segment_id s ≡ true) × (decimal_value s ≡ n)
   unfolding segment_id_of
   id-told n = number_is (is_segment_id s) (decimal_value s) n
 

@@ -3,6 +3,7 @@
 -- In order: a hexadecimal digit (`hex-written`, `hex-read`); digits behind digits (`every_append`, `value-append`); four hexadecimal
 -- digits (`word-written`, `word_read`); a decimal id (`id-written`, `id-read`).
 -- Assumes nothing.
+use Rattle.std.specs.Prelude.{Some}
 use Prim.Native.Nat.{ℕ, zero, suc, ◌+◌, ◌-◌, ◌*◌, ◌/◌, ◌%◌, ◌^◌, ◌≤◌, ◌<◌}
 use native.Mathlib.Nat.{mul_assoc, pow-succ', pow-le-pow_right, mul-le-mul_right, le_trans, div-div-eq-div-mul}
 use native.Mathlib.Omega.{arith}
@@ -19,7 +20,6 @@ use Rattle.name_parents.specs.Classes.{class_of, is_digit_byte, is_hex_digit}
 use Rattle.name_parents.specs.Parents.{non_empty}
 use Rattle.name_topic.specs.Names.{hex_digit, hex4, decimal_within, decimal}
 use Rattle.name_topic.proofs.NameLaws.{decimal-end, digits-fewer, decimal_nonempty}
-use Rattle.name_digits.specs.declared.Number.TheVariants.{Is}
 use Rattle.name_digits.specs.Digits.{every, all_digits, all_hex_digits, value_from, digit_value, hex_digit_value, decimal_value, hex_value}
 use Rattle.name_digits.specs.Digits.{is_hex_word, is_segment_id, hex_word, segment_id_of}
 use Rattle.name_digits.proofs.ClassLaws.{class-digit, class-letter, digit-bounds, letter-bounds, hex-value-bound}
@@ -81,7 +81,7 @@ four-digits a b c d ha hb hc hd =
 last-digit : (n m : ℕ) → n / 16 ≡ m → m * 16 + n % 16 ≡ n
 last-digit n m e = omega arith
 
-pub word-written : (v : ℕ) → v < 65536 → hex_word (hex4 v) ≡ Is v
+pub word-written : (v : ℕ) → v < 65536 → hex_word (hex4 v) ≡ Some v
 unfolding hex4
 word-written v h =
     let p = four-digits (v / 4096 % 16) (v / 256 % 16) (v / 16 % 16) (v % 16) (omega arith) (omega arith) (omega arith) (omega arith) in
@@ -185,7 +185,7 @@ first-written v b = go (dec_lt 0 v)
     go (yes p) = inr (decimal-first 20 v p b)
     go (no p) = inl (ap length (decimal-end 19 v (omega arith)))
 
-pub id-written : (v : ℕ) → v < 2 ^ 64 → segment_id_of (decimal v) ≡ Is v
+pub id-written : (v : ℕ) → v < 2 ^ 64 → segment_id_of (decimal v) ≡ Some v
 unfolding decimal
 id-written v h =
     let b : v < 10 ^ 20 = omega arith in

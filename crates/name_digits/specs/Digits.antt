@@ -1,11 +1,9 @@
 -- Public: the numbers of a descriptor (01, Names): "four lower-case hex digits", and a "decimal id without leading
 -- zeros", below 2^64.
 -- Assumes nothing.
-use Rattle.std.specs.Prelude.{ℕ, ◌+◌, ◌-◌, ◌*◌, ◌^◌, Bool, true, cond, not, ◌&&◌, ◌||◌, List, [], ◌∷◌, length, get_or, ltb, eqb}
+use Rattle.std.specs.Prelude.{ℕ, ◌+◌, ◌-◌, ◌*◌, ◌^◌, Bool, true, cond, not, ◌&&◌, ◌||◌, List, [], ◌∷◌, length, get_or, ltb, eqb, Option, Some, None}
 use Rattle.name_parents.specs.Classes.{is_digit_byte, is_hex_digit}
 use Rattle.name_parents.specs.Parents.{non_empty}
-use Rattle.name_digits.specs.declared.Number.{Number}
-use Rattle.name_digits.specs.declared.Number.TheVariants as number
 
 -- every byte passes the test
 unfoldable pub every : (ℕ → Bool) → List ℕ → Bool
@@ -49,8 +47,8 @@ is_segment_id l = non_empty l && (all_digits l && ((eqb (length l) 1 || not (eqb
 unfoldable pub hex_digit_of : ℕ → ℕ
 hex_digit_of b = cond (is_hex_digit b) (hex_digit_value b) 16
 
-unfoldable pub hex_word : List ℕ → Number
-hex_word l = cond (is_hex_word l) (number.Is (hex_value l)) number.None
+unfoldable pub hex_word : List ℕ → Option ℕ
+hex_word l = cond (is_hex_word l) (Some (hex_value l)) None
 
-unfoldable pub segment_id_of : List ℕ → Number
-segment_id_of l = cond (is_segment_id l) (number.Is (decimal_value l)) number.None
+unfoldable pub segment_id_of : List ℕ → Option ℕ
+segment_id_of l = cond (is_segment_id l) (Some (decimal_value l)) None

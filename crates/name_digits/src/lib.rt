@@ -6,13 +6,6 @@ ghost use Rattle.name_digits.specs.Digits.{hex_digit_of, hex_word, segment_id_of
 
 use name_parents::{DIGIT, HEX_LETTER, class_of};
 
-// What a part of a descriptor is.
-#[derive(Clone, Copy)]
-pub enum Number {
-    Is(u64),
-    None,
-}
-
 // The value of a lower-case hexadecimal digit, or 16.
 fn hex_digit_value(b: u8) -> u64
     ensures { result ≡ hex_digit_of b }
@@ -28,35 +21,35 @@ fn hex_digit_value(b: u8) -> u64
 }
 
 // Four lower-case hexadecimal digits.
-pub fn hex_word(s: &[u8]) -> Number
+pub fn hex_word(s: &[u8]) -> Option<u64>
     ensures { result ≡ hex_word s.now }
 {
     if s.len() != 4 {
-        return Number::None;
+        return None;
     }
     let mut v: u64 = 0;
     let mut i: usize = 0;
     while i < 4 {
         let d = hex_digit_value(s[i]);
         if d == 16 {
-            return Number::None;
+            return None;
         }
         v = v * 16 + d;
         i = i + 1;
     }
-    Number::Is(v)
+    Some(v)
 }
 
 // A decimal number below 2^64 without leading zeros.
-pub fn segment_id(s: &[u8]) -> Number
+pub fn segment_id(s: &[u8]) -> Option<u64>
     ensures { result ≡ segment_id_of s.now }
 {
     if s.len() == 0 {
-        return Number::None;
+        return None;
     }
     if s[0] == b'0' {
         if s.len() != 1 {
-            return Number::None;
+            return None;
         }
     }
     let mut v: u64 = 0;
@@ -64,14 +57,14 @@ pub fn segment_id(s: &[u8]) -> Number
     while i < s.len() {
         let b = s[i];
         if class_of(b) != DIGIT {
-            return Number::None;
+            return None;
         }
         let d = (b - 0x30) as u64;
         if (u64::MAX - d) / 10 < v {
-            return Number::None;
+            return None;
         }
         v = v * 10 + d;
         i = i + 1;
     }
-    Number::Is(v)
+    Some(v)
 }

@@ -5,6 +5,7 @@
 -- (`source-refused`, `source-same`, `source-other`); what a text that is read has (`IsName`: `name-told`); the parent of a name
 -- (`parent_place`, `parent-refused`, `parent-no-room`, `parent-written`).
 -- Assumes nothing.
+use Rattle.std.specs.Prelude.{Some, None, Result, Ok, Err}
 use Prim.Native.Nat.{ℕ, ◌+◌, ◌-◌, ◌≤◌, ◌<◌}
 use native.Mathlib.Omega.{arith}
 use mathlib.Core.Path.{◌≡◌, sym, ap, ◌∙◌}
@@ -17,8 +18,6 @@ use Rattle.slice.specs.BoolLaws.{both_true}
 use Rattle.topic_types.specs.declared.KeyRange.{KeyRange}
 use Rattle.topic_types.specs.declared.KeyRangeError.{KeyRangeError}
 use Rattle.topic_types.specs.declared.SegmentId.{SegmentId}
-use Rattle.topic_types.specs.declared.RangeResult.{RangeResult}
-use Rattle.topic_types.specs.declared.RangeResult.TheVariants.{Valid, Invalid}
 use Rattle.topic_types.specs.KeyRanges.{new_key_range}
 use Rattle.refusal.specs.declared.Refusal.{Refusal}
 use Rattle.refusal.specs.declared.Refusal.TheVariants.{InvalidUtf8, InvalidKeyRange, InvalidParent, InvalidSegment}
@@ -31,12 +30,7 @@ use Rattle.utf8.specs.Table.{is_utf8}
 use Rattle.name_parents.specs.Classes.{class_of}
 use Rattle.name_parents.specs.Parents.{topic_scheme, is_path}
 use Rattle.name_topic.specs.Names.{segment_scheme}
-use Rattle.name_topic.specs.declared.NameAnswer.TheVariants.{Written}
 use Rattle.name_topic.specs.Build.{name_outcome, refuse, written}
-use Rattle.name_digits.specs.declared.Number.TheVariants.{Is, None}
-use Rattle.name_source.specs.declared.Slash.TheVariants.{At, Nothing}
-use Rattle.name_source.specs.declared.Parsed.TheVariants.{Name, Refused}
-use Rattle.name_source.specs.declared.SourceAnswer.TheVariants as source
 use Rattle.name_digits.specs.Digits.{decimal_value, hex_value, is_segment_id, hex_word, segment_id_of}
 use Rattle.name_source.specs.Parse.{has_slash, before_last, last_slash, start_part, end_part, id_part, is_descriptor}
 use Rattle.name_source.specs.Parse.{range_stage, descriptor_stage, parent_stage, parse_segment_topic, parse_text}
@@ -48,38 +42,38 @@ use Rattle.name_source.proofs.SlashLaws.{slash-told, slash-none, before-last-ins
 -- ---- the descriptor d, behind a path that ends at n
 
 module _ (n : ℕ) (d : List ℕ) where
-  not-descriptor : is_descriptor d ≡ false → descriptor_stage n d ≡ Refused InvalidSegment
+  not-descriptor : is_descriptor d ≡ false → descriptor_stage n d ≡ Err InvalidSegment
   unfolding descriptor_stage
   not-descriptor e = rw e
 
-  no-id : is_segment_id (id_part d) ≡ false → descriptor_stage n d ≡ Refused InvalidSegment
+  no-id : is_segment_id (id_part d) ≡ false → descriptor_stage n d ≡ Err InvalidSegment
   unfolding is_descriptor
   no-id e = not-descriptor (simp (e, and-false))
 
-  pub descriptor-short : length d < 11 → descriptor_stage n d ≡ Refused InvalidSegment
+  pub descriptor-short : length d < 11 → descriptor_stage n d ≡ Err InvalidSegment
   descriptor-short h = no-id (id-none (id_part d) (id-empty (id_part d) (length-drop 10 d ∙ omega arith)))
 
-  pub descriptor-no-id : segment_id_of (id_part d) ≡ None → descriptor_stage n d ≡ Refused InvalidSegment
+  pub descriptor-no-id : segment_id_of (id_part d) ≡ None → descriptor_stage n d ≡ Err InvalidSegment
   descriptor-no-id e = no-id (id-none (id_part d) e)
 
-  pub descriptor-no-dash-4 : (class_of (get_or d 4 0) ≡ 4 → ⊥) → descriptor_stage n d ≡ Refused InvalidSegment
+  pub descriptor-no-dash-4 : (class_of (get_or d 4 0) ≡ 4 → ⊥) → descriptor_stage n d ≡ Err InvalidSegment
   unfolding is_descriptor
   descriptor-no-dash-4 h = not-descriptor (simp (ne_eqb (class_of (get_or d 4 0)) 4 h, and-false))
 
-  pub descriptor-no-dash-9 : (class_of (get_or d 9 0) ≡ 4 → ⊥) → descriptor_stage n d ≡ Refused InvalidSegment
+  pub descriptor-no-dash-9 : (class_of (get_or d 9 0) ≡ 4 → ⊥) → descriptor_stage n d ≡ Err InvalidSegment
   unfolding is_descriptor
   descriptor-no-dash-9 h = not-descriptor (simp (ne_eqb (class_of (get_or d 9 0)) 4 h, and-false))
 
-  pub descriptor-no-start : hex_word (start_part d) ≡ None → descriptor_stage n d ≡ Refused InvalidSegment
+  pub descriptor-no-start : hex_word (start_part d) ≡ None → descriptor_stage n d ≡ Err InvalidSegment
   unfolding is_descriptor
   descriptor-no-start e = not-descriptor (rw (word_none (start_part d) e))
 
-  pub descriptor-no-end : hex_word (end_part d) ≡ None → descriptor_stage n d ≡ Refused InvalidSegment
+  pub descriptor-no-end : hex_word (end_part d) ≡ None → descriptor_stage n d ≡ Err InvalidSegment
   unfolding is_descriptor
   descriptor-no-end e = not-descriptor (simp (word_none (end_part d) e, and-false))
 
-  pub descriptor-range : (a b i : ℕ) → hex_word (start_part d) ≡ Is a → class_of (get_or d 4 0) ≡ 4 → hex_word (end_part d) ≡ Is b
-      → class_of (get_or d 9 0) ≡ 4 → segment_id_of (id_part d) ≡ Is i → descriptor_stage n d ≡ range_stage n i (new_key_range a b)
+  pub descriptor-range : (a b i : ℕ) → hex_word (start_part d) ≡ Some a → class_of (get_or d 4 0) ≡ 4 → hex_word (end_part d) ≡ Some b
+      → class_of (get_or d 9 0) ≡ 4 → segment_id_of (id_part d) ≡ Some i → descriptor_stage n d ≡ range_stage n i (new_key_range a b)
   unfolding descriptor_stage is_descriptor
   descriptor-range a b i ea p eb q ei =
       let A = word-told (start_part d) a ea in
@@ -90,28 +84,28 @@ module _ (n : ℕ) (d : List ℕ) where
       rw (A.0, P, B.0, Q, I.0, A.1, B.1, I.1)
 
 -- its range
-module _ (n i : ℕ) (x : RangeResult) where
-  pub range-invalid : (e : KeyRangeError) → x ≡ Invalid e → range_stage n i x ≡ Refused (InvalidKeyRange e)
+module _ (n i : ℕ) (x : Result KeyRange KeyRangeError) where
+  pub range-invalid : (e : KeyRangeError) → x ≡ Err e → range_stage n i x ≡ Err (InvalidKeyRange e)
   unfolding range_stage
   range-invalid e q = rw q
 
-  pub range-valid : (r : KeyRange) → x ≡ Valid r → range_stage n i x ≡ Name n r (record { 0 = i })
+  pub range-valid : (r : KeyRange) → x ≡ Ok r → range_stage n i x ≡ Ok (n, r, record { 0 = i })
   unfolding range_stage
   range-valid r q = rw q
 
 -- ---- the name t
 
 module _ (t : List ℕ) where
-  pub name-no-scheme : starts_with segment_scheme t ≡ false → parse_segment_topic t ≡ Refused InvalidSegment
+  pub name-no-scheme : starts_with segment_scheme t ≡ false → parse_segment_topic t ≡ Err InvalidSegment
   unfolding parse_segment_topic
   name-no-scheme h = rw h
 
   module _ (h : starts_with segment_scheme t ≡ true) where
-    pub name-no-slash : last_slash (drop 10 t) ≡ Nothing → parse_segment_topic t ≡ Refused InvalidSegment
+    pub name-no-slash : last_slash (drop 10 t) ≡ None → parse_segment_topic t ≡ Err InvalidSegment
     unfolding parse_segment_topic
     name-no-slash e = rw (h, slash-none (drop 10 t) e)
 
-    module _ (n : ℕ) (e : last_slash (drop 10 t) ≡ At n) where
+    module _ (n : ℕ) (e : last_slash (drop 10 t) ≡ Some n) where
       pub name-inside : 10 + n < length t
       name-inside =
           let p = slash-told (drop 10 t) n e in
@@ -125,7 +119,7 @@ module _ (t : List ℕ) where
       name-path =
           sym (before-last-take (drop 10 t)) ∙ ap (λ (m : ℕ). take m (drop 10 t)) (slash-told (drop 10 t) n e).1
 
-      pub name-no-path : is_path (take n (drop 10 t)) ≡ false → parse_segment_topic t ≡ Refused InvalidParent
+      pub name-no-path : is_path (take n (drop 10 t)) ≡ false → parse_segment_topic t ≡ Err InvalidParent
       unfolding parent_stage
       name-no-path p = name-parent ∙ rw (name-path, p)
 
@@ -136,7 +130,7 @@ module _ (t : List ℕ) where
           let f : 10 + (n + 1) ≡ 10 + n + 1 = omega arith in
           name-parent ∙ rw (q, (slash-told (drop 10 t) n e).1, drop-drop, f)
 
-  pub text-not-utf8 : is_utf8 t ≡ false → parse_text t ≡ Refused InvalidUtf8
+  pub text-not-utf8 : is_utf8 t ≡ false → parse_text t ≡ Err InvalidUtf8
   unfolding parse_text
   text-not-utf8 u = rw u
 
@@ -147,16 +141,16 @@ module _ (t : List ℕ) where
 -- ---- the segment with the given id
 
 module _ (id : SegmentId) (t : List ℕ) where
-  pub source-refused : (x : Refusal) → parse_text t ≡ Refused x → segment_source id t ≡ source.Refused x
+  pub source-refused : (x : Refusal) → parse_text t ≡ Err x → segment_source id t ≡ Err x
   unfolding segment_source source_stage
   source-refused x e = rw e
 
-  module _ (n : ℕ) (range : KeyRange) (topic_id : SegmentId) (e : parse_text t ≡ Name n range topic_id) where
-    pub source-same : topic_id.0 ≡ id.0 → segment_source id t ≡ source.Source (record { segment_id = id; key_range = range })
+  module _ (n : ℕ) (range : KeyRange) (topic_id : SegmentId) (e : parse_text t ≡ Ok (n, range, topic_id)) where
+    pub source-same : topic_id.0 ≡ id.0 → segment_source id t ≡ Ok (record { segment_id = id; key_range = range })
     unfolding segment_source source_stage
     source-same q = rw (e, eq-eqb topic_id.0 id.0 q)
 
-    pub source-other : (topic_id.0 ≡ id.0 → ⊥) → segment_source id t ≡ source.Refused (SegmentIdMismatch id topic_id)
+    pub source-other : (topic_id.0 ≡ id.0 → ⊥) → segment_source id t ≡ Err (SegmentIdMismatch id topic_id)
     unfolding segment_source source_stage
     source-other q = rw (e, ne_eqb topic_id.0 id.0 q)
 
@@ -173,25 +167,25 @@ pub record IsName (t : List ℕ) (n : ℕ) (range : KeyRange) (id : SegmentId) :
   pub path : is_path (before_last (drop 10 t)) ≡ true
   pub descriptor : is_descriptor (descriptor_of t) ≡ true
   pub place : n ≡ 10 + length (before_last (drop 10 t))
-  pub ends : new_key_range (hex_value (start_part (descriptor_of t))) (hex_value (end_part (descriptor_of t))) ≡ Valid range
+  pub ends : new_key_range (hex_value (start_part (descriptor_of t))) (hex_value (end_part (descriptor_of t))) ≡ Ok range
   pub number : id.0 ≡ decimal_value (id_part (descriptor_of t))
 
-refused-name : {x : Refusal} {n : ℕ} {r : KeyRange} {i : SegmentId} → Refused x ≡ Name n r i → ⊥
+refused-name : {x : Refusal} {n : ℕ} {r : KeyRange} {i : SegmentId} → Err x ≡ Ok (n, r, i) → ⊥
 refused-name q = let z : ◌≡◌ {A = ℕ} 0 1 = cc in omega arith
 
-range-told : (n i : ℕ) (x : RangeResult) (m : ℕ) (r : KeyRange) (id : SegmentId) → range_stage n i x ≡ Name m r id
-    → (x ≡ Valid r) × (m ≡ n) × (id ≡ record { 0 = i })
+range-told : (n i : ℕ) (x : Result KeyRange KeyRangeError) (m : ℕ) (r : KeyRange) (id : SegmentId) → range_stage n i x ≡ Ok (m, r, id)
+    → (x ≡ Ok r) × (m ≡ n) × (id ≡ record { 0 = i })
 unfolding range_stage
-range-told n i (Invalid e) m r id q = absurd (refused-name q)
-range-told n i (Valid s) m r id q = (cc, cc, cc)
+range-told n i (Err e) m r id q = absurd (refused-name q)
+range-told n i (Ok s) m r id q = (cc, cc, cc)
 
-pub name-told : (t : List ℕ) (n : ℕ) (range : KeyRange) (id : SegmentId) → parse_segment_topic t ≡ Name n range id → IsName t n range id
+pub name-told : (t : List ℕ) (n : ℕ) (range : KeyRange) (id : SegmentId) → parse_segment_topic t ≡ Ok (n, range, id) → IsName t n range id
 unfolding parse_segment_topic range_stage
 name-told t n range id e =
-    let one = cond-first (starts_with segment_scheme t && has_slash (drop 10 t)) _ _ (Name n range id) refused-name e in
+    let one = cond-first (starts_with segment_scheme t && has_slash (drop 10 t)) _ _ (Ok (n, range, id)) refused-name e in
     let two = both_true (starts_with segment_scheme t) (has_slash (drop 10 t)) one.0 in
-    let three = cond-first (is_path (before_last (drop 10 t))) _ _ (Name n range id) refused-name one.1 in
-    let four = cond-first (is_descriptor (descriptor_of t)) _ _ (Name n range id) refused-name three.1 in
+    let three = cond-first (is_path (before_last (drop 10 t))) _ _ (Ok (n, range, id)) refused-name one.1 in
+    let four = cond-first (is_descriptor (descriptor_of t)) _ _ (Ok (n, range, id)) refused-name three.1 in
     let five = range-told _ _ _ n range id four.1 in
     record {
       scheme = two.0;
@@ -206,16 +200,16 @@ name-told t n range id e =
 -- ---- the parent of a name
 
 module _ (t o : List ℕ) where
-  pub parent-refused : (x : Refusal) → parse_text t ≡ Refused x → parent_topic t o ≡ refuse x o
+  pub parent-refused : (x : Refusal) → parse_text t ≡ Err x → parent_topic t o ≡ refuse x o
   unfolding parent_topic parent_outcome
   parent-refused x e = rw e
 
-  module _ (n : ℕ) (range : KeyRange) (id : SegmentId) (e : parse_text t ≡ Name n range id) where
+  module _ (n : ℕ) (range : KeyRange) (id : SegmentId) (e : parse_text t ≡ Ok (n, range, id)) where
     -- the path lies behind the scheme and inside the text
     pub parent_place : (10 ≤ n) × (n < length t)
     unfolding parse_text
     parent_place =
-        let N = name-told t n range id (cond-first (is_utf8 t) _ _ (Name n range id) refused-name e).1 in
+        let N = name-told t n range id (cond-first (is_utf8 t) _ _ (Ok (n, range, id)) refused-name e).1 in
         let k = before-last-inside (drop 10 t) N.slash in
         (omega (arith, N.place), omega (arith, N.place, k, length-drop 10 t, starts-long segment_scheme t N.scheme))
 
@@ -234,7 +228,7 @@ module _ (t o : List ℕ) where
     parent-no-room h = parent_is ∙ rw (parent-length, lt-leb (n - 2) (length o) h)
 
     pub parent-written : n - 2 ≤ length o
-        → parent_topic t o ≡ name_outcome (Written (n - 2)) (put (put o 0 topic_scheme) 8 (take (n - 10) (drop 10 t)))
+        → parent_topic t o ≡ name_outcome (Ok (n - 2)) (put (put o 0 topic_scheme) 8 (take (n - 10) (drop 10 t)))
     unfolding written
     parent-written h =
         let f : put (put o 0 topic_scheme) 8 (take (n - 10) (drop 10 t)) ≡ put o 0 (topic_scheme ++ take (n - 10) (drop 10 t)) =

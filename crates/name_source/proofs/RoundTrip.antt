@@ -3,6 +3,7 @@
 -- `reads-built`: the name built of a path, a range of the key space and an id below 2 ^ 64 is read as the path's end, the range and the id.
 -- `built-reads`: a text that is read as a name is the name built of its path, and of the range and the id that it is read as.
 -- Assumes nothing.
+use Rattle.std.specs.Prelude.{Some, Ok}
 use Prim.Native.Nat.{ℕ, suc, ◌+◌, ◌-◌, ◌^◌, ◌≤◌, ◌<◌}
 use native.Mathlib.Numerals.{add-one}
 use native.Mathlib.Omega.{arith}
@@ -23,8 +24,6 @@ use Rattle.slice.proofs.SameLaws.{same_refl, same-eq}
 use Rattle.name_parents.specs.Classes.{class_of, is_slash, is_dash, is_digit_byte, is_hex_digit}
 use Rattle.name_parents.specs.Parents.{non_empty, is_path}
 use Rattle.name_topic.specs.Names.{segment_scheme, hex4, decimal, descriptor, segment_topic}
-use Rattle.name_source.specs.declared.Slash.TheVariants.{At}
-use Rattle.name_source.specs.declared.Parsed.TheVariants.{Name}
 use Rattle.name_digits.specs.Digits.{every, all_digits, all_hex_digits, decimal_value, hex_value, is_hex_word, is_segment_id}
 use Rattle.name_source.specs.Parse.{has_slash, before_last, last_slash, start_part, end_part, id_part, is_descriptor}
 use Rattle.name_source.specs.Parse.{descriptor_stage, parse_segment_topic}
@@ -90,14 +89,14 @@ module _ (s e i : ℕ) (hs : s < 65536) (he : e < 65536) (hi : i < 2 ^ 64) where
       ∙ rw (word-no-slash s hs, slash-dash (hex4 e ++ (0x2D ∷ decimal i)))
       (slash-append (hex4 e) (0x2D ∷ decimal i) ∙ rw (word-no-slash e he, slash-dash (decimal i)) (id-no-slash i hi))
 
-  behind-read : (n : ℕ) → s ≤ e → descriptor_stage n (behind_path s e i) ≡ Name n (key_range s e) (record { 0 = i })
+  behind-read : (n : ℕ) → s ≤ e → descriptor_stage n (behind_path s e i) ≡ Ok (n, key_range s e, record { 0 = i })
   unfolding hex4 class_of
   behind-read n h =
       descriptor-range n (behind_path s e i) s e i (word-written s hs) refl (word-written e he) refl (id-written i hi)
       ∙ range-valid n i _ (key_range s e) (valid-new s e h (omega arith))
 
 module _ (path : List ℕ) (d : List ℕ) (h : has_slash d ≡ false) where
-  last-slash-append : last_slash (path ++ (0x2F ∷ d)) ≡ At (length path)
+  last-slash-append : last_slash (path ++ (0x2F ∷ d)) ≡ Some (length path)
   unfolding last_slash class_of
   last-slash-append =
       let l : List ℕ = path ++ (0x2F ∷ d) in
@@ -112,13 +111,13 @@ unfolding starts_with
 starts-append p q = rw take-append_seam (same_refl p)
 
 pub reads-built : (path : List ℕ) (s e : ℕ) (id : SegmentId) → is_path path ≡ true → s ≤ e → e ≤ max_hash → id.0 < 2 ^ 64
-    → parse_segment_topic (segment_topic path (key_range s e) id) ≡ Name (10 + length path) (key_range s e) id
+    → parse_segment_topic (segment_topic path (key_range s e) id) ≡ Ok (10 + length path, key_range s e, id)
 unfolding segment_topic descriptor
 reads-built path s e id valid h k b =
     let d : List ℕ = behind_path s e id.0 in
     let n : ℕ = length path in
     let t : List ℕ = segment_scheme ++ (path ++ (0x2F ∷ d)) in
-    let slash : last_slash (drop 10 t) ≡ At n =
+    let slash : last_slash (drop 10 t) ≡ Some n =
     last-slash-append path d (behind-no-slash s e id.0 (omega arith) (omega arith) b) in
     let whole : is_path (take n (drop 10 t)) ≡ true = rw take-append_seam valid in
     let f : 10 + n + 1 ≡ 10 + (n + 1) = omega arith in
@@ -168,7 +167,7 @@ descriptor-split d e =
     rw (word_read (start_part d) A.0, word_read (end_part d) C.0, id-read (id_part d) D.1)
     (sym (take-append-drop 4 d) ∙ ap (λ (l : List ℕ). start_part d ++ l) four)
 
-pub built-reads : (t : List ℕ) (n : ℕ) (range : KeyRange) (id : SegmentId) → parse_segment_topic t ≡ Name n range id
+pub built-reads : (t : List ℕ) (n : ℕ) (range : KeyRange) (id : SegmentId) → parse_segment_topic t ≡ Ok (n, range, id)
     → t ≡ segment_topic (take (n - 10) (drop 10 t)) range id
 unfolding segment_topic descriptor
 built-reads t n range id e =

@@ -3,6 +3,7 @@
 -- In order: a loop from the end (`no-slash-end`, `no-slash-back`, `last-slash-at`, `no-last-slash`); what `last_slash` tells (`slash-told`,
 -- `slash-none`); the bytes before the last '/' (`before-last-inside`, `before-last-take`).
 -- Assumes nothing.
+use Rattle.std.specs.Prelude.{Some, None}
 use Prim.Native.Nat.{ℕ, zero, suc, ◌-◌, ◌≤◌, ◌<◌}
 use native.Mathlib.Omega.{arith}
 use mathlib.Core.Path.{◌≡◌, refl, sym, ap, ◌∙◌}
@@ -12,7 +13,6 @@ use lib.ListN.{length, take, drop, get_or}
 use lib.Seq.{drop-cons, drop-length, length-take-le}
 use borrow.Author.Tests.{eq-eqb, ne_eqb}
 use Rattle.name_parents.specs.Classes.{class_of, is_slash}
-use Rattle.name_source.specs.declared.Slash.TheVariants.{At, Nothing}
 use Rattle.name_source.specs.Parse.{has_slash, before_last, last_slash}
 use Rattle.slice.proofs.TestLaws.{cond-first, cond-second}
 
@@ -48,31 +48,31 @@ module _ (s : List ℕ) (i : ℕ) (p : 0 < i) (k : i ≤ length s) (n : has_slas
   pub no-slash-back : (class_of (get_or s (i - 1) 0) ≡ 3 → ⊥) → has_slash (drop (i - 1) s) ≡ false
   no-slash-back h = slash-at s (i - 1) (omega arith) ∙ rw (ne_eqb (class_of (get_or s (i - 1) 0)) 3 h) behind
 
-  pub last-slash-at : class_of (get_or s (i - 1) 0) ≡ 3 → last_slash s ≡ At (i - 1)
+  pub last-slash-at : class_of (get_or s (i - 1) 0) ≡ 3 → last_slash s ≡ Some (i - 1)
   unfolding last_slash
   last-slash-at e =
       let q = before-last-at s (i - 1) (omega arith) (eq-eqb (class_of (get_or s (i - 1) 0)) 3 e) behind in
       rw (q.0, q.1, length-take-le (i - 1) s (omega arith))
 
-pub no-last-slash : (s : List ℕ) → has_slash s ≡ false → last_slash s ≡ Nothing
+pub no-last-slash : (s : List ℕ) → has_slash s ≡ false → last_slash s ≡ None
 unfolding last_slash
 no-last-slash s e = rw e
 
 -- ---- what `last_slash` tells
 
-nothing-at : {n : ℕ} → Nothing ≡ At n → ⊥
+nothing-at : {n : ℕ} → None ≡ Some n → ⊥
 nothing-at q = let z : ◌≡◌ {A = ℕ} 0 1 = cc in omega arith
 
-pub slash-told : (s : List ℕ) (n : ℕ) → last_slash s ≡ At n → (has_slash s ≡ true) × (length (before_last s) ≡ n)
+pub slash-told : (s : List ℕ) (n : ℕ) → last_slash s ≡ Some n → (has_slash s ≡ true) × (length (before_last s) ≡ n)
 unfolding last_slash
 slash-told s n e =
-    let p = cond-first (has_slash s) (At (length (before_last s))) Nothing (At n) nothing-at e in
+    let p = cond-first (has_slash s) (Some (length (before_last s))) None (Some n) nothing-at e in
     let q = p.1 in
     (p.0, cc)
 
-pub slash-none : (s : List ℕ) → last_slash s ≡ Nothing → has_slash s ≡ false
+pub slash-none : (s : List ℕ) → last_slash s ≡ None → has_slash s ≡ false
 unfolding last_slash
-slash-none s e = (cond-second (has_slash s) (At (length (before_last s))) Nothing Nothing (λ q. nothing-at (sym q)) e).0
+slash-none s e = (cond-second (has_slash s) (Some (length (before_last s))) None None (λ q. nothing-at (sym q)) e).0
 
 -- ---- the bytes before the last '/'
 

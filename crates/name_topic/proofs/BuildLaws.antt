@@ -3,6 +3,7 @@
 -- In order: a name put piece by piece (`put-name`); a name that does not fit, and one that does (`name-no-room`, `name-written`);
 -- the cases of `canonical_segment_topic` (`canonical-not-utf8`, `canonical-no-range`, `canonical-no-parent`, `canonical-written`).
 -- Assumes nothing.
+use Rattle.std.specs.Prelude.{Ok, Err}
 use Prim.Native.Nat.{ℕ, ◌+◌, ◌≤◌, ◌<◌}
 use native.Mathlib.Omega.{arith}
 use mathlib.Core.Path.{◌≡◌, ap, ◌∙◌}
@@ -12,14 +13,12 @@ use lib.ListN.{length, length-append}
 use borrow.Author.Tests.{le-leb, lt-leb}
 use Rattle.topic_types.specs.declared.KeyRange.{KeyRange}
 use Rattle.topic_types.specs.declared.KeyRangeError.{KeyRangeError}
-use Rattle.topic_types.specs.declared.RangeResult.TheVariants.{Valid, Invalid}
 use Rattle.topic_types.specs.declared.SegmentId.{SegmentId}
 use Rattle.topic_types.specs.KeyRanges.{new_key_range}
 use Rattle.refusal.specs.declared.Refusal.TheVariants.{InvalidUtf8, InvalidKeyRange, InvalidParent, ResultTooLong}
 use Rattle.slice_int.specs.Put.{put}
 use Rattle.slice_int.proofs.PutLaws.{put-after}
 use Rattle.utf8.specs.Table.{is_utf8}
-use Rattle.name_topic.specs.declared.NameAnswer.TheVariants.{Written}
 use Rattle.name_parents.specs.Parents.{is_parent, path_of}
 use Rattle.name_topic.specs.Names.{segment_scheme, descriptor, segment_topic}
 use Rattle.name_topic.specs.Build.{name_outcome, refuse, written, build_name, canonical_segment_topic}
@@ -49,7 +48,7 @@ module _ (path : List ℕ) (range : KeyRange) (id : SegmentId) (o : List ℕ) wh
 
     pub name-written : n + length path ≤ length o
         → written (segment_topic path range id) o
-        ≡ name_outcome (Written (n + length path)) (put (put (put o 0 segment_scheme) 10 path) (10 + length path) (descriptor range id))
+        ≡ name_outcome (Ok (n + length path)) (put (put (put o 0 segment_scheme) 10 path) (10 + length path) (descriptor range id))
     unfolding written
     name-written h =
         let k = segment_topic-length range id path in
@@ -65,12 +64,12 @@ module _ (parent : List ℕ) (start end : ℕ) (id : SegmentId) (o : List ℕ) w
   canonical-not-utf8 u = rw u
 
   module _ (u : is_utf8 parent ≡ true) where
-    pub canonical-no-range : (e : KeyRangeError) → new_key_range start end ≡ Invalid e
+    pub canonical-no-range : (e : KeyRangeError) → new_key_range start end ≡ Err e
         → canonical_segment_topic parent start end id o ≡ refuse (InvalidKeyRange e) o
     unfolding canonical_segment_topic build_name
     canonical-no-range e r = rw (u, r)
 
-    module _ (range : KeyRange) (r : new_key_range start end ≡ Valid range) where
+    module _ (range : KeyRange) (r : new_key_range start end ≡ Ok range) where
       pub canonical-no-parent : is_parent parent ≡ false → canonical_segment_topic parent start end id o ≡ refuse InvalidParent o
       unfolding canonical_segment_topic build_name
       canonical-no-parent p = rw (u, r, p)

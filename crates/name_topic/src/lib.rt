@@ -12,7 +12,7 @@ ghost use Rattle.name_topic.specs.Build.{name_outcome, written, canonical_segmen
 
 pub use name_parents::is_parent;
 use refusal::Refusal;
-use topic_types::{KeyRange, RangeResult, SegmentId};
+use topic_types::{KeyRange, SegmentId};
 
 // "segment:" and "//" as numbers of 8 and of 2 bytes.
 const SEGMENT_COLON: u64 = 0x7365_676D_656E_743A;
@@ -21,14 +21,6 @@ const TWO_SLASHES: u16 = 0x2F2F;
 
 // The bytes of "segment://", before the path in a segment's name.
 pub const SCHEME: usize = 10;
-
-// What a call that writes a name answers.
-#[derive(Clone, Copy)]
-pub enum NameAnswer {
-    // The name stands at the front of the output and is this long.
-    Written(usize),
-    Refused(Refusal),
-}
 
 // The text starts with "segment://".
 fn has_scheme(text: &[u8]) -> bool
@@ -67,7 +59,7 @@ pub fn write_segment_topic(
     range: KeyRange,
     id: SegmentId,
     out: &mut [u8],
-) -> NameAnswer
+) -> Result<usize, Refusal>
     ensures { name_outcome result out.new ≡ written (segment_topic path.now range id) out.old }
 {
     let tail = descriptor::descriptor_of(range, id);
@@ -75,17 +67,17 @@ pub fn write_segment_topic(
     let bytes = tail.bytes;
     let rest = 42 - from;
     if out.len() < rest {
-        return NameAnswer::Refused(Refusal::ResultTooLong);
+        return Err(Refusal::ResultTooLong);
     }
     if out.len() - rest < path.len() {
-        return NameAnswer::Refused(Refusal::ResultTooLong);
+        return Err(Refusal::ResultTooLong);
     }
     let n = SCHEME + path.len();
     slice_int::put_bytes(out, 0, b"segment://");
     slice_int::put_bytes(out, SCHEME, path);
     slice_int::put_bytes(out, n, &bytes[from..]);
     let len = rest + path.len();
-    NameAnswer::Written(len)
+    Ok(len)
 }
 
 // Writes the name of the segment with that range and id below the parent. Tested in order: the parent's UTF-8 (7), the range (9), the parent (12),
@@ -96,19 +88,19 @@ pub fn canonical_segment_topic(
     end: u32,
     id: SegmentId,
     out: &mut [u8],
-) -> NameAnswer
+) -> Result<usize, Refusal>
     ensures { name_outcome result out.new ≡ canonical_segment_topic parent.now start end id out.old }
 {
     if !utf8::is_utf8(parent) {
-        return NameAnswer::Refused(Refusal::InvalidUtf8);
+        return Err(Refusal::InvalidUtf8);
     }
     match KeyRange::new(start, end) {
-        RangeResult::Invalid(source) => NameAnswer::Refused(Refusal::InvalidKeyRange { source }),
-        RangeResult::Valid(range) => {
+        Err(source) => Err(Refusal::InvalidKeyRange { source }),
+        Ok(range) => {
             if is_parent(parent) {
                 write_segment_topic(&parent[name_parents::SCHEME..], range, id, out)
             } else {
-                NameAnswer::Refused(Refusal::InvalidParent)
+                Err(Refusal::InvalidParent)
             }
         }
     }

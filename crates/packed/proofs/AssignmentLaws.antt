@@ -8,6 +8,7 @@
 --
 -- A caller that walks over a packed assignment needs `segments-at` and `Rest`; the rest serves the readers of src/.
 -- Assumes nothing.
+use Rattle.std.specs.Prelude.{Some, None}
 use Prim.Native.Nat.{ℕ, suc, ◌+◌, ◌-◌, ◌*◌, ◌≤◌, ◌<◌, min}
 use native.Mathlib.Numerals.{add-one}
 use native.Mathlib.Omega.{arith}
@@ -30,7 +31,6 @@ use Rattle.packed.specs.Assignment.{AssignedSegment, slot_size, num, decode_rang
 use Rattle.packed.specs.Assignment.{size_segment, size_segments, size_assignment, is_in_order, all_in_order, ok_buckets, ok_segment, ok_from}
 use Rattle.packed.specs.Assignment.{ok_assignment, starts_assignment}
 use Rattle.packed.specs.Answers.{record_valid, record_read}
-use Rattle.packed.specs.declared.RecordRead.TheVariants.{Record, Malformed}
 pub use Rattle.packed.specs.Rest.{Rest}
 
 -- ---- ranges at a place
@@ -170,7 +170,7 @@ pub record Seen (s : List ℕ) (at i : ℕ) (r : KeyRange) (n : ℕ) : Type 0 wh
   pub range-is : r ≡ decode_range (drop (at + 8) s)
   pub count-is : n ≡ be_at 2 s (at + 12)
 
-pub record-short : (s : List ℕ) (at end : ℕ) → end < at + size_segment (decode_segment (drop at s)) → Malformed ≡ record_read s at end
+pub record-short : (s : List ℕ) (at end : ℕ) → end < at + size_segment (decode_segment (drop at s)) → None ≡ record_read s at end
 unfolding record_read record_valid
 record-short s at end h = simp (lt-leb _ _ h)
 
@@ -190,18 +190,18 @@ module _ (s : List ℕ) (at i : ℕ) (r : KeyRange) (n : ℕ) (x : Seen s at i r
   seen-ok = ap ok_segment seen-segment
 
   module _ (end : ℕ) where
-    record-bad : ok_segment (decode_segment (drop at s)) ≡ false → Malformed ≡ record_read s at end
+    record-bad : ok_segment (decode_segment (drop at s)) ≡ false → None ≡ record_read s at end
     unfolding record_read record_valid
     record-bad e = simp (e, and-false)
 
-    pub record-reversed : r.end < r.start → Malformed ≡ record_read s at end
+    pub record-reversed : r.end < r.start → None ≡ record_read s at end
     record-reversed h = record-bad (seen-ok ∙ simp (lt-leb r.start r.end h))
 
     module _ (h : r.start ≤ r.end) (t : Bool) (e : t ≡ ok_buckets (decode_ranges n (drop (at + 14) s))) where
-      pub record-clash : t ≡ false → Malformed ≡ record_read s at end
+      pub record-clash : t ≡ false → None ≡ record_read s at end
       record-clash f = record-bad (seen-ok ∙ simp (le-leb r.start r.end h, ← e, f))
 
-      pub record-valid : t ≡ true → at + 14 + 4 * n ≤ end → Record i (14 + 4 * n) ≡ record_read s at end
+      pub record-valid : t ≡ true → at + 14 + 4 * n ≤ end → Some (i, 14 + 4 * n) ≡ record_read s at end
       unfolding record_read record_valid
       record-valid f k =
           let o : ok_segment (decode_segment (drop at s)) ≡ true = seen-ok ∙ simp (le-leb r.start r.end h, ← e, f) in
@@ -217,7 +217,7 @@ pub record RecordIs (s : List ℕ) (p end i z : ℕ) : Type 0 where
   pub fits : p + size_segment (decode_segment (drop p s)) ≤ end
   pub ok : ok_segment (decode_segment (drop p s)) ≡ true
 
-pub record_is : (s : List ℕ) (p end i z : ℕ) → Record i z ≡ record_read s p end → RecordIs s p end i z
+pub record_is : (s : List ℕ) (p end i z : ℕ) → Some (i, z) ≡ record_read s p end → RecordIs s p end i z
 unfolding record_read record_valid
 record_is s p end i z e =
     let c = cond-first (record_valid s p end) _ _ _ (λ q. let o : ◌≡◌ {A = ℕ} 0 1 = cc in omega arith) (sym e) in
@@ -225,7 +225,7 @@ record_is s p end i z e =
     let b = both_true _ _ c.0 in
     record { id-is = cc; size_is = cc; fits = leb-true _ _ b.0; ok = b.1 }
 
-not_valid : (s : List ℕ) (p end : ℕ) → Malformed ≡ record_read s p end → record_valid s p end ≡ false
+not_valid : (s : List ℕ) (p end : ℕ) → None ≡ record_read s p end → record_valid s p end ≡ false
 unfolding record_read
 not_valid s p end e = (cond-second (record_valid s p end) _ _ _ (λ q. let o : ◌≡◌ {A = ℕ} 0 1 = cc in omega arith) (sym e)).0
 
@@ -249,7 +249,7 @@ module _ (s : List ℕ) (p n low end : ℕ) (h : 0 < n) where
   ok-turn z e = ap (ok_from low) (segments-at s p n z h e)
 
   -- no valid record stands there
-  pub record-malformed : Malformed ≡ record_read s p end → rest s end p n low ≡ false
+  pub record-malformed : None ≡ record_read s p end → rest s end p n low ≡ false
   unfolding record_valid
   record-malformed e = go (ok_segment (decode_segment (drop p s))) refl
     where

@@ -4,6 +4,7 @@
 -- `starts_assignment` (`starts-told`), of `is_assignment` (`whole-not` to `whole-ends`) and of `front_answer` (`front-none`, `front-some`); the cases of `whole_read` by the answer of `read_front` (`whole-all`,
 -- `whole-more`, `whole-refused`).
 -- Assumes nothing.
+use Rattle.std.specs.Prelude.{Some, None}
 use Prim.Native.Nat.{ℕ, ◌+◌, ◌*◌, ◌≤◌, ◌<◌, min}
 use native.Mathlib.Decide.{dec_le}
 use native.Mathlib.Omega.{arith}
@@ -19,7 +20,6 @@ use Rattle.slice_int.specs.Be.{be_at}
 use Rattle.packed.specs.Assignment.{slot_size, decode_segments, decode_assignment, size_segments, size_assignment, ok_from}
 use Rattle.packed.specs.Assignment.{starts_assignment, is_assignment}
 use Rattle.packed.specs.Answers.{records_end, front_size, front_answer, whole_read}
-use Rattle.packed.specs.declared.Packed.TheVariants.{Assignment, Malformed}
 use Rattle.packed.proofs.AssignmentLaws.{length-segments_of, first-segments, starts}
 use Rattle.packed.proofs.EndLaws.{rest-short, end_none}
 
@@ -100,11 +100,11 @@ module _ (s : List ℕ) {z : ℕ} (e : z ≡ front_size s) where
   pub whole-ends : z ≡ length s → 0 < z → is_assignment s ≡ true
   whole-ends h k = sym (whole_is (λ e. absurd (omega (arith, e)))) ∙ eq-eqb z (length s) h
 
-  pub front-none : z ≡ 0 → Malformed ≡ front_answer s
+  pub front-none : z ≡ 0 → None ≡ front_answer s
   unfolding front_answer
   front-none h = simp (size_none h)
 
-  pub front-some : (z ≡ 0 → ⊥) → (n : ℕ) → n ≡ be_at 2 s 8 → Assignment z n ≡ front_answer s
+  pub front-some : (z ≡ 0 → ⊥) → (n : ℕ) → n ≡ be_at 2 s 8 → Some (z, n) ≡ front_answer s
   unfolding front_answer
   front-some h n k =
       let f : Sized s z = size-some h in
@@ -119,23 +119,23 @@ record Front (s : List ℕ) (z n : ℕ) : Type 0 where
   size_is : size_assignment (decode_assignment s) ≡ z
   count-is : length (decode_assignment s).segments ≡ n
 
-front : (s : List ℕ) (z n : ℕ) → Assignment z n ≡ front_answer s → Front s z n
+front : (s : List ℕ) (z n : ℕ) → Some (z, n) ≡ front_answer s → Front s z n
 unfolding front_answer
 front s z n e =
     let p = cond-first (starts_assignment s) _ _ _ (λ q. let o : ◌≡◌ {A = ℕ} 0 1 = cc in omega arith) (sym e) in
     let f = p.1 in
     record { starts_is = p.0; size_is = cc; count-is = cc }
 
-module _ (s : List ℕ) (z n : ℕ) (e : Assignment z n ≡ front_answer s) where
+module _ (s : List ℕ) (z n : ℕ) (e : Some (z, n) ≡ front_answer s) where
   -- nothing is left over
-  pub whole-all : z ≡ length s → Assignment z n ≡ whole_read s
+  pub whole-all : z ≡ length s → Some (z, n) ≡ whole_read s
   unfolding whole_read is_assignment
   whole-all h = let f : Front s z n = front s z n e in simp (f.starts_is, f.size_is, f.count-is, eq-eqb z (length s) h)
 
-  pub whole-more : (z ≡ length s → ⊥) → Malformed ≡ whole_read s
+  pub whole-more : (z ≡ length s → ⊥) → None ≡ whole_read s
   unfolding whole_read is_assignment
   whole-more h = let f : Front s z n = front s z n e in simp (f.starts_is, f.size_is, f.count-is, ne_eqb z (length s) h)
 
-pub whole-refused : (s : List ℕ) → Malformed ≡ front_answer s → Malformed ≡ whole_read s
+pub whole-refused : (s : List ℕ) → None ≡ front_answer s → None ≡ whole_read s
 unfolding front_answer whole_read is_assignment
 whole-refused s e = simp (cond-second (starts_assignment s) _ _ _ (λ q. let o : ◌≡◌ {A = ℕ} 0 1 = cc in omega arith) (sym e)).0

@@ -1,5 +1,6 @@
 -- What the answer of `read_whole` says: a packed assignment with its records (`Whole`, `whole-read`), or none (`not-assignment`).
 -- Assumes nothing.
+use Rattle.std.specs.Prelude.{Some, None}
 use Prim.Native.Nat.{ℕ}
 use native.Mathlib.Omega.{arith}
 use mathlib.Core.Path.{◌≡◌, sym, ◌∙◌}
@@ -11,7 +12,6 @@ use Rattle.slice.proofs.TestLaws.{cond-first, cond-second}
 use Rattle.slice_int.specs.Be.{be_at}
 use Rattle.packed.specs.Assignment.{num, decode_segments, decode_assignment, starts_assignment, is_assignment}
 use Rattle.packed.specs.Answers.{whole_read}
-use Rattle.packed.specs.declared.Packed.TheVariants.{Assignment, Malformed}
 use Rattle.packed.proofs.AssignmentLaws.{length-segments_of, first-segments, Rest, rest-start}
 
 -- a packed assignment with n segments
@@ -21,7 +21,7 @@ pub record Whole (s : List ℕ) (n : ℕ) : Type 0 where
   pub segments-are : (decode_assignment s).segments ≡ decode_segments n (drop 10 s)
   pub records : Rest s 10 n
 
-pub whole-read : (s : List ℕ) (z n : ℕ) → Assignment z n ≡ whole_read s → Whole s n
+pub whole-read : (s : List ℕ) (z n : ℕ) → Some (z, n) ≡ whole_read s → Whole s n
 unfolding whole_read is_assignment decode_assignment num be_at
 whole-read s z n e =
     let p = cond-first (is_assignment s) _ _ _ (λ q. let o : ◌≡◌ {A = ℕ} 0 1 = cc in omega arith) (sym e) in
@@ -35,6 +35,6 @@ whole-read s z n e =
       records = rest-start s n (both_true (starts_assignment s) _ p.0).0 b;
     }
 
-pub not-assignment : (s : List ℕ) → Malformed ≡ whole_read s → is_assignment s ≡ false
+pub not-assignment : (s : List ℕ) → None ≡ whole_read s → is_assignment s ≡ false
 unfolding whole_read
 not-assignment s e = (cond-second (is_assignment s) _ _ _ (λ q. let o : ◌≡◌ {A = ℕ} 0 1 = cc in omega arith) (sym e)).0

@@ -42,22 +42,6 @@ const PLACES: u64 = 72057594054705152;
 
 const LESS: u64 = 72057589759737855;
 
-// What stands at a record's place.
-#[derive(Clone, Copy)]
-pub enum RecordRead {
-    // Its id, and its size in bytes.
-    Record(u64, usize),
-    Malformed,
-}
-
-// What bytes are.
-#[derive(Clone, Copy)]
-pub enum Packed {
-    // A packed assignment: its size in bytes, and how many segments it has.
-    Assignment(usize, usize),
-    Malformed,
-}
-
 // The range in the 4 bytes from a place on.
 pub fn range_at(s: &[u8], at: usize) -> KeyRange
     requires { at + bucket_size ≤ length s.now }
@@ -213,26 +197,26 @@ pub fn buckets_ok(s: &[u8], at: usize, n: usize) -> bool
 }
 
 // The record at the place at, which has to end by the place end.
-pub fn record_at(s: &[u8], at: usize, end: usize) -> RecordRead
+pub fn record_at(s: &[u8], at: usize, end: usize) -> Option<(u64, usize)>
     requires { (at ≤ end) × (end ≤ length s.now) }
     ensures { result ≡ record_read s.now at end }
 {
     if end - at < RECORD_HEAD {
-        return RecordRead::Malformed;
+        return None;
     }
     let id = slice_int::read_u64(s, at);
     let range = range_at(s, at + RECORD_RANGE);
     let count = slice_int::read_u16(s, at + RECORD_COUNT) as usize;
     if (end - at - RECORD_HEAD) / BUCKET < count {
-        return RecordRead::Malformed;
+        return None;
     }
     if range.end < range.start {
-        return RecordRead::Malformed;
+        return None;
     }
     if buckets_ok(s, at + RECORD_HEAD, count) {
-        RecordRead::Record(id, RECORD_HEAD + BUCKET * count)
+        Some((id, RECORD_HEAD + BUCKET * count))
     } else {
-        RecordRead::Malformed
+        None
     }
 }
 
@@ -348,29 +332,29 @@ pub fn is_whole(s: &[u8]) -> bool
 }
 
 // The packed assignment at the front of a slot, and how many segments it has.
-pub fn read_front(s: &[u8]) -> Packed
+pub fn read_front(s: &[u8]) -> Option<(usize, usize)>
     ensures { result ≡ front_answer s.now }
 {
     let size = front_size(s);
     if size == 0 {
-        return Packed::Malformed;
+        return None;
     }
     let segments = slice_int::read_u16(s, ASSIGNMENT_COUNT) as usize;
-    Packed::Assignment(size, segments)
+    Some((size, segments))
 }
 
 // The packed assignment that the bytes are; none may be left over.
-pub fn read_whole(s: &[u8]) -> Packed
+pub fn read_whole(s: &[u8]) -> Option<(usize, usize)>
     ensures { result ≡ whole_read s.now }
 {
     match read_front(s) {
-        Packed::Assignment(size, count) => {
+        Some((size, count)) => {
             if size == s.len() {
-                Packed::Assignment(size, count)
+                Some((size, count))
             } else {
-                Packed::Malformed
+                None
             }
         }
-        Packed::Malformed => Packed::Malformed,
+        None => None,
     }
 }

@@ -3,6 +3,7 @@
 -- In order: bytes that are refused (`no-assignment`, `no-delta`); how many records fit a slot (`few-fit`); the records of the result where
 -- they come from (`overlaid`, `result`); a result that is beyond a slot (`too_long`), has no room (`no_room`), or is written (`all-written`).
 -- Assumes nothing.
+use Rattle.std.specs.Prelude.{None, Ok}
 use Prim.Native.Nat.{ℕ, ◌+◌, ◌*◌, ◌≤◌, ◌<◌}
 use native.Mathlib.Omega.{arith}
 use mathlib.Core.Path.{◌≡◌, sym, ap, ◌∙◌}
@@ -12,7 +13,6 @@ use lib.ListN.{length, drop, length-append}
 use borrow.Author.Tests.{le-leb, lt-leb}
 use Rattle.refusal.specs.declared.Refusal.TheVariants.{MalformedInput, AssignmentTooLong, ResultTooLong}
 use Rattle.output.specs.Output.{outcome, refuse, written}
-use Rattle.output.specs.declared.WriteAnswer.TheVariants.{Written}
 use Rattle.slice_int.specs.Be.{be_at, bytes_of}
 use Rattle.slice_int.specs.Put.{put}
 use Rattle.slice_int.proofs.BeLaws.{length-bytes_of}
@@ -26,7 +26,6 @@ use Rattle.packed_delta.specs.Join.{apply}
 use Rattle.packed_delta.proofs.RoundLaws.{Walkable}
 use Rattle.packed_delta.proofs.ShortLaws.{size-records}
 use Rattle.packed_overlay.specs.Overlay.{overlay, fit_of}
-use Rattle.packed_overlay.specs.declared.Fit.TheVariants.{Beyond}
 use Rattle.packed_apply.specs.ApplyOutcome.{applied, apply_outcome}
 use Rattle.packed_overlay.proofs.FitLaws.{Fits, fit-beyond}
 
@@ -65,7 +64,7 @@ module _ {s d : List ℕ} {count losses gains : ℕ} (w : Whole s count) (v : Wa
       let e : apply (decode_delta d) (decode_assignment s) ≡ X = cc (w.segments-are, v.lost-is, v.gained-is) in
       simp (w.is-assignment, v.is-delta, e)
 
-  pub too_long : Beyond ≡ fit_of 2038 R → refuse AssignmentTooLong o ≡ apply_outcome s d o
+  pub too_long : None ≡ fit_of 2038 R → refuse AssignmentTooLong o ≡ apply_outcome s d o
   unfolding applied size_assignment
   too_long e = sym (result ∙ simp (lt-leb (10 + size_segments R) slot_size (omega (arith, fit-beyond 2038 R e))))
 
@@ -84,7 +83,7 @@ module _ {s d : List ℕ} {count losses gains : ℕ} (w : Whole s count) (v : Wa
 
     -- the three writes, each in front of the one before
     pub all-written : 10 + z ≤ length o → (o1 o2 o3 : List ℕ) (epoch : ℕ) → o1 ≡ put o 10 (encode_segments R) → o2 ≡ put o1 8 (bytes_of 2 n)
-        → epoch ≡ be_at 8 d 0 → o3 ≡ put o2 0 (bytes_of 8 epoch) → outcome (Written (10 + z)) o3 ≡ apply_outcome s d o
+        → epoch ≡ be_at 8 d 0 → o3 ≡ put o2 0 (bytes_of 8 epoch) → outcome (Ok (10 + z)) o3 ≡ apply_outcome s d o
     unfolding written encode_assignment num be_at
     all-written h o1 o2 o3 epoch w1 w2 e w3 =
         let G : List ℕ = encode_segments R in

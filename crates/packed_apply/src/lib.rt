@@ -5,22 +5,20 @@ ghost use Rattle.std.specs.Prelude.{◌≡◌};
 ghost use Rattle.output.specs.Output.{outcome};
 ghost use Rattle.packed_apply.specs.ApplyOutcome.{apply_outcome};
 
-use output::WriteAnswer;
-use packed::{ASSIGNMENT_HEAD, Packed};
-use packed_delta::DeltaRead;
-use packed_overlay::{Fit, Row};
+use packed::ASSIGNMENT_HEAD;
+use packed_overlay::Row;
 use refusal::Refusal;
 
 // Writes the packed assignment `assignment` with the delta applied. Tested in order: both lent forms (20), a slot's room (15), the output's (21). A refusal leaves the
 // output as it was.
-pub fn apply(assignment: &[u8], delta: &[u8], out: &mut [u8]) -> WriteAnswer
+pub fn apply(assignment: &[u8], delta: &[u8], out: &mut [u8]) -> Result<usize, Refusal>
     ensures { outcome result out.new ≡ apply_outcome assignment.now delta.now out.old }
 {
-    let Packed::Assignment(_, count) = packed::read_whole(assignment) else {
-        return WriteAnswer::Refused(Refusal::MalformedInput);
+    let Some((_, count)) = packed::read_whole(assignment) else {
+        return Err(Refusal::MalformedInput);
     };
-    let DeltaRead::Delta(losses, gains) = packed_delta::read_delta(delta) else {
-        return WriteAnswer::Refused(Refusal::MalformedInput);
+    let Some((losses, gains)) = packed_delta::read_delta(delta) else {
+        return Err(Refusal::MalformedInput);
     };
     let kept = Row {
         at: ASSIGNMENT_HEAD,
@@ -34,7 +32,7 @@ pub fn apply(assignment: &[u8], delta: &[u8], out: &mut [u8]) -> WriteAnswer
         at: packed_delta::HEAD + packed_delta::ID * losses,
         left: gains,
     };
-    let Fit::Size(n, size) = packed_overlay::overlay_fit(
+    let Some((n, size)) = packed_overlay::overlay_fit(
         assignment,
         kept,
         delta,
@@ -42,13 +40,13 @@ pub fn apply(assignment: &[u8], delta: &[u8], out: &mut [u8]) -> WriteAnswer
         gained,
         packed::SLOT - ASSIGNMENT_HEAD,
     ) else {
-        return WriteAnswer::Refused(Refusal::AssignmentTooLong);
+        return Err(Refusal::AssignmentTooLong);
     };
     if out.len() < ASSIGNMENT_HEAD + size {
-        return WriteAnswer::Refused(Refusal::ResultTooLong);
+        return Err(Refusal::ResultTooLong);
     }
     packed_overlay::write_overlay(assignment, kept, delta, lost, gained, out, ASSIGNMENT_HEAD);
     slice_int::write_u16(out, packed::ASSIGNMENT_COUNT, n as u16);
     slice_int::write_u64(out, 0, slice_int::read_u64(delta, 0));
-    WriteAnswer::Written(ASSIGNMENT_HEAD + size)
+    Ok(ASSIGNMENT_HEAD + size)
 }

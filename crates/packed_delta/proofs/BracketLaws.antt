@@ -1,8 +1,8 @@
 -- Every bracketing of a row of deltas gives the same delta, and that delta does what the row does, one after the other.
 -- Assumes nothing.
+use Rattle.std.specs.Prelude.{Option, Some, None}
 use mathlib.Core.Path.{◌≡◌, refl, ap, sym, ◌∙◌, subst}
 use mathlib.Core.List.{List, [], ◌∷◌, ◌++◌}
-use mathlib.Core.Option.{Option, some, none}
 use Rattle.packed.specs.Assignment.{ConsumerAssignment}
 use Rattle.packed_delta.specs.Delta.{AssignmentDelta}
 use Rattle.packed_delta.specs.Join.{Proper, ProperDelta, apply, join, Bracketing, one, two, row, joined, apply_all}
@@ -49,42 +49,42 @@ apply-joined (two l m) a r s =
 -- ---- the row joined from the left, onto what comes before it
 
 abbrev onto : Option AssignmentDelta → AssignmentDelta → AssignmentDelta
-onto none e = e
-onto (some d) e = join d e
+onto None e = e
+onto (Some d) e = join d e
 
 abbrev after : Option AssignmentDelta → List AssignmentDelta → Option AssignmentDelta
 after o [] = o
-after o (e ∷ es) = after (some (onto o e)) es
+after o (e ∷ es) = after (Some (onto o e)) es
 
 abbrev ProperBefore : Option AssignmentDelta → Type 0
-ProperBefore none = Unit {0}
-ProperBefore (some d) = ProperDelta d
+ProperBefore None = Unit {0}
+ProperBefore (Some d) = ProperDelta d
 
 after-append : (o : Option AssignmentDelta) (ds es : List AssignmentDelta) → after o (ds ++ es) ≡ after (after o ds) es
 after-append o [] es = refl
-after-append o (d ∷ ds) es = after-append (some (onto o d)) ds es
+after-append o (d ∷ ds) es = after-append (Some (onto o d)) ds es
 
 onto-proper : (o : Option AssignmentDelta) (d : AssignmentDelta) → ProperBefore o → ProperDelta d → ProperDelta (onto o d)
-onto-proper none d r s = s
-onto-proper (some c) d r s = join-proper c d r
+onto-proper None d r s = s
+onto-proper (Some c) d r s = join-proper c d r
 
 onto-join : (o : Option AssignmentDelta) (d e : AssignmentDelta) → ProperBefore o → ProperDelta d → join (onto o d) e ≡ onto o (join d e)
-onto-join none d e r s = refl
-onto-join (some c) d e r s = join-assoc c d e r s
+onto-join None d e r s = refl
+onto-join (Some c) d e r s = join-assoc c d e r s
 
-from-left : (o : Option AssignmentDelta) (t : Bracketing) → ProperBefore o → AllProper (row t) → after o (row t) ≡ some (onto o (joined t))
+from-left : (o : Option AssignmentDelta) (t : Bracketing) → ProperBefore o → AllProper (row t) → after o (row t) ≡ Some (onto o (joined t))
 from-left o (one d) r s = refl
 from-left o (two l m) r s =
     let p : AllProper (row l) = proper-left (row l) (row m) s in
     let q : ProperDelta (joined l) = joined-proper l p in
     after-append o (row l) (row m)
     ∙ ap (λ c. after c (row m)) (from-left o l r p)
-    ∙ from-left (some (onto o (joined l))) m (onto-proper o (joined l) r q) (proper-right (row l) (row m) s)
-    ∙ ap some (onto-join o (joined l) (joined m) r q)
+    ∙ from-left (Some (onto o (joined l))) m (onto-proper o (joined l) r q) (proper-right (row l) (row m) s)
+    ∙ ap Some (onto-join o (joined l) (joined m) r q)
 
 -- two bracketings of one row give the same delta
 pub brackets-agree : (t u : Bracketing) → AllProper (row t) → row t ≡ row u → joined t ≡ joined u
 brackets-agree t u r e =
-    let p : some (joined t) ≡ some (joined u) =
-    sym (from-left none t tt r) ∙ ap (after none) e ∙ from-left none u tt (subst AllProper e r) in
+    let p : Some (joined t) ≡ Some (joined u) =
+    sym (from-left None t tt r) ∙ ap (after None) e ∙ from-left None u tt (subst AllProper e r) in
     cc

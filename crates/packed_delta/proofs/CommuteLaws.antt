@@ -5,10 +5,10 @@
 -- In order: the lost ids, which agree whatever the deltas name (`lost-commutes`); the gained records
 -- (`gained-commutes`); an assignment's segments (`apply-commutes`).
 -- Assumes nothing.
+use Rattle.std.specs.Prelude.{Option, Some, None}
 use Prim.Native.Nat.{ℕ}
 use mathlib.Core.Path.{◌≡◌, refl, sym, ◌∙◌}
 use mathlib.Core.Bool.{false, ◌||◌, ◌&&◌, false≢true}
-use mathlib.Core.Option.{Option, some, none}
 use Rattle.keyed.specs.Keyed.{self, or_else, is_some, find}
 use Rattle.keyed.proofs.KeyedLaws.{key-of-find, extensional}
 use Rattle.packed.specs.Assignment.{id_of, ConsumerAssignment}
@@ -19,12 +19,12 @@ use Rattle.packed_delta.proofs.DeltaLaws.{merged, find-lost, find-gained, join-p
 -- ---- the lost ids
 
 -- an id that both lose is the same id, whichever is asked first
-either-lost : (k : ℕ) (dl el : Option ℕ) → ((i : ℕ) → dl ≡ some i → i ≡ k) → ((i : ℕ) → el ≡ some i → i ≡ k)
+either-lost : (k : ℕ) (dl el : Option ℕ) → ((i : ℕ) → dl ≡ Some i → i ≡ k) → ((i : ℕ) → el ≡ Some i → i ≡ k)
     → or_else el dl ≡ or_else dl el
-either-lost k none none f g = refl
-either-lost k none (some j) f g = refl
-either-lost k (some i) none f g = refl
-either-lost k (some i) (some j) f g = let p : i ≡ k = f i refl in let q : j ≡ k = g j refl in cc
+either-lost k None None f g = refl
+either-lost k None (Some j) f g = refl
+either-lost k (Some i) None f g = refl
+either-lost k (Some i) (Some j) f g = let p : i ≡ k = f i refl in let q : j ≡ k = g j refl in cc
 
 -- whatever the two name
 pub lost-commutes : (d e : AssignmentDelta) → ProperDelta d → ProperDelta e → (join d e).lost ≡ (join e d).lost
@@ -40,16 +40,16 @@ lost-commutes d e r s =
 -- an id that one of the two names at most, by what it finds lost and gained in each
 either-gained : {A : Type 0} (dl : Option ℕ) (dg : Option A) (el : Option ℕ) (eg : Option A)
     → ((is_some dl || is_some dg) && (is_some el || is_some eg)) ≡ false → merged eg el dg ≡ merged dg dl eg
-either-gained none none none none h = refl
-either-gained none none (some j) none h = refl
-either-gained none none el (some y) h = refl
-either-gained none (some x) none none h = refl
-either-gained (some i) none none none h = refl
-either-gained (some i) (some x) none none h = refl
-either-gained none (some x) none (some y) h = absurd (false≢true (sym h))
-either-gained none (some x) (some j) eg h = absurd (false≢true (sym h))
-either-gained (some i) dg none (some y) h = absurd (false≢true (sym h))
-either-gained (some i) dg (some j) eg h = absurd (false≢true (sym h))
+either-gained None None None None h = refl
+either-gained None None (Some j) None h = refl
+either-gained None None el (Some y) h = refl
+either-gained None (Some x) None None h = refl
+either-gained (Some i) None None None h = refl
+either-gained (Some i) (Some x) None None h = refl
+either-gained None (Some x) None (Some y) h = absurd (false≢true (sym h))
+either-gained None (Some x) (Some j) eg h = absurd (false≢true (sym h))
+either-gained (Some i) dg None (Some y) h = absurd (false≢true (sym h))
+either-gained (Some i) dg (Some j) eg h = absurd (false≢true (sym h))
 
 module _ (d e : AssignmentDelta) (r : ProperDelta d) (s : ProperDelta e) (h : Apart d e) where
   pub gained-commutes : (join d e).gained ≡ (join e d).gained

@@ -4,12 +4,12 @@
 -- each operation (`find-apply`, `find-lost`, `find-gained`, `same-found`, `find-without-same`); the results are proper; the laws (`delta-law`,
 -- `apply-join`, `join-assoc`); and that a join's gained records are what `apply` makes of the first delta's (`join-overlay`).
 -- Assumes nothing.
+use Rattle.std.specs.Prelude.{Option, Some, None, option_map}
 use Prim.Native.Nat.{ℕ, suc}
 use native.Mathlib.Omega.{arith}
 use mathlib.Core.Path.{◌≡◌, refl, ap, ap₂, sym, ◌∙◌}
 use mathlib.Core.Bool.{Bool, true, false, cond, not, ◌||◌, or-false}
 use mathlib.Core.List.{List, [], ◌∷◌}
-use mathlib.Core.Option.{Option, some, none, map}
 use lib.ListN.{length}
 use lib.Dec.{eqb, leb}
 use borrow.Author.Tests.{eqb-true, leb-true}
@@ -61,11 +61,11 @@ is-delta-proper l e = delta-ok-proper (decode_delta l) (both_true (eqb (size_del
 
 -- after `apply`: by what it finds gained, lost, and before
 abbrev pub applied : {A : Type 0} → Option A → Option ℕ → Option A → Option A
-applied gained lost before = or_else gained (cond (is_some lost) none before)
+applied gained lost before = or_else gained (cond (is_some lost) None before)
 
 -- gained by a join: by what the second gains and loses, and what the first gains
 abbrev pub merged : {A : Type 0} → Option A → Option ℕ → Option A → Option A
-merged gained lost first = or_else gained (cond (is_some lost || is_some gained) none first)
+merged gained lost first = or_else gained (cond (is_some lost || is_some gained) None first)
 
 pub find-apply : (k : ℕ) (d : AssignmentDelta) (a : ConsumerAssignment) → Proper a
     → find id_of k (apply d a).segments ≡ applied (find id_of k d.gained) (find self k d.lost) (find id_of k a.segments)
@@ -88,8 +88,8 @@ find-gained k d e r =
 
 -- the record that was found is identical to g
 abbrev pub identical : Option AssignedSegment → AssignedSegment → Bool
-identical none g = false
-identical (some h) g = same_segment g h
+identical None g = false
+identical (Some h) g = same_segment g h
 
 -- in a rising list an identical record is found by its id
 pub same-found : (hs : List AssignedSegment) (g : AssignedSegment) → Rising id_of hs
@@ -99,9 +99,9 @@ same-found [] g r = refl
 same-found (h ∷ hs) g r = go (eqb g.segment_id h.segment_id) refl (same-found hs g r.1)
   where
     go : (b : Bool) → eqb g.segment_id h.segment_id ≡ b → has_same hs g ≡ identical (find id_of g.segment_id hs) g
-        → (same_segment g h || has_same hs g) ≡ identical (cond (eqb g.segment_id h.segment_id) (some h) (find id_of g.segment_id hs)) g
+        → (same_segment g h || has_same hs g) ≡ identical (cond (eqb g.segment_id h.segment_id) (Some h) (find id_of g.segment_id hs)) g
     go true t ih =
-        let f : find id_of g.segment_id hs ≡ none =
+        let f : find id_of g.segment_id hs ≡ None =
         find-below id_of g.segment_id h.segment_id hs (omega (arith, eqb-true g.segment_id h.segment_id t)) r.0 r.1 in
         let n : has_same hs g ≡ false = ih ∙ ap (λ (o : Option AssignedSegment). identical o g) f in
         simp (t, n, or-false)
@@ -143,18 +143,18 @@ delta-proper a b r s = (
 
 -- ---- a delta turns the old assignment into the new one
 
-one-id : (a b : Option AssignedSegment) → applied (differing b a) (map id_of (differing a b)) a ≡ b
-one-id none none = refl
-one-id none (some h) = refl
-one-id (some g) none = refl
-one-id (some g) (some h) = go (same_segment h g) refl
+one-id : (a b : Option AssignedSegment) → applied (differing b a) (option_map id_of (differing a b)) a ≡ b
+one-id None None = refl
+one-id None (Some h) = refl
+one-id (Some g) None = refl
+one-id (Some g) (Some h) = go (same_segment h g) refl
   where
     go : (t : Bool) → same_segment h g ≡ t
-        → applied (differing (some h) (some g)) (map id_of (differing (some g) (some h))) (some g) ≡ some h
+        → applied (differing (Some h) (Some g)) (option_map id_of (differing (Some g) (Some h))) (Some g) ≡ Some h
     go true e =
         let q : h ≡ g = segment-eq h g e in
         let b : same_segment g h ≡ true = rw q (segment-refl g) in
-        simp (e, b) (ap some (sym q))
+        simp (e, b) (ap Some (sym q))
     go false e = simp e
 
 pub delta-law : (a b : ConsumerAssignment) → Proper a → Proper b → apply (delta_between a b) a ≡ b
@@ -165,10 +165,10 @@ delta-law a b r s =
     λ i. record { layout_epoch = b.layout_epoch; segments = p i }
   where
     gone : (k : ℕ)
-        → find self k (delta_between a b).lost ≡ map id_of (differing (find id_of k a.segments) (find id_of k b.segments))
+        → find self k (delta_between a b).lost ≡ option_map id_of (differing (find id_of k a.segments) (find id_of k b.segments))
     gone k =
         find-keys id_of k (without a.segments b.segments)
-        ∙ ap (map id_of) (find-without-same k a.segments b.segments r s)
+        ∙ ap (option_map id_of) (find-without-same k a.segments b.segments r s)
 
     at_each : (k : ℕ) → find id_of k (apply (delta_between a b) a).segments ≡ find id_of k b.segments
     at_each k =
@@ -180,9 +180,9 @@ delta-law a b r s =
 
 two_steps : {A : Type 0} (dg eg a : Option A) (dl el : Option ℕ)
     → applied (merged eg el dg) (or_else el dl) a ≡ applied eg el (applied dg dl a)
-two_steps dg (some x) a dl el = refl
-two_steps dg none a dl (some i) = refl
-two_steps dg none a dl none = refl
+two_steps dg (Some x) a dl el = refl
+two_steps dg None a dl (Some i) = refl
+two_steps dg None a dl None = refl
 
 pub apply-join : (d e : AssignmentDelta) (a : ConsumerAssignment) → ProperDelta d → Proper a → apply (join d e) a ≡ apply e (apply d a)
 unfolding apply join
@@ -203,14 +203,14 @@ apply-join d e a r s =
 -- ---- join is associative
 
 three-lost : {A : Type 0} (d e f : Option A) → or_else f (or_else e d) ≡ or_else (or_else f e) d
-three-lost d e (some i) = refl
-three-lost d e none = refl
+three-lost d e (Some i) = refl
+three-lost d e None = refl
 
 three-gained : {A : Type 0} (dg eg fg : Option A) (el fl : Option ℕ)
     → merged fg fl (merged eg el dg) ≡ merged (merged fg fl eg) (or_else fl el) dg
-three-gained dg eg (some x) el fl = refl
-three-gained dg eg none el (some i) = refl
-three-gained dg eg none el none = refl
+three-gained dg eg (Some x) el fl = refl
+three-gained dg eg None el (Some i) = refl
+three-gained dg eg None el None = refl
 
 pub join-assoc : (d e f : AssignmentDelta) → ProperDelta d → ProperDelta e → join (join d e) f ≡ join d (join e f)
 unfolding join
@@ -244,9 +244,9 @@ join-assoc d e f r s =
 -- ---- one walk serves both
 
 over : {A : Type 0} (dg eg : Option A) (el : Option ℕ) → merged eg el dg ≡ applied eg el dg
-over dg (some x) el = refl
-over dg none (some i) = refl
-over dg none none = refl
+over dg (Some x) el = refl
+over dg None (Some i) = refl
+over dg None None = refl
 
 -- a join's gained records are what `apply` makes of the first delta's: an id that the second gains is written over, struck or not
 pub join-overlay : (d e : AssignmentDelta) → ProperDelta d

@@ -5,6 +5,7 @@
 -- them says (`records-to`, `no-records`); the cases of `front_answer` (`front-short` to `front-valid`), and from them those of `delta_read`
 -- (`delta-none`, `delta-more`, `delta-all`).
 -- Assumes nothing.
+use Rattle.std.specs.Prelude.{Some, None}
 use Prim.Native.Nat.{ℕ, suc, ◌+◌, ◌-◌, ◌*◌, ◌≤◌, ◌<◌}
 use native.Mathlib.Nat.{add-zero}
 use native.Mathlib.Omega.{arith}
@@ -19,13 +20,9 @@ use Rattle.slice.proofs.TestLaws.{cond-first, cond-second}
 use Rattle.slice_int.specs.Be.{be_at}
 use Rattle.packed.specs.Assignment.{size_segments, num, decode_segments, ok_from}
 use Rattle.packed.specs.Answers.{record_read}
-use Rattle.packed.specs.declared.RecordRead.TheVariants as record-read
 use Rattle.packed.proofs.AssignmentLaws.{length-segments_of, RecordIs, rest, size-turn, record-malformed, id-low, id-rises, Rest}
 use Rattle.packed_delta.specs.Delta.{AssignmentDelta, decode_ids, decode_delta, size_delta, ids_from, ok_delta, starts_delta, is_delta}
 use Rattle.packed_delta.specs.Answers.{records_to, front_answer, delta_read}
-use Rattle.packed_delta.specs.declared.RecordsTo.TheVariants as to
-use Rattle.packed_delta.specs.declared.FrontRead.TheVariants as front_read
-use Rattle.packed_delta.specs.declared.DeltaRead.TheVariants.{Delta, Malformed}
 use Rattle.packed_delta.proofs.RoundLaws.{ids-none, ids_at, length-ids_of, by-counts, size_is, ok-is, front-answer, not-front, is_front}
 
 -- ---- the least id that may follow: any at first, then those above the one before
@@ -89,16 +86,16 @@ pub records-start : (s : List ℕ) (at n : ℕ) → at ≤ length s → Records 
 records-start s at n h = record { bound = h; decides = refl; sums = refl }
 
 module _ {s : List ℕ} {at n p left : ℕ} {first : Bool} {prev : ℕ} (I : Records s at n p left first prev) where
-  refused : rest s (length s) p left (lowest first prev) ≡ false → to.Malformed ≡ records_to s at n
+  refused : rest s (length s) p left (lowest first prev) ≡ false → None ≡ records_to s at n
   unfolding records_to
   refused e = let f : rest s (length s) at n 0 ≡ false = I.decides ∙ e in simp f
 
   -- no valid record stands there
-  pub records-cut : 0 < left → record-read.Malformed ≡ record_read s p (length s) → to.Malformed ≡ records_to s at n
+  pub records-cut : 0 < left → None ≡ record_read s p (length s) → None ≡ records_to s at n
   records-cut h e = refused (record-malformed s p left (lowest first prev) (length s) h e)
 
   module _ {i z : ℕ} (h : 0 < left) (g : RecordIs s p (length s) i z) where
-    pub records-stale : i < lowest first prev → to.Malformed ≡ records_to s at n
+    pub records-stale : i < lowest first prev → None ≡ records_to s at n
     records-stale k = refused (id-low s p left (lowest first prev) (length s) h i z g k)
 
     pub records-next : lowest first prev ≤ i → Records s at n (p + z) (left - 1) false i
@@ -117,12 +114,12 @@ module _ {s : List ℕ} {at n p left : ℕ} {first : Bool} {prev : ℕ} (I : Rec
         I.sums ∙ ap (λ (m : ℕ). p + size_segments (decode_segments m (drop p s))) e ∙ add-zero p,
       )
 
-  pub records-end : left ≤ 0 → to.End p ≡ records_to s at n
+  pub records-end : left ≤ 0 → Some p ≡ records_to s at n
   unfolding records_to
-  records-end h = let d = (all_read h).0 in ap to.End (sym (all_read h).1) ∙ simp d
+  records-end h = let d = (all_read h).0 in ap Some (sym (all_read h).1) ∙ simp d
 
 -- what the answer of `records_to` says
-pub records-to : (s : List ℕ) (at n z : ℕ) → to.End z ≡ records_to s at n → (Rest s at n) × (z ≡ at + size_segments (decode_segments n (drop at s)))
+pub records-to : (s : List ℕ) (at n z : ℕ) → Some z ≡ records_to s at n → (Rest s at n) × (z ≡ at + size_segments (decode_segments n (drop at s)))
 unfolding records_to
 records-to s at n z e =
     let p = cond-first (rest s (length s) at n 0) _ _ _ (λ q. let o : ◌≡◌ {A = ℕ} 0 1 = cc in omega arith) (sym e) in
@@ -130,22 +127,22 @@ records-to s at n z e =
     let b = both_true (leb (at + size_segments (decode_segments n (drop at s))) (length s)) _ p.0 in
     (record { fits = leb-true _ _ b.0; ok = b.1 }, cc)
 
-pub no-records : (s : List ℕ) (at n : ℕ) → to.Malformed ≡ records_to s at n → rest s (length s) at n 0 ≡ false
+pub no-records : (s : List ℕ) (at n : ℕ) → None ≡ records_to s at n → rest s (length s) at n 0 ≡ false
 unfolding records_to
 no-records s at n e = (cond-second (rest s (length s) at n 0) _ _ _ (λ q. let o : ◌≡◌ {A = ℕ} 0 1 = cc in omega arith) (sym e)).0
 
 -- ---- the cases of `front_answer`
 
-front-refused : (s : List ℕ) → starts_delta s ≡ false → front_read.Malformed ≡ front_answer s
+front-refused : (s : List ℕ) → starts_delta s ≡ false → None ≡ front_answer s
 unfolding front_answer
 front-refused s e = simp e
 
 -- it has to be longer than it is
-front-longer : (s : List ℕ) → length s < size_delta (decode_delta s) → front_read.Malformed ≡ front_answer s
+front-longer : (s : List ℕ) → length s < size_delta (decode_delta s) → None ≡ front_answer s
 unfolding starts_delta
 front-longer s h = front-refused s (simp (lt-leb (size_delta (decode_delta s)) (length s) h))
 
-pub front-short : (s : List ℕ) → length s < 12 → front_read.Malformed ≡ front_answer s
+pub front-short : (s : List ℕ) → length s < 12 → None ≡ front_answer s
 unfolding size_delta
 front-short s h = front-longer s (omega arith)
 
@@ -164,7 +161,7 @@ module _ {s : List ℕ} {m n : ℕ} (x : Counts s m n) where
   gained-count = x.gained-is
 
   -- the lost ids alone are too many
-  pub front_cut : length s < 12 + 8 * m → front_read.Malformed ≡ front_answer s
+  pub front_cut : length s < 12 + 8 * m → None ≡ front_answer s
   front_cut h = front-longer s (omega (arith, size_is s m n lost-count gained-count))
 
   -- the records end with the bytes or before, the lost ids pass their test b, and the records are valid
@@ -179,18 +176,18 @@ module _ {s : List ℕ} {m n : ℕ} (x : Counts s m n) where
       ap (λ (k : ℕ). leb k (length s) && ok_delta (decode_delta s)) (size_is s m n lost-count gained-count)
       ∙ ap (λ (t : Bool). leb z (length s) && t) (ok-is s m n lost-count gained-count)
 
-  pub front-falls : false ≡ ids_from 0 (decode_ids m (drop 12 s)) → front_read.Malformed ≡ front_answer s
+  pub front-falls : false ≡ ids_from 0 (decode_ids m (drop 12 s)) → None ≡ front_answer s
   front-falls e = front-refused s (starts_is ∙ simp (← e, and-false))
 
-  pub front-bad : to.Malformed ≡ records_to s (12 + 8 * m) n → front_read.Malformed ≡ front_answer s
+  pub front-bad : None ≡ records_to s (12 + 8 * m) n → None ≡ front_answer s
   front-bad e = front-refused s (starts_is ∙ go (ids_from 0 (decode_ids m (drop 12 s))))
     where
       go : (t : Bool) → within t ≡ false
       go true = no-records s (12 + 8 * m) n e
       go false = and-false (leb (12 + 8 * m + size_segments (decode_segments n (drop (12 + 8 * m) s))) (length s))
 
-  pub front-valid : true ≡ ids_from 0 (decode_ids m (drop 12 s)) → (z : ℕ) → to.End z ≡ records_to s (12 + 8 * m) n
-      → front_read.Delta m n z ≡ front_answer s
+  pub front-valid : true ≡ ids_from 0 (decode_ids m (drop 12 s)) → (z : ℕ) → Some z ≡ records_to s (12 + 8 * m) n
+      → Some (m, n, z) ≡ front_answer s
   unfolding front_answer
   front-valid e z f =
       let g = records-to s (12 + 8 * m) n z f in
@@ -206,20 +203,20 @@ module _ {s : List ℕ} {m n : ℕ} (x : Counts s m n) where
 -- ---- the cases of `delta_read`, from the delta at the front
 
 module _ (s : List ℕ) where
-  pub delta-none : front_read.Malformed ≡ front_answer s → Malformed ≡ delta_read s
+  pub delta-none : None ≡ front_answer s → None ≡ delta_read s
   unfolding delta_read
   delta-none e = go (is_delta s) refl
     where
-      go : (t : Bool) → is_delta s ≡ t → Malformed ≡ delta_read s
+      go : (t : Bool) → is_delta s ≡ t → None ≡ delta_read s
       go false h = simp h
       go true h =
           let k : ◌≡◌ {A = Bool} true false = sym (is_front s h).0 ∙ not-front s e in
           let q : ◌≡◌ {A = ℕ} 0 1 = cc in
           absurd (omega arith)
 
-  module _ (m n z : ℕ) (e : front_read.Delta m n z ≡ front_answer s) where
+  module _ (m n z : ℕ) (e : Some (m, n, z) ≡ front_answer s) where
     -- bytes are left over
-    pub delta-more : (z ≡ length s → ⊥) → Malformed ≡ delta_read s
+    pub delta-more : (z ≡ length s → ⊥) → None ≡ delta_read s
     unfolding delta_read is_delta
     delta-more h =
         let f = front-answer s m n z e in
@@ -227,7 +224,7 @@ module _ (s : List ℕ) where
         simp (ne_eqb (size_delta (decode_delta s)) (length s) (λ q. h (f.size_is ∙ q))) in
         simp k
 
-    pub delta-all : z ≡ length s → Delta m n ≡ delta_read s
+    pub delta-all : z ≡ length s → Some (m, n) ≡ delta_read s
     unfolding delta_read is_delta starts_delta
     delta-all h =
         let f = front-answer s m n z e in

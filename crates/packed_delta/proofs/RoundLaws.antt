@@ -7,6 +7,7 @@
 -- is lent alone (`Walkable`), from `is_delta` (`walkable`) and from the answer of `read_delta` (`walk-read`, `not-delta`); a delta is the
 -- encoding of what it is read as (`write-delta`).
 -- Assumes nothing.
+use Rattle.std.specs.Prelude.{Some, None}
 use Prim.Native.Nat.{ℕ, zero, suc, ◌+◌, ◌-◌, ◌*◌, ◌^◌, ◌≤◌, ◌<◌}
 use native.Mathlib.Nat.{add-zero}
 use native.Mathlib.Omega.{arith}
@@ -29,8 +30,6 @@ use Rattle.packed.proofs.RoundLaws.{FitSegments, length-encode_segments, read-se
 use Rattle.packed_delta.specs.Delta.{AssignmentDelta, encode_ids, encode_delta, size_delta}
 use Rattle.packed_delta.specs.Delta.{decode_ids, delta_with, decode_delta, ids_from, ok_delta, starts_delta, is_delta}
 use Rattle.packed_delta.specs.Answers.{front_answer, delta_read}
-use Rattle.packed_delta.specs.declared.FrontRead.TheVariants as front_read
-use Rattle.packed_delta.specs.declared.DeltaRead.TheVariants.{Delta, Malformed}
 
 -- ---- ids at a place
 
@@ -184,7 +183,7 @@ front l m n z em en ez e =
     }
 
 -- what the answer of `read_front` says
-pub front-answer : (l : List ℕ) (m n z : ℕ) → front_read.Delta m n z ≡ front_answer l → Front l m n z
+pub front-answer : (l : List ℕ) (m n z : ℕ) → Some (m, n, z) ≡ front_answer l → Front l m n z
 unfolding front_answer decode_delta
 front-answer l m n z e =
     let p = cond-first (starts_delta l) _ _ _ (λ q. let o : ◌≡◌ {A = ℕ} 0 1 = cc in omega arith) (sym e) in
@@ -194,7 +193,7 @@ front-answer l m n z e =
     let k : z ≡ size_delta (decode_delta l) = cc in
     front l m n z (a ∙ length-ids_of _ _) (b ∙ length-segments_of _ _) k p.0
 
-pub not-front : (l : List ℕ) → front_read.Malformed ≡ front_answer l → starts_delta l ≡ false
+pub not-front : (l : List ℕ) → None ≡ front_answer l → starts_delta l ≡ false
 unfolding front_answer
 not-front l e = (cond-second (starts_delta l) _ _ _ (λ q. let o : ◌≡◌ {A = ℕ} 0 1 = cc in omega arith) (sym e)).0
 
@@ -234,7 +233,7 @@ walkable l m n em en e =
     }
 
 -- what the answer of `read_delta` says
-pub walk-read : (l : List ℕ) (m n : ℕ) → Delta m n ≡ delta_read l → Walkable l m n
+pub walk-read : (l : List ℕ) (m n : ℕ) → Some (m, n) ≡ delta_read l → Walkable l m n
 unfolding delta_read decode_delta
 walk-read l m n e =
     let p = cond-first (is_delta l) _ _ _ (λ q. let o : ◌≡◌ {A = ℕ} 0 1 = cc in omega arith) (sym e) in
@@ -243,7 +242,7 @@ walk-read l m n e =
     let b : n ≡ length (decode_delta l).gained = cc in
     walkable l m n (a ∙ length-ids_of _ _) (b ∙ length-segments_of _ _) p.0
 
-pub not-delta : (l : List ℕ) → Malformed ≡ delta_read l → is_delta l ≡ false
+pub not-delta : (l : List ℕ) → None ≡ delta_read l → is_delta l ≡ false
 unfolding delta_read
 not-delta l e = (cond-second (is_delta l) _ _ _ (λ q. let o : ◌≡◌ {A = ℕ} 0 1 = cc in omega arith) (sym e)).0
 

@@ -8,8 +8,6 @@ ghost use Rattle.std.specs.Prelude.{◌≡◌, ◌+◌, ◌*◌, ◌≤◌, leng
 ghost use Rattle.packed_delta.specs.Delta.{id_size, decode_ids, ids_from};
 ghost use Rattle.packed_delta.specs.Answers.{records_to, front_answer, delta_read};
 
-use packed::RecordRead;
-
 // The bytes before the lost ids of a delta: epoch and counts; of a lost id.
 pub const HEAD: usize = 12;
 
@@ -19,30 +17,6 @@ pub const ID: usize = 8;
 pub const LOST_COUNT: usize = 8;
 
 pub const GAINED_COUNT: usize = 10;
-
-// Where a row of records ends.
-#[derive(Clone, Copy)]
-enum RecordsTo {
-    // The place behind them.
-    End(usize),
-    Malformed,
-}
-
-// What stands at the front of bytes.
-#[derive(Clone, Copy)]
-pub enum FrontRead {
-    // A delta: how many ids it loses, how many records it gains, and its size in bytes.
-    Delta(usize, usize, usize),
-    Malformed,
-}
-
-// What bytes are.
-#[derive(Clone, Copy)]
-pub enum DeltaRead {
-    // A delta: how many ids it loses, and how many records it gains.
-    Delta(usize, usize),
-    Malformed,
-}
 
 // The n ids from a place on rise.
 fn ids_rise(s: &[u8], at: usize, n: usize) -> bool
@@ -69,7 +43,7 @@ fn ids_rise(s: &[u8], at: usize, n: usize) -> bool
 }
 
 // The place behind the n records from a place on, which are valid and whose ids rise.
-fn records_to(s: &[u8], at: usize, n: usize) -> RecordsTo
+fn records_to(s: &[u8], at: usize, n: usize) -> Option<usize>
     requires { at ≤ length s.now }
     ensures { result ≡ records_to s.now at n }
 {
@@ -79,12 +53,12 @@ fn records_to(s: &[u8], at: usize, n: usize) -> RecordsTo
     let mut p = at;
     let mut left = n;
     while 0 < left {
-        let RecordRead::Record(id, size) = packed::record_at(s, p, end) else {
-            return RecordsTo::Malformed;
+        let Some((id, size)) = packed::record_at(s, p, end) else {
+            return None;
         };
         if !first {
             if id <= prev {
-                return RecordsTo::Malformed;
+                return None;
             }
         }
         first = false;
@@ -92,42 +66,42 @@ fn records_to(s: &[u8], at: usize, n: usize) -> RecordsTo
         p = p + size;
         left = left - 1;
     }
-    RecordsTo::End(p)
+    Some(p)
 }
 
 // The delta at the front; what follows it is not looked at.
-pub fn read_front(s: &[u8]) -> FrontRead
+pub fn read_front(s: &[u8]) -> Option<(usize, usize, usize)>
     ensures { result ≡ front_answer s.now }
 {
     if s.len() < HEAD {
-        return FrontRead::Malformed;
+        return None;
     }
     let lost = slice_int::read_u16(s, LOST_COUNT) as usize;
     let gained = slice_int::read_u16(s, GAINED_COUNT) as usize;
     if (s.len() - HEAD) / ID < lost {
-        return FrontRead::Malformed;
+        return None;
     }
     if !ids_rise(s, HEAD, lost) {
-        return FrontRead::Malformed;
+        return None;
     }
     match records_to(s, HEAD + ID * lost, gained) {
-        RecordsTo::End(size) => FrontRead::Delta(lost, gained, size),
-        RecordsTo::Malformed => FrontRead::Malformed,
+        Some(size) => Some((lost, gained, size)),
+        None => None,
     }
 }
 
 // The delta that the bytes are; it may not end early or late.
-pub fn read_delta(s: &[u8]) -> DeltaRead
+pub fn read_delta(s: &[u8]) -> Option<(usize, usize)>
     ensures { result ≡ delta_read s.now }
 {
     match read_front(s) {
-        FrontRead::Delta(lost, gained, size) => {
+        Some((lost, gained, size)) => {
             if size == s.len() {
-                DeltaRead::Delta(lost, gained)
+                Some((lost, gained))
             } else {
-                DeltaRead::Malformed
+                None
             }
         }
-        FrontRead::Malformed => DeltaRead::Malformed,
+        None => None,
     }
 }

@@ -5,6 +5,7 @@
 -- (`assignment-behind` to `applied-behind`); bytes that agree from byte 8 on, read as a delta, and the call apply
 -- (`further` to `apply-behind`); the law.
 -- Assumes nothing.
+use Rattle.std.specs.Prelude.{Ok}
 use Prim.Native.Nat.{ℕ, ◌+◌, ◌-◌, ◌*◌, ◌≤◌, ◌<◌}
 use native.Mathlib.Omega.{arith}
 use mathlib.Core.Path.{◌≡◌, refl, sym, ap, ap₂, ◌∙◌}
@@ -17,7 +18,6 @@ use borrow.Author.Tests.{leb-true, leb-false, eqb-true, eqb-false, eq-eqb, ne_eq
 use Rattle.slice.specs.BoolLaws.{both_true}
 use Rattle.slice.proofs.PartLaws.{drop-take}
 use Rattle.output.specs.Output.{Outcome, written}
-use Rattle.output.specs.declared.WriteAnswer.TheVariants.{Written}
 use Rattle.slice_int.specs.Be.{bytes_of}
 use Rattle.slice_int.specs.Put.{put}
 use Rattle.slice_int.proofs.BeLaws.{drop-front}
@@ -51,7 +51,7 @@ unfolding written put
 written_behind a b out h e f =
     chosen (leb (length a) (length out)) (leb (length b) (length out)) _ (ap (λ (n : ℕ). leb n (length out)) e) (λ t.
     record {
-      answer = ap Written e;
+      answer = ap Ok e;
       behind =
           drop-append-le 8 a (drop (0 + length a) out) h
           ∙ ap₂ (λ (x : List ℕ) (n : ℕ). x ++ drop (0 + n) out) f e
@@ -183,7 +183,7 @@ either_order d e h =
 -- without the hypothesis there is no such law: the two of Needed are answered with other lengths
 pub order-shows : ((d e : List ℕ) → EitherOrder d e) → ⊥
 order-shows f =
-    let p : Written 34 ≡ Written 20 =
+    let p : Ok 34 ≡ Ok 20 =
     sym needed.lost-first-answer
     ∙ ((f (encode_delta loses) (encode_delta gains)).joins room).answer
     ∙ needed.gained-first-answer in

@@ -7,9 +7,8 @@
 -- differs at most in the epoch.
 -- Of values, of any size, the law is crates/packed_delta/proofs/CommuteLaws. That the hypothesis is needed is Needed.antt.
 -- Assumes nothing.
-use Rattle.std.specs.Prelude.{ℕ, ◌≡◌, List, take, drop}
+use Rattle.std.specs.Prelude.{ℕ, ◌≡◌, List, take, drop, Ok}
 use Rattle.output.specs.Output.{Outcome}
-use Rattle.output.specs.declared.WriteAnswer.TheVariants.{Written}
 use Rattle.packed_delta.specs.Delta.{decode_delta}
 use Rattle.packed_delta.specs.Join.{Apart}
 use Rattle.packed_join.specs.JoinOutcome.{join_outcome}
@@ -27,7 +26,7 @@ joined_bytes n d e out = take n (join_outcome d e out).out
 -- both orders of the deltas d and e: an output for join, a packed assignment, and an output for apply
 pub record EitherOrder (d e : List ℕ) : Type 0 where
   pub joins : (out : List ℕ) → SameButEpoch (join_outcome d e out) (join_outcome e d out)
-  pub applied : (out assignment room : List ℕ) (n : ℕ) → (join_outcome d e out).answer ≡ Written n
+  pub applied : (out assignment room : List ℕ) (n : ℕ) → (join_outcome d e out).answer ≡ Ok n
       → SameButEpoch (apply_outcome assignment (joined_bytes n d e out) room)
       (apply_outcome assignment (joined_bytes n e d out) room)
 

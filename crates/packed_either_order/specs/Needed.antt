@@ -6,7 +6,7 @@
 -- gained first, it is struck. No smaller two show their order: a delta that names nothing is apart from every other,
 -- and two that gain nothing join alike (`lost-commutes` of crates/packed_delta).
 -- Assumes nothing.
-use Rattle.std.specs.Prelude.{ℕ, ◌≡◌, refl, true, ◌&&◌, List, [], ◌∷◌, length, replicate}
+use Rattle.std.specs.Prelude.{ℕ, ◌≡◌, refl, true, ◌&&◌, List, [], ◌∷◌, length, replicate, Ok}
 use Rattle.ranges.specs.Overlap.{any_overlap}
 use Rattle.slice_int.specs.Be.{be_from, be, bytes_of}
 use Rattle.slice_int.specs.Put.{put}
@@ -18,7 +18,6 @@ use Rattle.packed_delta.specs.Delta.{AssignmentDelta, encode_ids, encode_delta, 
 use Rattle.packed_delta.specs.Delta.{decode_ids, decode_delta, ids_from, ok_delta, is_delta}
 use Rattle.packed_delta.specs.Join.{strike, apply, names, join}
 use Rattle.output.specs.Output.{written}
-use Rattle.output.specs.declared.WriteAnswer.TheVariants.{Written}
 use Rattle.packed_join.specs.JoinOutcome.{joined_delta, join_outcome}
 
 -- segment 0 is lost, at epoch 4
@@ -44,8 +43,8 @@ pub record Needed : Type 0 where
   -- what the call answers, of 20 and 26 bytes
   pub lost-bytes : length (encode_delta loses) ≡ 20
   pub gained-bytes : length (encode_delta gains) ≡ 26
-  pub lost-first-answer : (join_outcome (encode_delta loses) (encode_delta gains) room).answer ≡ Written 34
-  pub gained-first-answer : (join_outcome (encode_delta gains) (encode_delta loses) room).answer ≡ Written 20
+  pub lost-first-answer : (join_outcome (encode_delta loses) (encode_delta gains) room).answer ≡ Ok 34
+  pub gained-first-answer : (join_outcome (encode_delta gains) (encode_delta loses) room).answer ≡ Ok 20
 
 pub needed : Needed
 unfolding be_from be bytes_of put encode_range encode_ranges encode_segment encode_segments size_segment size_segments num decode_range decode_ranges decode_segment decode_segments all_in_order ok_buckets ok_segment ok_from encode_ids encode_delta size_delta decode_ids decode_delta ids_from ok_delta is_delta strike apply join written joined_delta join_outcome any_overlap

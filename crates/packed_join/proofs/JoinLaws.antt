@@ -5,6 +5,7 @@
 -- `many-gained`); no room for the head and the ids (`no-head`) or for the records (`no-records`); the joined delta is written
 -- (`all-written`).
 -- Assumes nothing.
+use Rattle.std.specs.Prelude.{None, Ok}
 use Prim.Native.Nat.{ℕ, ◌+◌, ◌-◌, ◌*◌, ◌≤◌, ◌<◌}
 use native.Mathlib.Omega.{arith}
 use mathlib.Core.Path.{◌≡◌, refl, sym, ap, ◌∙◌, subst}
@@ -14,7 +15,6 @@ use lib.ListN.{length, length-append}
 use borrow.Author.Tests.{le-leb, lt-leb}
 use Rattle.refusal.specs.declared.Refusal.TheVariants.{MalformedInput, ResultTooLong}
 use Rattle.output.specs.Output.{outcome, refuse, written}
-use Rattle.output.specs.declared.WriteAnswer.TheVariants.{Written}
 use Rattle.slice_int.specs.Be.{be_at, bytes_of}
 use Rattle.slice_int.specs.Put.{put}
 use Rattle.slice_int.proofs.BeLaws.{length-bytes_of}
@@ -27,7 +27,6 @@ use Rattle.packed_delta.specs.Join.{join}
 use Rattle.packed_delta.proofs.RoundLaws.{length-ids_of, length-encode_ids, length-encode_delta, Walkable, walkable}
 use Rattle.packed_delta.proofs.DeltaLaws.{is-delta-proper, join-overlay}
 use Rattle.packed_overlay.specs.Overlay.{overlay, records_in, ids_in, RecordRow, IdRow, fit_of, union}
-use Rattle.packed_overlay.specs.declared.Fit.TheVariants.{Beyond}
 use Rattle.packed_join.specs.declared.Rows.{Rows}
 use Rattle.packed_join.specs.JoinRows.{rows_of, rows_of_delta}
 use Rattle.packed_join.specs.JoinOutcome.{countable, max_count, joined_delta, join_outcome}
@@ -128,7 +127,7 @@ module _ {d e : List ℕ} {a b : Rows} (v : Walks d a) (w : Walks e b) (o : List
     pub no-head : length o < 12 + 8 * m → refuse ResultTooLong o ≡ joined_delta J o
     no-head h = no_room (omega arith)
 
-    pub no-records : Beyond ≡ fit_of (length o - (12 + 8 * m)) G → refuse ResultTooLong o ≡ joined_delta J o
+    pub no-records : None ≡ fit_of (length o - (12 + 8 * m)) G → refuse ResultTooLong o ≡ joined_delta J o
     no-records h = no_room (omega (arith, fit-beyond (length o - (12 + 8 * m)) G h))
 
     -- and so many records gained, in so many bytes
@@ -140,7 +139,7 @@ module _ {d e : List ℕ} {a b : Rows} (v : Walks d a) (w : Walks e b) (o : List
       pub all-written : m ≤ 65535 → n ≤ 65535 → 12 + 8 * m + z ≤ length o → (o1 o2 o3 o4 o5 : List ℕ) (epoch : ℕ)
           → o1 ≡ put o (12 + 8 * m) (encode_segments G) → o2 ≡ put o1 12 (encode_ids L) → o3 ≡ put o2 10 (bytes_of 2 n)
           → o4 ≡ put o3 8 (bytes_of 2 m) → epoch ≡ be_at 8 e 0 → o5 ≡ put o4 0 (bytes_of 8 epoch)
-          → outcome (Written (12 + 8 * m + z)) o5 ≡ joined_delta J o
+          → outcome (Ok (12 + 8 * m + z)) o5 ≡ joined_delta J o
       unfolding joined_delta written encode_delta num be_at
       all-written hm hn h o1 o2 o3 o4 o5 epoch w1 w2 w3 w4 we w5 =
           let R : List ℕ = encode_segments G in

@@ -8,9 +8,7 @@ ghost use Rattle.packed_delta.specs.Join.{join};
 ghost use Rattle.packed_join.specs.JoinRows.{rows_of, rows_of_delta};
 ghost use Rattle.packed_join.specs.JoinOutcome.{joined_delta, join_outcome};
 
-use output::WriteAnswer;
-use packed_delta::DeltaRead;
-use packed_overlay::{Fit, Row};
+use packed_overlay::Row;
 use refusal::Refusal;
 
 // The most that a 16-bit count says.
@@ -39,7 +37,7 @@ fn rows_of(losses: usize, gains: usize) -> Rows
 }
 
 // Writes the delta d joined with the delta e behind it, whose rows are given.
-fn write_join(d: &[u8], a: Rows, e: &[u8], b: Rows, out: &mut [u8]) -> WriteAnswer
+fn write_join(d: &[u8], a: Rows, e: &[u8], b: Rows, out: &mut [u8]) -> Result<usize, Refusal>
     requires d_value { is_delta d.now ≡ true }
     requires e_value { is_delta e.now ≡ true }
     requires a_value { (a ≡ rows_of_delta d.now) × (b ≡ rows_of_delta e.now) }
@@ -51,13 +49,13 @@ fn write_join(d: &[u8], a: Rows, e: &[u8], b: Rows, out: &mut [u8]) -> WriteAnsw
     let e_gained = b.gained;
     let losses = packed_overlay::union_count(d, d_lost, e, e_lost);
     if MAX_COUNT < losses {
-        return WriteAnswer::Refused(Refusal::ResultTooLong);
+        return Err(Refusal::ResultTooLong);
     }
     let head = packed_delta::HEAD + packed_delta::ID * losses;
     if out.len() < head {
-        return WriteAnswer::Refused(Refusal::ResultTooLong);
+        return Err(Refusal::ResultTooLong);
     }
-    let Fit::Size(gains, size) = packed_overlay::overlay_fit(
+    let Some((gains, size)) = packed_overlay::overlay_fit(
         d,
         d_gained,
         e,
@@ -65,29 +63,29 @@ fn write_join(d: &[u8], a: Rows, e: &[u8], b: Rows, out: &mut [u8]) -> WriteAnsw
         e_gained,
         out.len() - head,
     ) else {
-        return WriteAnswer::Refused(Refusal::ResultTooLong);
+        return Err(Refusal::ResultTooLong);
     };
     if MAX_COUNT < gains {
-        return WriteAnswer::Refused(Refusal::ResultTooLong);
+        return Err(Refusal::ResultTooLong);
     }
     packed_overlay::write_overlay(d, d_gained, e, e_lost, e_gained, out, head);
     packed_overlay::write_union(d, d_lost, e, e_lost, out, packed_delta::HEAD);
     slice_int::write_u16(out, packed_delta::GAINED_COUNT, gains as u16);
     slice_int::write_u16(out, packed_delta::LOST_COUNT, losses as u16);
     slice_int::write_u64(out, 0, slice_int::read_u64(e, 0));
-    WriteAnswer::Written(head + size)
+    Ok(head + size)
 }
 
 // Writes the delta d joined with the delta e behind it. Tested in order: both lent forms (20), the counts and the output's room (21). A refusal leaves the output as
 // it was.
-pub fn join(d: &[u8], e: &[u8], out: &mut [u8]) -> WriteAnswer
+pub fn join(d: &[u8], e: &[u8], out: &mut [u8]) -> Result<usize, Refusal>
     ensures { outcome result out.new ≡ join_outcome d.now e.now out.old }
 {
-    let DeltaRead::Delta(losses, gains) = packed_delta::read_delta(d) else {
-        return WriteAnswer::Refused(Refusal::MalformedInput);
+    let Some((losses, gains)) = packed_delta::read_delta(d) else {
+        return Err(Refusal::MalformedInput);
     };
-    let DeltaRead::Delta(more_losses, more_gains) = packed_delta::read_delta(e) else {
-        return WriteAnswer::Refused(Refusal::MalformedInput);
+    let Some((more_losses, more_gains)) = packed_delta::read_delta(e) else {
+        return Err(Refusal::MalformedInput);
     };
     let a = rows_of(losses, gains);
     let b = rows_of(more_losses, more_gains);

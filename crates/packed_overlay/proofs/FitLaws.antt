@@ -1,5 +1,6 @@
 -- What the answer of `overlay_fit` says: `fit-size`, `fit-beyond`.
 -- Assumes nothing.
+use Rattle.std.specs.Prelude.{Some, None}
 use Prim.Native.Nat.{ℕ, ◌≤◌, ◌<◌}
 use native.Mathlib.Omega.{arith}
 use mathlib.Core.Path.{◌≡◌, sym}
@@ -10,7 +11,6 @@ use borrow.Author.Tests.{leb-true, leb-false}
 use Rattle.slice.proofs.TestLaws.{cond-first, cond-second}
 use Rattle.packed.specs.Assignment.{AssignedSegment, size_segments}
 use Rattle.packed_overlay.specs.Overlay.{fit_of}
-use Rattle.packed_overlay.specs.declared.Fit.TheVariants.{Size, Beyond}
 
 -- so many records, and so many bytes, within the limit
 pub record Fits (limit : ℕ) (gs : List AssignedSegment) (n z : ℕ) : Type 0 where
@@ -19,14 +19,14 @@ pub record Fits (limit : ℕ) (gs : List AssignedSegment) (n z : ℕ) : Type 0 w
   pub within : size_segments gs ≤ limit
 
 module _ (limit : ℕ) (gs : List AssignedSegment) where
-  pub fit-size : (n z : ℕ) → Size n z ≡ fit_of limit gs → Fits limit gs n z
+  pub fit-size : (n z : ℕ) → Some (n, z) ≡ fit_of limit gs → Fits limit gs n z
   unfolding fit_of
   fit-size n z e =
       let p = cond-first (leb (size_segments gs) limit) _ _ _ (λ q. let o : ◌≡◌ {A = ℕ} 0 1 = cc in omega arith) (sym e) in
       let f = p.1 in
       record { count = cc; size = cc; within = leb-true (size_segments gs) limit p.0 }
 
-  pub fit-beyond : Beyond ≡ fit_of limit gs → limit < size_segments gs
+  pub fit-beyond : None ≡ fit_of limit gs → limit < size_segments gs
   unfolding fit_of
   fit-beyond e =
       leb-false (size_segments gs) limit (cond-second (leb (size_segments gs) limit) _ _ _ (λ q. let o : ◌≡◌ {A = ℕ} 0 1 = cc in omega arith) (sym e)).0

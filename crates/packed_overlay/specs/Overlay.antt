@@ -4,7 +4,7 @@
 --
 -- `overlay` is what apply does to an assignment's records and, by `join-overlay` of delta's laws, what join does to the first delta's.
 -- Assumes nothing.
-use Rattle.std.specs.Prelude.{ℕ, ◌+◌, ◌*◌, ◌≤◌, ◌≡◌, true, cond, List, [], ◌∷◌, length, drop, ltb, eqb, leb}
+use Rattle.std.specs.Prelude.{ℕ, ◌+◌, ◌*◌, ◌≤◌, ◌≡◌, true, cond, List, [], ◌∷◌, length, drop, ltb, eqb, leb, Option, Some, None}
 use Rattle.keyed.specs.Keyed.{self, insert_all}
 use Rattle.packed.specs.Assignment.{AssignedSegment, id_of, size_segments, decode_segments}
 use Rattle.packed.specs.Rest.{Rest}
@@ -13,8 +13,6 @@ use Rattle.packed_delta.specs.Join.{strike}
 use Rattle.packed_overlay.specs.declared.Row.{Row}
 use Rattle.packed_overlay.specs.declared.Step.{Step}
 use Rattle.packed_overlay.specs.declared.Step.TheVariants.{End, Strike, Pass, Keep, Gain}
-use Rattle.packed_overlay.specs.declared.Fit.{Fit}
-use Rattle.packed_overlay.specs.declared.Fit.TheVariants.{Size, Beyond}
 
 -- ---- records
 
@@ -57,8 +55,8 @@ overlay_step lost gained [] = step_at_end gained
 overlay_step lost gained (g ∷ gs) = step_by_gained g.segment_id gained lost
 
 -- how many records these are and how many bytes, if those are within the limit
-unfoldable pub fit_of : ℕ → List AssignedSegment → Fit
-fit_of limit gs = cond (leb (size_segments gs) limit) (Size (length gs) (size_segments gs)) Beyond
+unfoldable pub fit_of : ℕ → List AssignedSegment → Option (ℕ × ℕ)
+fit_of limit gs = cond (leb (size_segments gs) limit) (Some (length gs, size_segments gs)) None
 
 -- ---- ids
 

@@ -4,6 +4,7 @@
 -- it (`Walk`: `walk_start` to `walk-done`), and what its answer says (`read-there`, `read-not`); where entries end (`ends-inside`), which is what their lists need
 -- (`ends-by-size`); entries in two parts (`ends-split` to `entries-take`), and one of them (`start-at`).
 -- Assumes nothing.
+use Rattle.std.specs.Prelude.{Some, None}
 use Prim.Native.Nat.{ℕ, zero, suc, ◌+◌, ◌-◌, ◌≤◌, ◌<◌}
 use native.Mathlib.Nat.{add-sub_cancel_left}
 use native.Mathlib.Omega.{arith}
@@ -18,7 +19,6 @@ use Rattle.slice.specs.BoolLaws.{both_true}
 use Rattle.slice.proofs.TestLaws.{cond-first, cond-second}
 use Rattle.slice_int.specs.Be.{be_at}
 use Rattle.packed.specs.Assignment.{num, decode_assignment, size_assignment, starts_assignment, is_assignment}
-use Rattle.packed_queue.specs.declared.Entries.TheVariants as entries
 use Rattle.packed_queue.specs.Entries.{size_entries, sheet_in, entry_end, decode_entries, entries_end, starts_entry, start_entries}
 use Rattle.packed_queue.specs.Answers.{entry_size, entries_read}
 
@@ -118,7 +118,7 @@ walk_start s n = record { inside = omega arith; starts = refl; ends = omega arit
 
 module _ (s : List ℕ) (n at left : ℕ) (w : Walk s n at left) where
   module _ (h : 0 < left) where
-    pub walk-bad : starts_entry (drop at s) ≡ false → entries.Malformed ≡ entries_read n s
+    pub walk-bad : starts_entry (drop at s) ≡ false → None ≡ entries_read n s
     unfolding entries_read
     walk-bad e = sym (simp (w.starts, step_start left (drop at s) h, e))
 
@@ -140,22 +140,22 @@ module _ (s : List ℕ) (n at left : ℕ) (w : Walk s n at left) where
     unfolding entries_end
     walk_ends = sym (w.ends ∙ ap (λ m. at + entries_end m (drop at s)) none ∙ omega arith)
 
-    pub walk-done : entries.End at ≡ entries_read n s
+    pub walk-done : Some at ≡ entries_read n s
     unfolding entries_read start_entries
     walk-done =
         let e : start_entries n s ≡ true = w.starts ∙ ap (λ m. start_entries m (drop at s)) none in
-        ap entries.End walk_ends ∙ sym (simp e)
+        ap Some walk_ends ∙ sym (simp e)
 
 -- ---- what the answer of `read_entries` says
 
-pub read-there : (n : ℕ) (l : List ℕ) (size : ℕ) → entries.End size ≡ entries_read n l → (start_entries n l ≡ true) × (size ≡ entries_end n l)
+pub read-there : (n : ℕ) (l : List ℕ) (size : ℕ) → Some size ≡ entries_read n l → (start_entries n l ≡ true) × (size ≡ entries_end n l)
 unfolding entries_read
 read-there n l size e =
     let p = cond-first (start_entries n l) _ _ _ (λ q. let o : ◌≡◌ {A = ℕ} 0 1 = cc in omega arith) (sym e) in
     let f = p.1 in
     (p.0, cc)
 
-pub read-not : (n : ℕ) (l : List ℕ) → entries.Malformed ≡ entries_read n l → start_entries n l ≡ false
+pub read-not : (n : ℕ) (l : List ℕ) → None ≡ entries_read n l → start_entries n l ≡ false
 unfolding entries_read
 read-not n l e = (cond-second (start_entries n l) _ _ _ (λ q. let o : ◌≡◌ {A = ℕ} 0 1 = cc in omega arith) (sym e)).0
 

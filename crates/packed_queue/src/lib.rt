@@ -6,14 +6,6 @@
 ghost use Rattle.std.specs.Prelude.{◌≡◌, ◌≤◌, length, drop};
 ghost use Rattle.packed_queue.specs.Answers.{entry_size, entries_read};
 
-// What bytes are that should start with so many entries.
-#[derive(Clone, Copy)]
-pub enum Entries {
-    // The place behind the last of them.
-    End(usize),
-    Malformed,
-}
-
 // Bytes of an entry before its list: the list's length.
 pub const LENGTH: usize = 2;
 
@@ -39,7 +31,7 @@ fn entry_size(s: &[u8], at: usize) -> usize
 }
 
 // Whether s starts with n entries, and where they end.
-pub fn read_entries(s: &[u8], n: usize) -> Entries
+pub fn read_entries(s: &[u8], n: usize) -> Option<usize>
     ensures { result ≡ entries_read n s.now }
 {
     let mut at: usize = 0;
@@ -47,10 +39,10 @@ pub fn read_entries(s: &[u8], n: usize) -> Entries
     while 0 < left {
         let size = entry_size(s, at);
         if size == 0 {
-            return Entries::Malformed;
+            return None;
         }
         at = at + size;
         left = left - 1;
     }
-    Entries::End(at)
+    Some(at)
 }

@@ -1,18 +1,12 @@
 -- Public: the calls on ranges given by their ends (01, The rest; `KeyRange` calls: 9, the first range before the
 -- second).
 -- Assumes nothing.
-use Rattle.std.specs.Prelude.{ℕ, ◌+◌, ◌-◌, Bool, ◌&&◌, ◌||◌, leb, eqb}
+use Rattle.std.specs.Prelude.{ℕ, ◌+◌, ◌-◌, Bool, ◌&&◌, ◌||◌, leb, eqb, Result, Ok, Err}
 use Rattle.topic_types.specs.declared.KeyRange.{KeyRange}
-use Rattle.topic_types.specs.declared.RangeResult.{RangeResult}
-use Rattle.topic_types.specs.declared.RangeResult.TheVariants.{Valid, Invalid}
 use Rattle.topic_types.specs.KeyRanges.{new_key_range}
 use Rattle.refusal.specs.Steps.{◌>>=◌, take_range}
-use Rattle.ranges_calls.specs.declared.LengthAnswer.{LengthAnswer}
-use Rattle.ranges_calls.specs.declared.LengthAnswer.TheVariants as length_answer
-use Rattle.ranges_calls.specs.declared.RangePair.{RangePair}
-use Rattle.ranges_calls.specs.declared.RangePair.TheVariants as pair
-use Rattle.ranges_calls.specs.declared.TestAnswer.{TestAnswer}
-use Rattle.ranges_calls.specs.declared.TestAnswer.TheVariants as test
+use Rattle.topic_types.specs.declared.KeyRangeError.{KeyRangeError}
+use Rattle.refusal.specs.declared.Refusal.{Refusal}
 
 -- ---- ranges
 
@@ -34,31 +28,31 @@ touches a b = eqb (a.end + 1) b.start || eqb (b.end + 1) a.start
 
 -- ---- the calls
 
-unfoldable pub length_of : (start end : ℕ) → LengthAnswer
+unfoldable pub length_of : (start end : ℕ) → Result ℕ Refusal
 length_of start end = do
-  r ← take_range length_answer.Refused (new_key_range start end)  -- 9
-  length_answer.Length (values_in r)
+  r ← take_range Err (new_key_range start end)  -- 9
+  Ok (values_in r)
 
-unfoldable pub contains_of : (start end hash : ℕ) → TestAnswer
+unfoldable pub contains_of : (start end hash : ℕ) → Result Bool Refusal
 contains_of start end hash = do
-  r ← take_range test.Refused (new_key_range start end)  -- 9
-  test.Answered (holds hash r)
+  r ← take_range Err (new_key_range start end)  -- 9
+  Ok (holds hash r)
 
-unfoldable pub contains_range_of : (start end other_start other_end : ℕ) → TestAnswer
+unfoldable pub contains_range_of : (start end other_start other_end : ℕ) → Result Bool Refusal
 contains_range_of start end other_start other_end = do
-  a ← take_range test.Refused (new_key_range start end)  -- 9
-  b ← take_range test.Refused (new_key_range other_start other_end)  -- 9
-  test.Answered (holds_range a b)
+  a ← take_range Err (new_key_range start end)  -- 9
+  b ← take_range Err (new_key_range other_start other_end)  -- 9
+  Ok (holds_range a b)
 
-unfoldable pub is_adjacent_of : (start end other_start other_end : ℕ) → TestAnswer
+unfoldable pub is_adjacent_of : (start end other_start other_end : ℕ) → Result Bool Refusal
 is_adjacent_of start end other_start other_end = do
-  a ← take_range test.Refused (new_key_range start end)  -- 9
-  b ← take_range test.Refused (new_key_range other_start other_end)  -- 9
-  test.Answered (touches a b)
+  a ← take_range Err (new_key_range start end)  -- 9
+  b ← take_range Err (new_key_range other_start other_end)  -- 9
+  Ok (touches a b)
 
 -- ---- Internal: both ranges, or the first error, as a helper answers them
 
-unfoldable pub pair_by : (x y : RangeResult) → RangePair
-pair_by (Invalid e) y = pair.Invalid e
-pair_by (Valid a) (Invalid e) = pair.Invalid e
-pair_by (Valid a) (Valid b) = pair.Valid a b
+unfoldable pub pair_by : (x y : Result KeyRange KeyRangeError) → Result (KeyRange × KeyRange) KeyRangeError
+pair_by (Err e) y = Err e
+pair_by (Ok a) (Err e) = Err e
+pair_by (Ok a) (Ok b) = Ok (a, b)

@@ -8,36 +8,15 @@ ghost use Rattle.topic_types.specs.KeyRanges.{new_key_range};
 ghost use Rattle.ranges_calls.specs.Calls.{pair_by, holds, holds_range, touches, length_of, contains_of, contains_range_of, is_adjacent_of};
 
 use refusal::Refusal;
-use topic_types::{KeyRange, KeyRangeError, RangeResult};
-
-#[derive(Clone, Copy)]
-pub enum LengthAnswer {
-    // How many values the range has, 1 to 65,536.
-    Length(u32),
-    Refused(Refusal),
-}
-
-#[derive(Clone, Copy)]
-pub enum TestAnswer {
-    // Whether it is so.
-    Answered(bool),
-    Refused(Refusal),
-}
-
-// Two ranges, or the error of the first that is none.
-#[derive(Clone, Copy)]
-pub enum RangePair {
-    Valid(KeyRange, KeyRange),
-    Invalid(KeyRangeError),
-}
+use topic_types::{KeyRange, KeyRangeError};
 
 // How many values the range has.
-pub fn len(start: u32, end: u32) -> LengthAnswer
+pub fn len(start: u32, end: u32) -> Result<u32, Refusal>
     ensures { result ≡ length_of start end }
 {
     match KeyRange::new(start, end) {
-        RangeResult::Invalid(source) => LengthAnswer::Refused(Refusal::InvalidKeyRange { source }),
-        RangeResult::Valid(range) => LengthAnswer::Length(range.end - range.start + 1),
+        Err(source) => Err(Refusal::InvalidKeyRange { source }),
+        Ok(range) => Ok(range.end - range.start + 1),
     }
 }
 
@@ -53,24 +32,29 @@ pub fn holds_hash(range: KeyRange, hash: u32) -> bool
 }
 
 // The hash lies in the range; any number may be asked for.
-pub fn contains(start: u32, end: u32, hash: u32) -> TestAnswer
+pub fn contains(start: u32, end: u32, hash: u32) -> Result<bool, Refusal>
     ensures { result ≡ contains_of start end hash }
 {
     match KeyRange::new(start, end) {
-        RangeResult::Invalid(source) => TestAnswer::Refused(Refusal::InvalidKeyRange { source }),
-        RangeResult::Valid(range) => TestAnswer::Answered(holds_hash(range, hash)),
+        Err(source) => Err(Refusal::InvalidKeyRange { source }),
+        Ok(range) => Ok(holds_hash(range, hash)),
     }
 }
 
 // The two ranges; the first is tested first.
-fn both(start: u32, end: u32, other_start: u32, other_end: u32) -> RangePair
+fn both(
+    start: u32,
+    end: u32,
+    other_start: u32,
+    other_end: u32,
+) -> Result<(KeyRange, KeyRange), KeyRangeError>
     ensures { result ≡ pair_by (new_key_range start end) (new_key_range other_start other_end) }
 {
     match KeyRange::new(start, end) {
-        RangeResult::Invalid(source) => RangePair::Invalid(source),
-        RangeResult::Valid(a) => match KeyRange::new(other_start, other_end) {
-            RangeResult::Invalid(source) => RangePair::Invalid(source),
-            RangeResult::Valid(b) => RangePair::Valid(a, b),
+        Err(source) => Err(source),
+        Ok(a) => match KeyRange::new(other_start, other_end) {
+            Err(source) => Err(source),
+            Ok(b) => Ok((a, b)),
         },
     }
 }
@@ -86,12 +70,17 @@ fn holds_range(a: KeyRange, b: KeyRange) -> bool
 }
 
 // The first range has every value of the second.
-pub fn contains_range(start: u32, end: u32, other_start: u32, other_end: u32) -> TestAnswer
+pub fn contains_range(
+    start: u32,
+    end: u32,
+    other_start: u32,
+    other_end: u32,
+) -> Result<bool, Refusal>
     ensures { result ≡ contains_range_of start end other_start other_end }
 {
     match both(start, end, other_start, other_end) {
-        RangePair::Invalid(source) => TestAnswer::Refused(Refusal::InvalidKeyRange { source }),
-        RangePair::Valid(a, b) => TestAnswer::Answered(holds_range(a, b)),
+        Err(source) => Err(Refusal::InvalidKeyRange { source }),
+        Ok((a, b)) => Ok(holds_range(a, b)),
     }
 }
 
@@ -106,11 +95,16 @@ fn touch(a: KeyRange, b: KeyRange) -> bool
 }
 
 // One range ends right before the other starts.
-pub fn is_adjacent_to(start: u32, end: u32, other_start: u32, other_end: u32) -> TestAnswer
+pub fn is_adjacent_to(
+    start: u32,
+    end: u32,
+    other_start: u32,
+    other_end: u32,
+) -> Result<bool, Refusal>
     ensures { result ≡ is_adjacent_of start end other_start other_end }
 {
     match both(start, end, other_start, other_end) {
-        RangePair::Invalid(source) => TestAnswer::Refused(Refusal::InvalidKeyRange { source }),
-        RangePair::Valid(a, b) => TestAnswer::Answered(touch(a, b)),
+        Err(source) => Err(Refusal::InvalidKeyRange { source }),
+        Ok((a, b)) => Ok(touch(a, b)),
     }
 }

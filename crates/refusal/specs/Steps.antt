@@ -2,13 +2,11 @@
 --
 -- The first argument of a word is what a refusal leaves: the answer alone, or with it what stays as it was.
 -- Assumes nothing.
-use Rattle.std.specs.Prelude.{Bool, cond}
-use Rattle.std.proofs.Math.Option.{Option, some, none}
+use Rattle.std.specs.Prelude.{Bool, cond, Option, Some, None, Result, Ok, Err}
 use Rattle.topic_types.specs.declared.KeyRange.{KeyRange}
-use Rattle.topic_types.specs.declared.RangeResult.{RangeResult}
-use Rattle.topic_types.specs.declared.RangeResult.TheVariants.{Valid, Invalid}
 use Rattle.refusal.specs.declared.Refusal.{Refusal}
 use Rattle.refusal.specs.declared.Refusal.TheVariants.{InvalidKeyRange}
+use Rattle.topic_types.specs.declared.KeyRangeError.{KeyRangeError}
 
 infixl 10 ◌>>◌ ◌>>=◌
 abbrev pub ◌>>◌ : {R : Type 0} → (R → R) → R → R
@@ -25,10 +23,10 @@ refuse_unless refuse test x rest = cond test rest (refuse x)
 
 -- the refusal that is due, if there is one
 abbrev pub refuse_due : {R : Type 0} → (Refusal → R) → Option Refusal → R → R
-refuse_due refuse (some x) rest = refuse x
-refuse_due refuse none rest = rest
+refuse_due refuse (Some x) rest = refuse x
+refuse_due refuse None rest = rest
 
 -- 9: the range that two ends give
-abbrev pub take_range : {R : Type 0} → (Refusal → R) → RangeResult → (KeyRange → R) → R
-take_range refuse (Invalid e) rest = refuse (InvalidKeyRange e)
-take_range refuse (Valid range) rest = rest range
+abbrev pub take_range : {R : Type 0} → (Refusal → R) → Result KeyRange KeyRangeError → (KeyRange → R) → R
+take_range refuse (Err e) rest = refuse (InvalidKeyRange e)
+take_range refuse (Ok range) rest = rest range

@@ -1,5 +1,6 @@
 -- The statements of specs/DemandTwo and specs/DemandThree: those of crates/rust_open, carried over by proofs/StepLaws and proofs/TellLaws.
 -- Assumes nothing.
+use Rattle.std.specs.Prelude.{Result, Ok, Err}
 use Prim.Native.Nat.{ℕ}
 use native.Mathlib.Omega.{arith}
 use mathlib.Core.Path.{◌≡◌, refl, sym, ap, ◌∙◌, subst}
@@ -31,15 +32,16 @@ use Rattle.rust_export.specs.DemandTwo.{AllSeen, fed, rust_new, DemandTwoFedExpo
 use Rattle.rust_export.specs.DemandThree.{DemandThreeExported}
 use Rattle.rust_export.proofs.StepLaws.{trace-is, end_of, ends-are, floor-is}
 use Rattle.rust_export.proofs.TellLaws.{all_seen, Fed, fed-seen}
+use Rattle.refusal.specs.declared.Refusal.{Refusal}
 
 -- an open that answers `accepted` is accepted
-answered-accepted : (a : Answer) → (answer_reply a).answer ≡ accepted → a ≡ answer.Accepted
+answered-accepted : (a : Result Answer Refusal) → (answer_reply a).answer ≡ accepted → a ≡ Ok answer.Accepted
 unfolding answer_reply refused_reply reply_with
-answered-accepted (answer.Refused x) e = absurd (omega (arith, e))
-answered-accepted answer.Accepted e = refl
-answered-accepted answer.Unchanged e = absurd (omega (arith, e))
-answered-accepted (answer.Delta n) e = absurd (omega (arith, e))
-answered-accepted (answer.Replay place n) e = absurd (omega (arith, e))
+answered-accepted (Err x) e = absurd (omega (arith, e))
+answered-accepted (Ok answer.Accepted) e = refl
+answered-accepted (Ok answer.Unchanged) e = absurd (omega (arith, e))
+answered-accepted (Ok (answer.Delta n)) e = absurd (omega (arith, e))
+answered-accepted (Ok (answer.Replay place n)) e = absurd (omega (arith, e))
 
 abbrev identity : (topic subscription consumer_name : List ℕ) → (kind : ℤ) → Identity
 identity topic subscription consumer_name kind =

@@ -1,6 +1,7 @@
 -- What an exported call leaves is what the call of 01 leaves (`lent_is`, `next-is`), for a refused call gives the record back that it was given
 -- (`step_stays`); so events and end of a list of them are those of 01's calls (`trace-is`, `ends-are`).
 -- Assumes nothing.
+use Rattle.std.specs.Prelude.{Some, None, Ok, Err}
 use Prim.Native.Nat.{ℕ}
 use mathlib.Core.Path.{◌≡◌, refl, sym, ap, ap₂, ◌∙◌, subst}
 use mathlib.Core.Bool.{Bool, true, false, cond, not, true≢false}
@@ -9,7 +10,6 @@ use lib.ListN.{length}
 use lib.Dec.{eqb, ltb}
 use Rattle.keyed.proofs.KeyedLaws.{choose}
 use Rattle.session.specs.declared.SessionRecord.{SessionRecord}
-use Rattle.session.specs.declared.Floor.TheVariants.{Unset, At}
 use Rattle.session.specs.declared.Answer.{Answer}
 use Rattle.session.specs.declared.Answer.TheVariants as answer
 use Rattle.session.specs.Session.{Session, Result, view}
@@ -26,6 +26,7 @@ use Rattle.export_record.specs.Replies.{is_set, floor_of, record_of, answer_repl
 use Rattle.export_record.proofs.RecordLaws.{record-returns}
 use Rattle.rust_export.specs.Calls.{ExportCall, update, response, drain, begin, invalidate, call_of, lent_step, export_final, ExportEnd}
 use Rattle.rust_export.specs.Calls.{calls_of, export_floor, delta_in, export_event, export_trace}
+use Rattle.refusal.specs.declared.Refusal.{Refusal}
 
 -- ---- a refused call gives back the record that it was given
 
@@ -59,13 +60,13 @@ step_stays r st w =
 
 -- ---- one call
 
-left_is : (r : Record) (a : Answer) (next : SessionRecord) → (is_accepted a ≡ false → next ≡ record_of r) → record_of (left_record r a next) ≡ next
+left_is : (r : Record) (a : Result Answer Refusal) (next : SessionRecord) → (is_accepted a ≡ false → next ≡ record_of r) → record_of (left_record r a next) ≡ next
 unfolding left_record
-left_is r (answer.Refused x) next stays = sym (stays refl)
-left_is r answer.Accepted next stays = record-returns next
-left_is r answer.Unchanged next stays = record-returns next
-left_is r (answer.Delta n) next stays = record-returns next
-left_is r (answer.Replay place n) next stays = record-returns next
+left_is r (Err x) next stays = sym (stays refl)
+left_is r (Ok answer.Accepted) next stays = record-returns next
+left_is r (Ok answer.Unchanged) next stays = record-returns next
+left_is r (Ok (answer.Delta n)) next stays = record-returns next
+left_is r (Ok (answer.Replay place n)) next stays = record-returns next
 
 module _ (r : Record) (st : List ℕ) where
   -- 01's call on the record that was given
@@ -90,29 +91,29 @@ module _ (r : Record) (st : List ℕ) where
 
 -- ---- its event
 
-accepted-answered : (a : Answer) → not (eqb (answer_reply a).answer refused) ≡ is_accepted a
+accepted-answered : (a : Result Answer Refusal) → not (eqb (answer_reply a).answer refused) ≡ is_accepted a
 unfolding answer_reply refused_reply reply_with
-accepted-answered (answer.Refused x) = refl
-accepted-answered answer.Accepted = refl
-accepted-answered answer.Unchanged = refl
-accepted-answered (answer.Delta n) = refl
-accepted-answered (answer.Replay place n) = refl
+accepted-answered (Err x) = refl
+accepted-answered (Ok answer.Accepted) = refl
+accepted-answered (Ok answer.Unchanged) = refl
+accepted-answered (Ok (answer.Delta n)) = refl
+accepted-answered (Ok (answer.Replay place n)) = refl
 
-none-answered : (a : Answer) → eqb (answer_reply a).answer unchanged ≡ is_none a
+none-answered : (a : Result Answer Refusal) → eqb (answer_reply a).answer unchanged ≡ is_none a
 unfolding answer_reply refused_reply reply_with
-none-answered (answer.Refused x) = refl
-none-answered answer.Accepted = refl
-none-answered answer.Unchanged = refl
-none-answered (answer.Delta n) = refl
-none-answered (answer.Replay place n) = refl
+none-answered (Err x) = refl
+none-answered (Ok answer.Accepted) = refl
+none-answered (Ok answer.Unchanged) = refl
+none-answered (Ok (answer.Delta n)) = refl
+none-answered (Ok (answer.Replay place n)) = refl
 
-delta-answered : (a : Answer) (out : List ℕ) → delta_in (answer_reply a) out ≡ handed_out a out
+delta-answered : (a : Result Answer Refusal) (out : List ℕ) → delta_in (answer_reply a) out ≡ handed_out a out
 unfolding answer_reply refused_reply reply_with word_at word_of
-delta-answered (answer.Refused x) out = refl
-delta-answered answer.Accepted out = refl
-delta-answered answer.Unchanged out = refl
-delta-answered (answer.Delta n) out = refl
-delta-answered (answer.Replay place n) out = refl
+delta-answered (Err x) out = refl
+delta-answered (Ok answer.Accepted) out = refl
+delta-answered (Ok answer.Unchanged) out = refl
+delta-answered (Ok (answer.Delta n)) out = refl
+delta-answered (Ok (answer.Replay place n)) out = refl
 
 event-answered : (c : ExportCall) (r : Record) (o : CallOutcome) → export_event (record { call = c; left = lent_of r o }) ≡ trace_event (call_of c) o
 event-answered c r o = λ i.
@@ -148,6 +149,6 @@ pub floor-is : (r : Record) → export_floor r ≡ (record_of r).epoch_floor
 unfolding record_of
 floor-is r = go (is_set r.has_floor)
   where
-    go : (b : Bool) → cond b (At r.epoch_floor) Unset ≡ floor_of b r.epoch_floor
+    go : (b : Bool) → cond b (Some r.epoch_floor) None ≡ floor_of b r.epoch_floor
     go true = refl
     go false = refl

@@ -1,11 +1,11 @@
 -- What a caller in C sees after an exported call is what is shown after the call of 01 (`sees`), and so after each of a list (`all_seen`), and
 -- after each that none of ours refused (`fed-seen`).
 -- Assumes nothing.
+use Rattle.std.specs.Prelude.{option_map, Result, Ok, Err}
 use Prim.Native.Nat.{ℕ}
 use mathlib.Core.Path.{◌≡◌, refl, sym, ap, ap₂, ◌∙◌, subst}
 use mathlib.Core.Bool.{Bool, true, false, cond, not, ◌&&◌, ◌||◌}
 use mathlib.Core.List.{List, [], ◌∷◌, map}
-use mathlib.Core.Option
 use lib.Dec.{eqb}
 use Rattle.refusal.specs.declared.Refusal.{Refusal}
 use Rattle.refusal.specs.declared.Refusal.TheVariants as refusal
@@ -31,22 +31,22 @@ use Rattle.rust_export.proofs.StepLaws.{stepped, lent_is, left_as, next-is, stor
 
 -- ---- what is told
 
-tells : (c : ExportCall) (a : Answer) (state : Record) (st out : List ℕ)
+tells : (c : ExportCall) (a : Result Answer Refusal) (state : Record) (st out : List ℕ)
     → Tells c (record { reply = answer_reply a; state = state; store = st; out = out }) (answered_by (call_of c) a st out)
 unfolding answer_reply refused_reply reply_with word_at word_of
-tells (update message incarnation out') (answer.Refused x) state st out = (refl, refl)
-tells (response message incarnation) (answer.Refused x) state st out = (refl, refl)
-tells (drain by out') (answer.Refused x) state st out = (refl, refl)
-tells (begin incarnation) (answer.Refused x) state st out = (refl, refl)
-tells invalidate (answer.Refused x) state st out = (refl, refl)
-tells (update message incarnation out') answer.Accepted state st out = refl
-tells (response message incarnation) answer.Accepted state st out = (refl, refl)
-tells (drain by out') answer.Accepted state st out = refl
-tells (begin incarnation) answer.Accepted state st out = refl
-tells invalidate answer.Accepted state st out = refl
-tells c answer.Unchanged state st out = refl
-tells c (answer.Delta n) state st out = (refl, refl)
-tells c (answer.Replay place n) state st out = (refl, refl)
+tells (update message incarnation out') (Err x) state st out = (refl, refl)
+tells (response message incarnation) (Err x) state st out = (refl, refl)
+tells (drain by out') (Err x) state st out = (refl, refl)
+tells (begin incarnation) (Err x) state st out = (refl, refl)
+tells invalidate (Err x) state st out = (refl, refl)
+tells (update message incarnation out') (Ok answer.Accepted) state st out = refl
+tells (response message incarnation) (Ok answer.Accepted) state st out = (refl, refl)
+tells (drain by out') (Ok answer.Accepted) state st out = refl
+tells (begin incarnation) (Ok answer.Accepted) state st out = refl
+tells invalidate (Ok answer.Accepted) state st out = refl
+tells c (Ok answer.Unchanged) state st out = refl
+tells c (Ok (answer.Delta n)) state st out = (refl, refl)
+tells c (Ok (answer.Replay place n)) state st out = (refl, refl)
 
 -- ---- what is seen after a call
 
@@ -60,7 +60,7 @@ module _ (reader : ℕ) (c : ExportCall) (r : Record) (o : CallOutcome) (e : rec
       let parent = topic_in o.store in
       record {
         answered = tells c o.answer state o.store o.out;
-        assignment = ap (λ (n : SessionRecord). Option.map (as_assignment parent) (held (record { state = n; store = o.store }))) e;
+        assignment = ap (λ (n : SessionRecord). option_map (as_assignment parent) (held (record { state = n; store = o.store }))) e;
         epoch-floor = ap as_floor (floor-is state ∙ ap (λ (n : SessionRecord). n.epoch_floor) e);
         incarnation = ap (λ (n : SessionRecord). n.incarnation) e;
         registered = ap (λ (n : SessionRecord). n.registered) e;
@@ -133,13 +133,13 @@ room-answered refusal.InvalidLog = refl
 room-answered refusal.InvalidWindow = refl
 room-answered refusal.MalformedSave = refl
 
-ours-answered : (a : Answer) → is_ours (answer_reply a) ≡ rust.is_ours a
+ours-answered : (a : Result Answer Refusal) → is_ours (answer_reply a) ≡ rust.is_ours a
 unfolding answer_reply refused_reply reply_with
-ours-answered (answer.Refused x) = ap (ours_by_number (number_of x) ||◌) (room-answered x)
-ours-answered answer.Accepted = refl
-ours-answered answer.Unchanged = refl
-ours-answered (answer.Delta n) = refl
-ours-answered (answer.Replay place n) = refl
+ours-answered (Err x) = ap (ours_by_number (number_of x) ||◌) (room-answered x)
+ours-answered (Ok answer.Accepted) = refl
+ours-answered (Ok answer.Unchanged) = refl
+ours-answered (Ok (answer.Delta n)) = refl
+ours-answered (Ok (answer.Replay place n)) = refl
 
 ours-step : (r : Record) (st : List ℕ) (c : ExportCall) → is_ours (lent_step r st c).reply ≡ rust.is_ours (stepped r st c).answer
 ours-step r st c = ap (λ (l : Lent). is_ours l.reply) (lent_is r st c) ∙ ours-answered (stepped r st c).answer

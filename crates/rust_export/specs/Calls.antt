@@ -3,12 +3,9 @@
 -- In order: the five calls, and what each leaves; a list of them, each with the record and the store as the last left them; what is read
 -- from a record and from a reply. What a call leaves is what its contract in crates/export/src/session_calls.rt says, by the same definitions.
 -- Assumes nothing.
-use Rattle.std.specs.Prelude.{ℕ, cond, not, List, [], ◌∷◌, map, take, eqb}
-use Rattle.std.proofs.Math.Option.{Option, some, none}
+use Rattle.std.specs.Prelude.{ℕ, cond, not, List, [], ◌∷◌, map, take, eqb, Option, Some, None}
 use Rattle.packed.specs.Assignment.{ConsumerAssignment}
 use Rattle.packed_delta.specs.Delta.{AssignmentDelta, decode_delta}
-use Rattle.session.specs.declared.Floor.{Floor}
-use Rattle.session.specs.declared.Floor.TheVariants.{Unset, At}
 use Rattle.session.specs.Store.{baseline_slot, list_slot, list_in}
 use Rattle.session.specs.Trace as trace
 use Rattle.session.specs.Trace.{Call, Event}
@@ -78,18 +75,18 @@ export_final r store (c ∷ cs) = export_final (lent_step r store c).state (lent
 
 -- "Held: the list slot's sheet while registered, else no list."
 abbrev pub export_held : Record → (store : List ℕ) → Option ConsumerAssignment
-export_held r store = cond (is_set r.registered) (some (list_in store list_slot)) none
+export_held r store = cond (is_set r.registered) (Some (list_in store list_slot)) None
 
-abbrev pub export_floor : Record → Floor
-export_floor r = cond (is_set r.has_floor) (At r.epoch_floor) Unset
+abbrev pub export_floor : Record → Option ℕ
+export_floor r = cond (is_set r.has_floor) (Some r.epoch_floor) None
 
 -- ---- read from a reply's numbers and the output's bytes
 
 -- a delta that is handed out: its length is the first value, behind a place in the store the second
 abbrev pub delta_in : Reply → (out : List ℕ) → Option AssignmentDelta
 delta_in x out =
-    cond (eqb x.answer delta) (some (decode_delta (take x.first out)))
-    (cond (eqb x.answer replay) (some (decode_delta (take x.second out))) none)
+    cond (eqb x.answer delta) (Some (decode_delta (take x.first out)))
+    (cond (eqb x.answer replay) (Some (decode_delta (take x.second out))) None)
 
 -- a call, whether it was accepted, whether it answers none, the delta in its output, and the sheet then in the baseline slot
 abbrev pub export_event : Step → Event
@@ -97,7 +94,7 @@ export_event s =
     record {
       call = call_of s.call;
       accepted = not (eqb s.left.reply.answer refused);
-      none = eqb s.left.reply.answer unchanged;
+      None = eqb s.left.reply.answer unchanged;
       delta = delta_in s.left.reply s.left.out;
       baseline = list_in s.left.store baseline_slot;
     }

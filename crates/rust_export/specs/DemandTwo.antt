@@ -4,8 +4,7 @@
 -- What he sees (`Sees`) is read from the reply's numbers, the record's fields, the store and the output. `DemandTwoFedExported` is about any calls,
 -- and leaves out those that one of ours refuses; `DemandTwoExported` is about inputs on which none of ours is due.
 -- Assumes nothing.
-use Rattle.std.specs.Prelude.{ℕ, ◌≤◌, ◌≡◌, Bool, true, false, cond, not, ◌&&◌, ◌||◌, List, [], ◌∷◌, map, ℤ, length, take, get_or, eqb}
-use Rattle.std.proofs.Math.Option
+use Rattle.std.specs.Prelude.{ℕ, ◌≤◌, ◌≡◌, Bool, true, false, cond, not, ◌&&◌, ◌||◌, List, [], ◌∷◌, map, ℤ, length, take, get_or, eqb, option_map}
 use Rattle.keyed.specs.Keyed.{filter}
 use Rattle.wire_readers.specs.Messages.{response_of}
 use Rattle.packed.specs.Assignment.{slot_size}
@@ -50,7 +49,7 @@ Tells c l (rust.replay x) =
 -- so do the record's fields and the store, with what is left for that reader to drain
 pub record Sees (reader : ℕ) (c : ExportCall) (l : Lent) (x : Shown) : Type 0 where
   pub answered : Tells c l x.answered
-  pub assignment : Option.map (as_assignment (topic_in l.store)) (export_held l.state l.store) ≡ x.assignment
+  pub assignment : option_map (as_assignment (topic_in l.store)) (export_held l.state l.store) ≡ x.assignment
   pub epoch-floor : as_floor (export_floor l.state) ≡ x.epoch-floor
   pub incarnation : link l.state.incarnation ≡ x.incarnation
   pub registered : is_set l.state.registered ≡ x.registered

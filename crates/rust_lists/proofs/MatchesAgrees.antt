@@ -1,5 +1,6 @@
 -- `matches_registration` is the Rust's (`matches-agrees`, `opened-has`).
 -- Assumes nothing.
+use Rattle.std.specs.Prelude.{Ok}
 use Prim.Native.Nat.{ℕ, ◌≤◌}
 use native.Mathlib.Omega.{arith}
 use mathlib.Core.Path.{◌≡◌, refl, sym, ap, ◌∙◌}
@@ -11,7 +12,6 @@ use borrow.Author.Tests.{le-ltb, leb-true, eqb-true, eqb-false, eq-eqb, ne_eqb}
 use Rattle.slice.specs.BoolLaws.{both_true}
 use Rattle.topic_types.specs.declared.ScalableConsumerType.{ScalableConsumerType}
 use Rattle.topic_types.specs.declared.ScalableConsumerType.TheVariants.{Stream, Checkpoint}
-use Rattle.session.specs.declared.Match.TheVariants.{Same, Other}
 use Rattle.session.specs.Store.{min_store, identity_slot, slot}
 use Rattle.session.specs.Identity.{Identity, kind_byte, identity_topic, subscription_of, consumer_name_of, identity_kind, is_identity}
 use Rattle.session.specs.Calls.{same_identity, match_of}
@@ -50,7 +50,7 @@ same-agrees l s i e h =
       kind-same (identity_kind l) (kind-bound l e) i.consumer_type,
     )
 
-match_by : (t : Bool) → cond t Same Other ≡ match_if t
+match_by : (t : Bool) → cond t (Ok true) (Ok false) ≡ match_if t
 match_by true = refl
 match_by false = refl
 

@@ -27,7 +27,6 @@ use Rattle.packed.proofs.RoundLaws.{FitRange, FitRanges, FitSegment, FitSegments
 use Rattle.intake_content.specs.Content.{taken, content_of}
 use Rattle.keyed.proofs.EachLaws.{Each, each_map}
 use Rattle.intake_content.proofs.OrderLaws.{Passing}
-use Rattle.output.specs.declared.WriteAnswer.TheVariants.{Written}
 use Rattle.writer_message.specs.Message.{assignment_message}
 use Rattle.writer_message.proofs.RowLaws.{segments-within, assignment-row}
 use Rattle.writer_message.proofs.WireLaws as wire
@@ -76,7 +75,7 @@ parent-unmarked t e =
     let q = both_true (has_three_parts (path_of t)) (front_clean (path_of t)) p.1 in
     rw (p.0, q.0, q.1)
 
-module _ (s parent o : List ℕ) (n : ℕ) (b : Bytes s) (short : length o < 2 ^ 64) (e : (write_outcome s parent o).answer ≡ Written n) where
+module _ (s parent o : List ℕ) (n : ℕ) (b : Bytes s) (short : length o < 2 ^ 64) (e : (write_outcome s parent o).answer ≡ Ok n) where
   abbrev a : port.ConsumerAssignment
   a = decode_assignment s
 

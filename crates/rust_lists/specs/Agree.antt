@@ -20,11 +20,8 @@ use Rattle.wire.specs.Fields.{fields_of}
 use Rattle.wire_readers.specs.Messages as readers
 use Rattle.packed.specs.Assignment as port
 use Rattle.packed.specs.Assignment.{decode_assignment, is_assignment}
-use Rattle.output.specs.declared.WriteAnswer.TheVariants.{Written}
 use Rattle.writer.specs.Write.{write_outcome}
 use Rattle.session.specs.declared.SessionRecord.{SessionRecord}
-use Rattle.session.specs.declared.Match.{Match}
-use Rattle.session.specs.declared.Match.TheVariants.{Same, Other}
 use Rattle.session.specs.Store.{min_store, identity_slot, slot}
 use Rattle.session.specs.Identity.{Identity, identity_topic, subscription_of, consumer_name_of, identity_kind, is_identity}
 use Rattle.session.specs.Calls.{match_of}
@@ -48,9 +45,9 @@ pub record HasIdentity (identity : List ℕ) (s : ScalableConsumerSession) : Typ
   pub consumer-type : s.consumer-type ≡ as_type (identity_kind identity)
 
 -- the Rust's answer
-abbrev pub match_if : Bool → Match
-match_if true = Same
-match_if false = Other
+abbrev pub match_if : Bool → Result Bool Refusal
+match_if true = Ok true
+match_if false = Ok false
 
 -- where neither 1 nor 22 is due
 abbrev pub MatchesAgrees : Type 0
@@ -72,13 +69,13 @@ written_of s parent out n = readers.read_assignment (fields_of (take n (write_ou
 -- an output has fewer than 2 ^ 64 bytes, as every slice has
 abbrev pub ToPbAgrees : Type 0
 ToPbAgrees =
-    (s parent out : List ℕ) (n : ℕ) → Bytes s → length out < 2 ^ 64 → (write_outcome s parent out).answer ≡ Written n
+    (s parent out : List ℕ) (n : ℕ) → Bytes s → length out < 2 ^ 64 → (write_outcome s parent out).answer ≡ Ok n
     → written_of s parent out n ≡ ConsumerAssignment-to-pb (as_assignment parent (decode_assignment s))
 
 -- `try_from_pb` makes the assignment of what was written
 abbrev pub ReadAgrees : Type 0
 ReadAgrees =
-    (s parent out : List ℕ) (n : ℕ) → Bytes s → length out < 2 ^ 64 → (write_outcome s parent out).answer ≡ Written n
+    (s parent out : List ℕ) (n : ℕ) → Bytes s → length out < 2 ^ 64 → (write_outcome s parent out).answer ≡ Ok n
     → ConsumerAssignment-try-from-pb (written_of s parent out n) parent ≡ Ok (as_assignment parent (decode_assignment s))
 
 -- ---- source

@@ -2,8 +2,7 @@
 -- message is decoded. The message's structs are those of the crate readers: `pb::ScalableAssignedSegment` is
 -- `WireSegment`, `pb::ScalableConsumerAssignment` is `WireAssignment`.
 -- Assumes nothing.
-use Rattle.std.specs.Prelude.{ℕ, ◌-◌, ◌^◌, Bool, cond, not, ◌&&◌, leb, List, [], ◌∷◌, ◌++◌, map, ℤ, pos, negsuc, ◌==◌, nat_le, nat_lt}
-use Rattle.std.proofs.Math.Option.{Option, some, none}
+use Rattle.std.specs.Prelude.{ℕ, ◌-◌, ◌^◌, Bool, cond, not, ◌&&◌, leb, List, [], ◌∷◌, ◌++◌, map, ℤ, pos, negsuc, ◌==◌, nat_le, nat_lt, Option, Some, None}
 use Rattle.topic_types.specs.declared.KeyRange.{KeyRange}
 use Rattle.topic_types.specs.declared.KeyRangeError.{KeyRangeError}
 use Rattle.topic_types.specs.declared.SegmentId.{SegmentId}
@@ -59,14 +58,14 @@ AssignedSegment-eq a b =
 
 -- u32::try_from, of an i32
 abbrev pub u32-try-from : ℤ → Option ℕ
-u32-try-from (pos n) = some n
-u32-try-from (negsuc n) = none
+u32-try-from (pos n) = Some n
+u32-try-from (negsuc n) = None
 
 -- let (Ok(start), Ok(end)) = (start, end) else { return Err(error) }; KeyRange::new(start, end).map_err(|_| error)
 abbrev pub bucket-range-from : AssignmentError → Option ℕ → Option ℕ → Result KeyRange AssignmentError
-bucket-range-from error none end = Err error
-bucket-range-from error (some start) none = Err error
-bucket-range-from error (some start) (some end) = map-err (λ source. error) (KeyRange-new start end)
+bucket-range-from error None end = Err error
+bucket-range-from error (Some start) None = Err error
+bucket-range-from error (Some start) (Some end) = map-err (λ source. error) (KeyRange-new start end)
 
 -- the closure over `pb.bucket_ranges`
 abbrev pub bucket-range : SegmentId → ℕ → IntRange → Result KeyRange AssignmentError

@@ -1,8 +1,7 @@
 -- Public: `BTreeSet` and `BTreeMap` of the Rust, as the standard library's documentation has them: the entries in the
 -- order in which they are iterated, by the order of their keys.
 -- Assumes nothing.
-use Rattle.std.specs.Prelude.{Bool, false, cond, not, ◌||◌, List, [], ◌∷◌}
-use Rattle.std.proofs.Math.Option.{Option, some, none}
+use Rattle.std.specs.Prelude.{Bool, false, cond, not, ◌||◌, List, [], ◌∷◌, Option, Some, None}
 use Rattle.rust_magnetar.specs.Order.{Ordering, by_ordering, is_eq}
 use Rattle.rust_magnetar.specs.Collections.{filter}
 
@@ -48,8 +47,8 @@ entry key value = record { key = key; value = value }
 module _ {K A : Type 0} (cmp : K → K → Ordering) where
   -- .get(&key)
   abbrev pub BTreeMap-get : K → List (Entry K A) → Option A
-  BTreeMap-get key [] = none
-  BTreeMap-get key (e ∷ map) = cond (is_eq (cmp key e.key)) (some e.value) (BTreeMap-get key map)
+  BTreeMap-get key [] = None
+  BTreeMap-get key (e ∷ map) = cond (is_eq (cmp key e.key)) (Some e.value) (BTreeMap-get key map)
 
   -- .insert(key, value), the map then: "If the map did have this key present, the value is updated, .. The key is not
   -- updated, though"

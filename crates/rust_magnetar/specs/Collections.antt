@@ -1,7 +1,6 @@
 -- Public: `Vec`, slices and iterators of the Rust, and the methods that the sources call.
 -- Assumes nothing.
-use Rattle.std.specs.Prelude.{ℕ, ◌+◌, Bool, true, false, cond, ◌&&◌, ◌||◌, List, [], ◌∷◌}
-use Rattle.std.proofs.Math.Option.{Option, some, none}
+use Rattle.std.specs.Prelude.{ℕ, ◌+◌, Bool, true, false, cond, ◌&&◌, ◌||◌, List, [], ◌∷◌, Option, Some, None}
 use Rattle.rust_magnetar.specs.Result.{Result, Ok, ◌>>=◌}
 
 -- ---- Vec
@@ -50,5 +49,5 @@ filter test (x ∷ xs) = cond (test x) (x ∷ filter test xs) (filter test xs)
 
 -- option.is_none_or(test)
 abbrev pub is-none-or : {A : Type 0} → (A → Bool) → Option A → Bool
-is-none-or test none = true
-is-none-or test (some v) = test v
+is-none-or test None = true
+is-none-or test (Some v) = test v

@@ -1,8 +1,7 @@
 -- Public: numbers written and read as text by the Rust, as the standard library's documentation has it: `{}`, `{:04x}`,
 -- `parse::<u64>` and `from_str_radix`.
 -- Assumes nothing.
-use Rattle.std.specs.Prelude.{ℕ, zero, suc, ◌+◌, ◌-◌, ◌*◌, ◌/◌, ◌%◌, ◌^◌, cond, ◌&&◌, List, [], ◌∷◌, ◌++◌, map, length, replicate, ◌==◌, nat_le, nat_lt}
-use Rattle.std.proofs.Math.Option.{Option, some, none}
+use Rattle.std.specs.Prelude.{ℕ, zero, suc, ◌+◌, ◌-◌, ◌*◌, ◌/◌, ◌%◌, ◌^◌, cond, ◌&&◌, List, [], ◌∷◌, ◌++◌, map, length, replicate, ◌==◌, nat_le, nat_lt, Option, Some, None}
 use Rattle.rust_magnetar.specs.Text.{Text}
 
 -- ---- written
@@ -36,8 +35,8 @@ lower-hex-4 number = zero-padded 4 (lower-hex number)
 
 -- Option::and_then
 abbrev pub and_then : {A B : Type 0} → Option A → (A → Option B) → Option B
-and_then none f = none
-and_then (some a) f = f a
+and_then None f = None
+and_then (Some a) f = f a
 
 -- char::to_digit(radix): "Digits are a subset of these characters, depending on radix: 0-9 a-z A-Z"; a value of 36 is a
 -- digit to no radix
@@ -49,16 +48,16 @@ digit_value b =
     36))
 
 abbrev pub to-digit : ℕ → ℕ → Option ℕ
-to-digit radix b = cond (nat_lt (digit_value b) radix) (some (digit_value b)) none
+to-digit radix b = cond (nat_lt (digit_value b) radix) (Some (digit_value b)) None
 
 -- the number that these digits make behind those of another
 abbrev pub digits-behind : ℕ → ℕ → Text → Option ℕ
-digits-behind radix number [] = some number
+digits-behind radix number [] = Some number
 digits-behind radix number (b ∷ s) = and_then (to-digit radix b) (λ digit. digits-behind radix (number * radix + digit) s)
 
 -- one digit at least
 abbrev pub digits_number : ℕ → Text → Option ℕ
-digits_number radix [] = none
+digits_number radix [] = None
 digits_number radix (b ∷ s) = digits-behind radix 0 (b ∷ s)
 
 -- "an optional + sign followed by only digits"
@@ -69,7 +68,7 @@ without_sign (b ∷ s) = cond (b == 0x2B) s (b ∷ s)
 -- from_str_radix(s, radix).ok() of an unsigned type with so many values
 abbrev pub from-str-radix : (values radix : ℕ) → Text → Option ℕ
 from-str-radix values radix s =
-    and_then (digits_number radix (without_sign s)) (λ number. cond (nat_lt number values) (some number) none)
+    and_then (digits_number radix (without_sign s)) (λ number. cond (nat_lt number values) (Some number) None)
 
 abbrev pub u32-from-str-radix : ℕ → Text → Option ℕ
 u32-from-str-radix radix s = from-str-radix (2 ^ 32) radix s

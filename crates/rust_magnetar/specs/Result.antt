@@ -1,6 +1,6 @@
 -- Public: `Result` and `?` of the Rust: `x ← e` is `let x = e?;`.
 -- Assumes nothing.
-use Rattle.std.proofs.Math.Option.{Option, some, none}
+use Rattle.std.specs.Prelude.{Option, Some, None}
 
 pub data Result (A E : Type 0) : Type 0 where
   Ok : A → Result A E
@@ -18,5 +18,5 @@ map-err g (Err e) = Err (g e)
 
 -- Option::ok_or; `let Some(x) = e else { return Err(error) };`
 abbrev pub ok_or : {A E : Type 0} → E → Option A → Result A E
-ok_or error none = Err error
-ok_or error (some a) = Ok a
+ok_or error None = Err error
+ok_or error (Some a) = Ok a

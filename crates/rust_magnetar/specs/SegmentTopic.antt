@@ -1,7 +1,6 @@
 -- Public: scalable_consumer.rs: names of segments, `SegmentSource`.
 -- Assumes nothing.
-use Rattle.std.specs.Prelude.{ℕ, ◌+◌, ◌-◌, Bool, true, false, cond, not, ◌&&◌, ◌||◌, List, [], ◌∷◌, ◌++◌, length, take, ◌==◌, nat_le}
-use Rattle.std.proofs.Math.Option.{Option, some, none}
+use Rattle.std.specs.Prelude.{ℕ, ◌+◌, ◌-◌, Bool, true, false, cond, not, ◌&&◌, ◌||◌, List, [], ◌∷◌, ◌++◌, length, take, ◌==◌, nat_le, Option, Some, None}
 use Rattle.topic_types.specs.declared.KeyRange.{KeyRange}
 use Rattle.topic_types.specs.declared.KeyRangeError.{KeyRangeError}
 use Rattle.topic_types.specs.declared.SegmentId.{SegmentId}
@@ -72,7 +71,7 @@ abbrev pub is-hex-byte : ℕ → Bool
 is-hex-byte byte = is_ascii_digit byte || (nat_le 0x61 byte && nat_le byte 0x66)
 
 abbrev pub parse-canonical-hex-word : Text → Option ℕ
-parse-canonical-hex-word value = cond (length value == 4 && all-bytes is-hex-byte value) (u32-from-str-radix 16 value) none
+parse-canonical-hex-word value = cond (length value == 4 && all-bytes is-hex-byte value) (u32-from-str-radix 16 value) None
 
 -- is_canonical_decimal
 abbrev pub is-canonical-decimal : Text → Bool
@@ -86,11 +85,11 @@ pub record Descriptor : Type 0 where
   pub id : Text
 
 abbrev pub descriptor-of : List Text → Option Descriptor
-descriptor-of [] = none
-descriptor-of (a ∷ []) = none
-descriptor-of (a ∷ (b ∷ [])) = none
-descriptor-of (a ∷ (b ∷ (c ∷ []))) = some (record { start = a; end = b; id = c })
-descriptor-of (a ∷ (b ∷ (c ∷ (d ∷ rest)))) = none
+descriptor-of [] = None
+descriptor-of (a ∷ []) = None
+descriptor-of (a ∷ (b ∷ [])) = None
+descriptor-of (a ∷ (b ∷ (c ∷ []))) = Some (record { start = a; end = b; id = c })
+descriptor-of (a ∷ (b ∷ (c ∷ (d ∷ rest)))) = None
 
 pub record ParsedTopic : Type 0 where
   pub parent : Text
@@ -126,12 +125,12 @@ SegmentSource-new segment-id topic = do
 
 -- SegmentSource::parent_topic. `rest.get(..n)` is never None: n is 0 or the place of a '/'.
 abbrev pub behind-length : Option Split → ℕ
-behind-length none = 0
-behind-length (some halves) = length halves.behind + 1
+behind-length None = 0
+behind-length (Some halves) = length halves.behind + 1
 
 abbrev pub without_end : ℕ → Option Text → Text
-without_end n none = []
-without_end n (some rest) = take (length rest - n) rest
+without_end n None = []
+without_end n (Some rest) = take (length rest - n) rest
 
 abbrev pub parent-topic : SegmentSource → Text
 parent-topic self = topic-scheme ++ without_end (behind-length (rsplit_once slash self.topic)) (strip-prefix segment-scheme self.topic)

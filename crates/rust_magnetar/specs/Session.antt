@@ -6,13 +6,10 @@
 -- message's structs are those of the crate readers: `pb::CommandScalableTopicAssignmentUpdate` is `WireUpdate`,
 -- `pb::CommandScalableTopicSubscribeResponse` is `WireResponse`.
 -- Assumes nothing.
-use Rattle.std.specs.Prelude.{ℕ, max, Bool, true, false, cond, not, ◌&&◌, List, [], ◌∷◌, ◌++◌, map, length, ℤ, ◌==◌, nat_le, nat_lt}
-use Rattle.std.proofs.Math.Option.{Option, some, none}
+use Rattle.std.specs.Prelude.{ℕ, max, Bool, true, false, cond, not, ◌&&◌, List, [], ◌∷◌, ◌++◌, map, length, ℤ, ◌==◌, nat_le, nat_lt, Option, Some, None}
 use Rattle.topic_types.specs.declared.SegmentId.{SegmentId}
 use Rattle.topic_types.specs.declared.ControllerIncarnation.{ControllerIncarnation}
 use Rattle.topic_types.specs.declared.ScalableConsumerType.{ScalableConsumerType}
-use Rattle.wire_readers.specs.declared.ErrorCode.{ErrorCode}
-use Rattle.wire_readers.specs.declared.ErrorCode.TheVariants.{Given, Absent}
 use Rattle.wire_readers.specs.Messages.{WireAssignment, WireUpdate, WireResponse}
 use Rattle.rust_magnetar.specs.Result.{Result, Ok, Err, ok_or}
 use Rattle.rust_magnetar.specs.Text.{Text, text-eq}
@@ -151,8 +148,8 @@ new consumer-id topic subscription consumer-name consumer-type incarnation =
       consumer-name = consumer-name;
       consumer-type = consumer-type;
       incarnation = incarnation;
-      assignment = none;
-      epoch-floor = none;
+      assignment = None;
+      epoch-floor = None;
       buffered-updates = [];
       replayed-updates = [];
       invalidated = false;
@@ -183,7 +180,7 @@ begin-incarnation incarnation = do
   cond (nat_le incarnation.0 self.incarnation.0) (fail (NonAdvancingIncarnation incarnation self.incarnation)) (do
     change (with-incarnation incarnation)
     change (with-invalidated false)
-    change (with-assignment none)
+    change (with-assignment None)
     change (with-buffered-updates [])
     change (with-replayed-updates [])
     pure tt)
@@ -192,7 +189,7 @@ begin-incarnation incarnation = do
 
 abbrev pub invalidate-authority : Run (Unit {0})
 invalidate-authority = do
-  change (with-assignment none)
+  change (with-assignment None)
   change (with-buffered-updates [])
   change (with-replayed-updates [])
   change (with-invalidated true)
@@ -202,8 +199,8 @@ invalidate-authority = do
 
 -- if let Some(floor) = self.epoch_floor && epoch < floor { return Err(..) } Ok(())
 abbrev pub enforce : ℕ → Option ℕ → Result (Unit {0}) AssignmentError
-enforce epoch none = Ok tt
-enforce epoch (some floor) = cond (nat_lt epoch floor) (Err (CrossIncarnationEpochRegression epoch floor)) (Ok tt)
+enforce epoch None = Ok tt
+enforce epoch (Some floor) = cond (nat_lt epoch floor) (Err (CrossIncarnationEpochRegression epoch floor)) (Ok tt)
 
 abbrev pub enforce-epoch-floor : ℕ → Run (Unit {0})
 enforce-epoch-floor epoch = do
@@ -221,14 +218,14 @@ require-incarnation incarnation = do
 
 -- if let Some(prev) = self.assignment.as_ref() && incoming.layout_epoch < prev.layout_epoch { return Err(..) }
 abbrev pub refuse-stale : Option ConsumerAssignment → ConsumerAssignment → Result (Unit {0}) AssignmentError
-refuse-stale none incoming = Ok tt
-refuse-stale (some prev) incoming =
+refuse-stale None incoming = Ok tt
+refuse-stale (Some prev) incoming =
     cond (nat_lt incoming.layout-epoch prev.layout-epoch) (Err (StaleEpoch incoming.layout-epoch prev.layout-epoch)) (Ok tt)
 
 -- self.assignment.as_ref() == Some(&incoming)
 abbrev pub is-some-equal : Option ConsumerAssignment → ConsumerAssignment → Bool
-is-some-equal none incoming = false
-is-some-equal (some assignment) incoming = ConsumerAssignment-eq assignment incoming
+is-some-equal None incoming = false
+is-some-equal (Some assignment) incoming = ConsumerAssignment-eq assignment incoming
 
 -- BTreeMap<SegmentId, &AssignedSegment>
 abbrev pub SegmentMap : Type 0
@@ -243,8 +240,8 @@ segment-map segments = BTreeMap-from-iter SegmentId-cmp (map by-id segments)
 
 -- self.assignment.as_ref().map(|a| ..).unwrap_or_default()
 abbrev pub before-map : Option ConsumerAssignment → SegmentMap
-before-map none = []
-before-map (some a) = segment-map a.segments
+before-map None = []
+before-map (Some a) = segment-map a.segments
 
 -- map.get(&id).is_none_or(|other| *other != *s)
 abbrev pub none-or-differs : SegmentMap → SegmentId → AssignedSegment → Bool
@@ -262,42 +259,42 @@ key_of e = e.key
 
 -- self.epoch_floor.map_or(epoch, |floor| floor.max(epoch))
 abbrev pub map-or-max : Option ℕ → ℕ → ℕ
-map-or-max none epoch = epoch
-map-or-max (some floor) epoch = max floor epoch
+map-or-max None epoch = epoch
+map-or-max (Some floor) epoch = max floor epoch
 
 abbrev pub apply-incoming : ConsumerAssignment → Run (Option AssignmentDelta)
 apply-incoming incoming = do
   self ← get
   lift (refuse-stale self.assignment incoming)
-  cond (is-some-equal self.assignment incoming) (pure none) (do
+  cond (is-some-equal self.assignment incoming) (pure None) (do
     let before = before-map self.assignment
     let after = segment-map incoming.segments
     let gained = filter (is-gained before) incoming.segments
     let lost = map key_of (filter (is_lost after) before)
     let layout-epoch = incoming.layout-epoch
-    change (with-assignment (some incoming))
-    change (with-epoch-floor (some (map-or-max self.epoch-floor layout-epoch)))
-    pure (some (record { layout-epoch = layout-epoch; gained = gained; lost = lost })))
+    change (with-assignment (Some incoming))
+    change (with-epoch-floor (Some (map-or-max self.epoch-floor layout-epoch)))
+    pure (Some (record { layout-epoch = layout-epoch; gained = gained; lost = lost })))
 
 -- ---- handle_subscribe_response_for
 
 -- the optional fields of the message: a text that is not there is read as empty, which `.unwrap_or_default()` makes of it
 abbrev pub resp-assignment : WireResponse → Option WireAssignment
-resp-assignment resp = cond resp.has_assignment (some resp.assignment) none
+resp-assignment resp = cond resp.has_assignment (Some resp.assignment) None
 
-abbrev pub resp-error : ErrorCode → Option ℤ
-resp-error (Given code) = some code
-resp-error Absent = none
+abbrev pub resp-error : Option ℤ → Option ℤ
+resp-error (Some code) = Some code
+resp-error None = None
 
 -- if let Some(code) = resp.error { return Err(Broker { code, message }) } return Err(Empty { request_id })
 abbrev pub without-assignment : WireResponse → Option ℤ → AssignmentError
-without-assignment resp (some code) = Broker code resp.message
-without-assignment resp none = Empty resp.request_id
+without-assignment resp (Some code) = Broker code resp.message
+without-assignment resp None = Empty resp.request_id
 
 -- if let Some(delta) = delta { let assignment = staged.assignment.clone().ok_or(Empty { request_id })?; staged.replayed_updates.push(..); }
 abbrev pub push-replay : ℕ → Option AssignmentDelta → Run (Unit {0})
-push-replay request-id none = pure tt
-push-replay request-id (some delta) = do
+push-replay request-id None = pure tt
+push-replay request-id (Some delta) = do
   staged ← get
   assignment ← lift (ok_or (Empty request-id) staged.assignment)
   change (with-replayed-updates (staged.replayed-updates ++ (record { assignment = assignment; delta = delta } ∷ [])))
@@ -320,8 +317,8 @@ handle-subscribe-response-for incarnation resp = do
   baseline ← lift (ConsumerAssignment-try-from-pb assignment self.topic)
   enforce-epoch-floor baseline.layout-epoch
   clone ← get
-  let staged = with-assignment (some baseline) clone
-  let staged = with-epoch-floor (some (map-or-max staged.epoch-floor baseline.layout-epoch)) staged
+  let staged = with-assignment (Some baseline) clone
+  let staged = with-epoch-floor (Some (map-or-max staged.epoch-floor baseline.layout-epoch)) staged
   let staged = with-replayed-updates [] staged
   staged ← on staged (replay-loop resp.request_id staged.buffered-updates)
   set staged
@@ -334,8 +331,8 @@ MAX-BUFFERED-ASSIGNMENT-UPDATES = 1024
 
 -- self.assignment.is_none()
 abbrev pub is_none : Option ConsumerAssignment → Bool
-is_none none = true
-is_none (some a) = false
+is_none None = true
+is_none (Some a) = false
 
 abbrev pub handle-assignment-update-for : ControllerIncarnation → WireUpdate → Run (Option AssignmentDelta)
 handle-assignment-update-for incarnation upd = do
@@ -349,5 +346,5 @@ handle-assignment-update-for incarnation upd = do
           cond (length self.buffered-updates == MAX-BUFFERED-ASSIGNMENT-UPDATES)
               (fail (PreBaselineBufferFull MAX-BUFFERED-ASSIGNMENT-UPDATES)) (do
                 change (with-buffered-updates (self.buffered-updates ++ (incoming ∷ [])))
-                pure none))
+                pure None))
         (apply-incoming incoming))

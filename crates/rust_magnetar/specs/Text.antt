@@ -1,8 +1,7 @@
 -- Public: `str` of the Rust, as its bytes, and the methods that the sources call. A `char` is one byte here: those
 -- searched for are ASCII, and no byte of a longer character is one of them.
 -- Assumes nothing.
-use Rattle.std.specs.Prelude.{ℕ, zero, suc, Bool, true, false, cond, ◌&&◌, ◌||◌, List, [], ◌∷◌, ◌==◌}
-use Rattle.std.proofs.Math.Option.{Option, some, none, map}
+use Rattle.std.specs.Prelude.{ℕ, zero, suc, Bool, true, false, cond, ◌&&◌, ◌||◌, List, [], ◌∷◌, ◌==◌, Option, Some, None, option_map}
 
 abbrev pub Text : Type 0
 Text = List ℕ
@@ -19,9 +18,9 @@ is-empty [] = true
 is-empty (b ∷ s) = false
 
 abbrev pub strip-prefix : Text → Text → Option Text
-strip-prefix [] s = some s
-strip-prefix (p ∷ ps) [] = none
-strip-prefix (p ∷ ps) (b ∷ s) = cond (p == b) (strip-prefix ps s) none
+strip-prefix [] s = Some s
+strip-prefix (p ∷ ps) [] = None
+strip-prefix (p ∷ ps) (b ∷ s) = cond (p == b) (strip-prefix ps s) None
 
 -- .contains(char)
 abbrev pub contains : ℕ → Text → Bool
@@ -59,15 +58,15 @@ longer b x = record { before = b ∷ x.before; behind = x.behind }
 
 -- .split_once(char): at the first; .rsplit_once(char): at the last
 abbrev pub split-once : ℕ → Text → Option Split
-split-once c [] = none
-split-once c (b ∷ s) = cond (b == c) (some (record { before = []; behind = s })) (map (longer b) (split-once c s))
+split-once c [] = None
+split-once c (b ∷ s) = cond (b == c) (Some (record { before = []; behind = s })) (option_map (longer b) (split-once c s))
 
 abbrev pub rsplit-from : ℕ → ℕ → Text → Option Split → Option Split
-rsplit-from c b s (some x) = some (longer b x)
-rsplit-from c b s none = cond (b == c) (some (record { before = []; behind = s })) none
+rsplit-from c b s (Some x) = Some (longer b x)
+rsplit-from c b s None = cond (b == c) (Some (record { before = []; behind = s })) None
 
 abbrev pub rsplit_once : ℕ → Text → Option Split
-rsplit_once c [] = none
+rsplit_once c [] = None
 rsplit_once c (b ∷ s) = rsplit-from c b s (rsplit_once c s)
 
 -- .split(char): the parts between
@@ -81,8 +80,8 @@ split c (b ∷ s) = cond (b == c) ([] ∷ split c s) (head-longer b (split c s))
 
 -- .splitn(n, char): at most n parts, the last with all that is left
 abbrev pub splitn-from : (Text → List Text) → Text → Option Split → List Text
-splitn-from rest s none = s ∷ []
-splitn-from rest s (some x) = x.before ∷ rest x.behind
+splitn-from rest s None = s ∷ []
+splitn-from rest s (Some x) = x.before ∷ rest x.behind
 
 abbrev pub splitn : ℕ → ℕ → Text → List Text
 splitn zero c s = []

@@ -3,9 +3,7 @@
 -- The message's struct is that of the crate readers: `pb::CommandWatchScalableTopicsUpdate` is `WireWatchUpdate`, whose event is a snapshot or a diff by its fields; the lists
 -- of the part are its fields 1 and 2. The field namespace, which no method here reads or writes, is left out.
 -- Assumes nothing.
-use Rattle.std.specs.Prelude.{ℕ, cond, not, List, [], ◌∷◌, ◌++◌, ℤ, ◌==◌}
-use Rattle.wire_readers.specs.declared.ErrorCode.{ErrorCode}
-use Rattle.wire_readers.specs.declared.ErrorCode.TheVariants.{Given, Absent}
+use Rattle.std.specs.Prelude.{ℕ, cond, not, List, [], ◌∷◌, ◌++◌, ℤ, ◌==◌, Option, Some, None}
 use Rattle.wire_readers.specs.Messages.{WireEvent, none, snapshot, diff, WireWatchUpdate}
 use Rattle.wire_values.specs.Values.{parts_of}
 use Rattle.rust_magnetar.specs.Result.{Result, Ok, Err}
@@ -79,9 +77,9 @@ handle-diff added removed self =
     }
 
 -- if let Some(code) = upd.error { return Err(Broker { code, message }) } return Err(Empty { watch_id })
-abbrev pub without-event : WireWatchUpdate → ErrorCode → TopicsWatchError
-without-event upd (Given code) = Broker code upd.message
-without-event upd Absent = Empty upd.watch_id
+abbrev pub without-event : WireWatchUpdate → Option ℤ → TopicsWatchError
+without-event upd (Some code) = Broker code upd.message
+without-event upd None = Empty upd.watch_id
 
 abbrev pub handle-event : WireWatchUpdate → WireEvent → ScalableTopicsWatch → WatchDid
 handle-event upd none self = fails self (without-event upd upd.error)

@@ -7,8 +7,6 @@ use mathlib.Core.List.{List}
 use Rattle.topic_types.specs.declared.KeyRange.{KeyRange}
 use Rattle.topic_types.specs.declared.KeyRangeError.{KeyRangeError}
 use Rattle.topic_types.specs.declared.SegmentId.{SegmentId}
-use Rattle.topic_types.specs.declared.RangeResult.{RangeResult}
-use Rattle.topic_types.specs.declared.RangeResult.TheVariants.{Valid, Invalid}
 use Rattle.topic_types.specs.KeyRanges.{new_key_range}
 use Rattle.refusal.specs.declared.Refusal.TheVariants as refusal
 use Rattle.name_parents.specs.Parents.{is_parent, path_of}
@@ -49,10 +47,10 @@ module _ (parent : Text) (id : SegmentId) (out : List ℕ) (m : is_marked parent
   parent-stage range false = λ h. refl
 
   -- 9
-  range-stage : (s e : ℕ) (x : RangeResult) → new_key_range s e ≡ x → Gives out (build_name parent x id out) (behind_range parent id (range_of x))
+  range-stage : (s e : ℕ) (x : Result KeyRange KeyRangeError) → new_key_range s e ≡ x → Gives out (build_name parent x id out) (behind_range parent id (range_of x))
   unfolding build_name
-  range-stage s e (Invalid error) p = λ h. refl
-  range-stage s e (Valid range) p =
+  range-stage s e (Err error) p = λ h. refl
+  range-stage s e (Ok range) p =
       gives-by out _ (segment-topic-agrees parent range id m (valid-made s e range p)) (parent-stage range (is_parent parent))
 
 pub build-agrees : BuildAgrees

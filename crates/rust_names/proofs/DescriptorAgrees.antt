@@ -3,12 +3,12 @@
 -- In order: bytes that pass a test (`every-agrees`); the words and the id (`word-agrees`, `id-agrees`); the split at '-'
 -- (`split-behind`, `split-none`, `split-joined`); a descriptor is its three parts joined, and the other way round; the law.
 -- Assumes nothing.
+use Rattle.std.specs.Prelude.{Option, Some, None}
 use Prim.Native.Nat.{ℕ, suc, ◌+◌, ◌^◌, ◌<◌}
 use native.Mathlib.Omega.{arith}
 use mathlib.Core.Path.{◌≡◌, refl, sym, ap, ap₂, ◌∙◌, subst}
 use mathlib.Core.Bool.{Bool, true, false, cond, not, ◌&&◌, ◌||◌, and-false, true≢false}
 use mathlib.Core.List.{List, [], ◌∷◌, ◌++◌}
-use mathlib.Core.Option.{Option, some, none}
 use lib.ListN.{length, take, drop, get_or, length-drop, take-append-drop}
 use lib.Seq.{take_at, drop-append-add, get_or_at, get_or-drop, drop-cons, drop-drop}
 use lib.Dec.{eqb, ltb}
@@ -34,20 +34,20 @@ unfolding every
 every-agrees f g h [] = refl
 every-agrees f g h (b ∷ s) = rw (h b, every-agrees f g h s)
 
-word_number : (s : Text) → is_hex_word s ≡ true → u32-from-str-radix 16 s ≡ some (hex_value s)
+word_number : (s : Text) → is_hex_word s ≡ true → u32-from-str-radix 16 s ≡ Some (hex_value s)
 unfolding is_hex_word
 word_number s e =
     let p = both_true (eqb (length s) 4) (all_hex_digits s) e in
     let b : ltb (hex_value s) (2 ^ 32) ≡ true = lt-ltb (hex_value s) (2 ^ 32) (omega (arith, word_bound s e)) in
     hex-number (2 ^ 32) s (omega (arith, eqb-true (length s) 4 p.0)) p.1 ∙ rw b
 
-pub word-agrees : (s : Text) → parse-canonical-hex-word s ≡ cond (is_hex_word s) (some (hex_value s)) none
+pub word-agrees : (s : Text) → parse-canonical-hex-word s ≡ cond (is_hex_word s) (Some (hex_value s)) None
 unfolding is_hex_word
 word-agrees s =
-    ap (λ (t : Bool). cond (eqb (length s) 4 && t) (u32-from-str-radix 16 s) none) (every-agrees is-hex-byte is_hex_digit hex-test s)
+    ap (λ (t : Bool). cond (eqb (length s) 4 && t) (u32-from-str-radix 16 s) None) (every-agrees is-hex-byte is_hex_digit hex-test s)
     ∙ go (is_hex_word s) refl
   where
-    go : (t : Bool) → is_hex_word s ≡ t → cond t (u32-from-str-radix 16 s) none ≡ cond t (some (hex_value s)) none
+    go : (t : Bool) → is_hex_word s ≡ t → cond t (u32-from-str-radix 16 s) None ≡ cond t (Some (hex_value s)) None
     go true e = word_number s e
     go false e = refl
 
@@ -78,7 +78,7 @@ id-agrees {E} e s =
     ∙ go (non_empty s) refl (all_digits s) refl (led s)
   where
     fits : (w : Bool)
-        → ok_or {E = E} e (cond w (some (decimal_value s)) none) ≡ cond w (Ok (decimal_value s)) (Err e)
+        → ok_or {E = E} e (cond w (Some (decimal_value s)) None) ≡ cond w (Ok (decimal_value s)) (Err e)
     fits true = refl
     fits false = refl
 
@@ -158,7 +158,7 @@ sound x = is_hex_word x.start && (is_hex_word x.end && is_segment_id x.id)
 abbrev row_of : Descriptor → Text
 row_of x = x.start ++ (dash ∷ (x.end ++ (dash ∷ x.id)))
 
-parts-told : (l : List Text) (x : Descriptor) → descriptor-of l ≡ some x → joined l ≡ row_of x
+parts-told : (l : List Text) (x : Descriptor) → descriptor-of l ≡ Some x → joined l ≡ row_of x
 parts-told [] x e = cc
 parts-told (a ∷ []) x e = cc
 parts-told (a ∷ (b ∷ [])) x e = cc
@@ -196,7 +196,7 @@ sound-told x e =
     record { start = p.0; end = q.0; id = q.1 }
 
 module _ (x : Descriptor) (S : Sound x) where
-  split-row : descriptor-of (split dash (row_of x)) ≡ some x
+  split-row : descriptor-of (split dash (row_of x)) ≡ Some x
   split-row =
       rw (
         split-behind x.start (x.end ++ (dash ∷ x.id)) (word-no-dash x.start S.start),
@@ -249,7 +249,7 @@ descriptor-sound d e = let S = (descriptor-parts d e).0 in rw (S.start, S.end, S
 -- ---- the law: f refuses what is not sound
 
 module _ {A E : Type 0} (e : E) (f : Descriptor → Result A E) (h : (x : Descriptor) → sound x ≡ false → f x ≡ Err e) (d : Text) where
-  not_sound : (x : Descriptor) → descriptor-of (split dash d) ≡ some x → is_descriptor d ≡ false → sound x ≡ false
+  not_sound : (x : Descriptor) → descriptor-of (split dash d) ≡ Some x → is_descriptor d ≡ false → sound x ≡ false
   not_sound x p q = go (sound x) refl
     where
       go : (t : Bool) → sound x ≡ t → t ≡ false
@@ -261,14 +261,14 @@ module _ {A E : Type 0} (e : E) (f : Descriptor → Result A E) (h : (x : Descri
   pub descriptor-agrees : (ok_or e (descriptor-of (split dash d)) >>= f) ≡ cond (is_descriptor d) (f (parts_of d)) (Err e)
   descriptor-agrees = go (descriptor-of (split dash d)) refl (is_descriptor d) refl
     where
-      made : is_descriptor d ≡ true → descriptor-of (split dash d) ≡ some (parts_of d)
+      made : is_descriptor d ≡ true → descriptor-of (split dash d) ≡ Some (parts_of d)
       made q =
           let D = descriptor-parts d q in
           ap (λ (l : Text). descriptor-of (split dash l)) D.1 ∙ split-row (parts_of d) D.0
 
       go : (o : Option Descriptor) → descriptor-of (split dash d) ≡ o → (t : Bool) → is_descriptor d ≡ t
           → (ok_or e o >>= f) ≡ cond t (f (parts_of d)) (Err e)
-      go none p true q = let m = made q in cc
-      go none p false q = refl
-      go (some x) p true q = let m = made q in let r : x ≡ parts_of d = cc in ap f r
-      go (some x) p false q = h x (not_sound x p q)
+      go None p true q = let m = made q in cc
+      go None p false q = refl
+      go (Some x) p true q = let m = made q in let r : x ≡ parts_of d = cc in ap f r
+      go (Some x) p false q = h x (not_sound x p q)

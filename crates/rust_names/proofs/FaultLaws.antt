@@ -1,6 +1,7 @@
 -- What holds of the reader's four refusals, 3, 4, 6 and 7, holds of a message's first fault (`fault-if`).
 -- Demand 2 of the session and of the watch cite it: the reader's refusals are ours in both.
 -- Assumes nothing.
+use Rattle.std.specs.Prelude.{⊤, Result, Ok, Err}
 use Prim.Native.Nat.{ℕ, zero, suc}
 use mathlib.Core.List.{List, [], ◌∷◌}
 use Rattle.refusal.specs.declared.Refusal.{Refusal}
@@ -11,24 +12,22 @@ use Rattle.wire.specs.Fields.{Payload, number, bytes, fixed, cut, Field, bad_key
 use Rattle.wire_schema.specs.declared.MessageKind.{MessageKind}
 use Rattle.wire_schema.specs.declared.ValueKind.{ValueKind}
 use Rattle.wire_schema.specs.declared.ValueKind.TheVariants as value
-use Rattle.wire_schema.specs.declared.Checked.{Checked}
-use Rattle.wire_schema.specs.declared.Checked.TheVariants.{Valid, Refused}
 use Rattle.wire_schema.specs.Schema.{value_for, fits_wire, levels}
 use Rattle.wire_schema.specs.Required.{is_complete}
 use Rattle.wire_schema.specs.FirstFault.{first, check_value, check_field, check_fields, fault_within, missing_field, first_fault}
 use Rattle.keyed.proofs.KeyedLaws.{choose}
 
 -- P holds of the refusal, if there is one
-abbrev pub IfRefused : (Refusal → Type 0) → Checked → Type 0
-IfRefused P Valid = Unit {0}
-IfRefused P (Refused x) = P x
+abbrev pub IfRefused : (Refusal → Type 0) → Result ⊤ Refusal → Type 0
+IfRefused P (Ok record {}) = Unit {0}
+IfRefused P (Err x) = P x
 
 module _ (P : Refusal → Type 0) (wire : P InvalidWireFormat) (type : P WrongWireType) (lacks : P MissingField) (text : P InvalidUtf8) where
-  first-if : (a b : Checked) → IfRefused P a → IfRefused P b → IfRefused P (first a b)
-  first-if Valid b p q = q
-  first-if (Refused x) b p q = p
+  first-if : (a b : Result ⊤ Refusal) → IfRefused P a → IfRefused P b → IfRefused P (first a b)
+  first-if (Ok record {}) b p q = q
+  first-if (Err x) b p q = p
 
-  module _ (inner : MessageKind → List ℕ → Checked) (h : (k : MessageKind) (l : List ℕ) → IfRefused P (inner k l)) where
+  module _ (inner : MessageKind → List ℕ → Result ⊤ Refusal) (h : (k : MessageKind) (l : List ℕ) → IfRefused P (inner k l)) where
     value-if : (v : ValueKind) (c : Payload) → IfRefused P (check_value inner v c)
     value-if v cut = wire
     value-if v (number n) = tt

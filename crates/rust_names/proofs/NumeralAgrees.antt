@@ -1,13 +1,13 @@
 -- The Rust's numbers in text are this port's: written in decimal (`display-agrees`) and as four hexadecimal digits
 -- (`hex-agrees`), and read where each byte is such a digit (`hex-number`, `decimal-number`).
 -- Assumes nothing.
+use Rattle.std.specs.Prelude.{Option, Some, None}
 use Prim.Native.Nat.{ℕ, zero, suc, ◌+◌, ◌-◌, ◌*◌, ◌/◌, ◌%◌, ◌≤◌, ◌<◌}
 use native.Mathlib.Omega.{arith}
 use native.Mathlib.Decide.{dec_lt}
 use mathlib.Core.Path.{◌≡◌, refl, sym, ap, ◌∙◌}
 use mathlib.Core.Bool.{Bool, true, false, cond, ◌||◌, and-false, true≢false}
 use mathlib.Core.List.{List, [], ◌∷◌, ◌++◌, map, map-append}
-use mathlib.Core.Option.{Option, some, none}
 use lib.ListN.{length}
 use lib.Dec.{eqb, ltb}
 use borrow.Author.Tests.{lt-ltb, le-ltb, ltb-true, le-leb, lt-leb, eqb-true, ne_eqb}
@@ -100,9 +100,9 @@ module _ (v : ℕ) where
 -- ---- read
 
 -- bytes that pass the test are digits of that value, and '+' does not pass it
-module _ (radix : ℕ) (test : ℕ → Bool) (value : ℕ → ℕ) (is : (b : ℕ) → test b ≡ true → to-digit radix b ≡ some (value b))
+module _ (radix : ℕ) (test : ℕ → Bool) (value : ℕ → ℕ) (is : (b : ℕ) → test b ≡ true → to-digit radix b ≡ Some (value b))
     (sign : test 0x2B ≡ false) where
-  behind-agrees : (a : ℕ) (s : Text) → every test s ≡ true → digits-behind radix a s ≡ some (value_from radix value a s)
+  behind-agrees : (a : ℕ) (s : Text) → every test s ≡ true → digits-behind radix a s ≡ Some (value_from radix value a s)
   unfolding every value_from
   behind-agrees a [] e = refl
   behind-agrees a (b ∷ s) e =
@@ -110,24 +110,24 @@ module _ (radix : ℕ) (test : ℕ → Bool) (value : ℕ → ℕ) (is : (b : �
       rw (is b p.0) (behind-agrees (a * radix + value b) s p.1)
 
   number-agrees : (values : ℕ) (s : Text) → 0 < length s → every test s ≡ true
-      → from-str-radix values radix s ≡ cond (ltb (value_from radix value 0 s) values) (some (value_from radix value 0 s)) none
+      → from-str-radix values radix s ≡ cond (ltb (value_from radix value 0 s) values) (Some (value_from radix value 0 s)) None
   unfolding every
   number-agrees values [] h e = absurd (omega arith)
   number-agrees values (b ∷ s) h e =
       let p = both_true (test b) (every test s) e in
       let n : eqb b 0x2B ≡ false = ne_eqb b 0x2B (λ q. true≢false (sym p.0 ∙ ap test q ∙ sign)) in
-      rw n (ap (λ (o : Option ℕ). and_then o (λ number. cond (ltb number values) (some number) none)) (behind-agrees 0 (b ∷ s) e))
+      rw n (ap (λ (o : Option ℕ). and_then o (λ number. cond (ltb number values) (Some number) None)) (behind-agrees 0 (b ∷ s) e))
 
-digit-is : (b : ℕ) → is_digit_byte b ≡ true → to-digit 10 b ≡ some (digit_value b)
+digit-is : (b : ℕ) → is_digit_byte b ≡ true → to-digit 10 b ≡ Some (digit_value b)
 digit-is b e =
     let k = digit-bounds b (eqb-true (class_of b) 1 e) in
     rw (le-leb 0x30 b k.0, le-leb b 0x39 k.1, lt-ltb (b - 0x30) 10 (omega arith))
 
-hex-is : (b : ℕ) → is_hex_digit b ≡ true → to-digit 16 b ≡ some (hex_digit_value b)
+hex-is : (b : ℕ) → is_hex_digit b ≡ true → to-digit 16 b ≡ Some (hex_digit_value b)
 hex-is b = go (eqb (class_of b) 1) refl (eqb (class_of b) 2) refl
   where
     go : (t : Bool) → eqb (class_of b) 1 ≡ t → (u : Bool) → eqb (class_of b) 2 ≡ u → (t || u) ≡ true
-        → to-digit 16 b ≡ some (cond t (b - 0x30) (b - 0x57))
+        → to-digit 16 b ≡ Some (cond t (b - 0x30) (b - 0x57))
     go true p u q e =
         let k = digit-bounds b (eqb-true (class_of b) 1 p) in
         rw (le-leb 0x30 b k.0, le-leb b 0x39 k.1, lt-ltb (b - 0x30) 16 (omega arith))
@@ -137,11 +137,11 @@ hex-is b = go (eqb (class_of b) 1) refl (eqb (class_of b) 2) refl
     go false p false q e = absurd (true≢false (sym e))
 
 pub decimal-number : (values : ℕ) (s : Text) → 0 < length s → all_digits s ≡ true
-    → from-str-radix values 10 s ≡ cond (ltb (decimal_value s) values) (some (decimal_value s)) none
+    → from-str-radix values 10 s ≡ cond (ltb (decimal_value s) values) (Some (decimal_value s)) None
 unfolding decimal_value class_of
 decimal-number values s h e = number-agrees 10 is_digit_byte digit_value digit-is refl values s h e
 
 pub hex-number : (values : ℕ) (s : Text) → 0 < length s → all_hex_digits s ≡ true
-    → from-str-radix values 16 s ≡ cond (ltb (hex_value s) values) (some (hex_value s)) none
+    → from-str-radix values 16 s ≡ cond (ltb (hex_value s) values) (Some (hex_value s)) None
 unfolding hex_value class_of
 hex-number values s h e = number-agrees 16 is_hex_digit hex_digit_value hex-is refl values s h e

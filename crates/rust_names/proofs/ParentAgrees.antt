@@ -4,12 +4,12 @@
 -- In order: a prefix stripped (`strip-agrees`); the split at the first '/' (`split-once-agrees`); the tests of a path's parts; a path
 -- (`path-agrees`, `path-unmarked`); the theorems.
 -- Assumes nothing.
+use Rattle.std.specs.Prelude.{Option, Some, None, option_map}
 use Prim.Native.Nat.{ℕ, suc, ◌-◌, ◌<◌}
 use native.Mathlib.Omega.{arith}
 use mathlib.Core.Path.{◌≡◌, refl, sym, ap, ◌∙◌}
 use mathlib.Core.Bool.{Bool, true, false, cond, not, ◌&&◌, ◌||◌, and-true, and-false, true≢false}
 use mathlib.Core.List.{List, [], ◌∷◌, ◌++◌, append_assoc}
-use mathlib.Core.Option.{Option, some, none, map}
 use lib.ListN.{length, take, drop}
 use lib.Dec.{eqb}
 use borrow.Author.Tests.{eq-eqb, ne_eqb, eqb-true, eqb-false, lt-ltb, not-true}
@@ -41,14 +41,14 @@ eqb-sym a b = go (eqb b a) refl
     go true e = eq-eqb a b (sym (eqb-true b a e))
     go false e = ne_eqb a b (λ q. eqb-false b a e (sym q))
 
-pub strip-agrees : (p s : Text) → strip-prefix p s ≡ cond (starts_with p s) (some (drop (length p) s)) none
+pub strip-agrees : (p s : Text) → strip-prefix p s ≡ cond (starts_with p s) (Some (drop (length p) s)) None
 unfolding starts_with same_bytes
 strip-agrees [] s = refl
 strip-agrees (x ∷ p) [] = refl
 strip-agrees (x ∷ p) (b ∷ s) = rw (eqb-sym x b) (go (eqb b x) (strip-agrees p s))
   where
-    go : (t : Bool) → strip-prefix p s ≡ cond (same_bytes (take (length p) s) p) (some (drop (length p) s)) none
-        → cond t (strip-prefix p s) none ≡ cond (t && same_bytes (take (length p) s) p) (some (drop (length p) s)) none
+    go : (t : Bool) → strip-prefix p s ≡ cond (same_bytes (take (length p) s) p) (Some (drop (length p) s)) None
+        → cond t (strip-prefix p s) None ≡ cond (t && same_bytes (take (length p) s) p) (Some (drop (length p) s)) None
     go true e = e
     go false e = refl
 
@@ -57,14 +57,14 @@ strip-agrees (x ∷ p) (b ∷ s) = rw (eqb-sym x b) (go (eqb b x) (strip-agrees 
 abbrev at_first : Text → Split
 at_first s = record { before = before_slash s; behind = behind_slash s }
 
-split-once-agrees : (s : Text) → split-once slash s ≡ cond (has_slash s) (some (at_first s)) none
+split-once-agrees : (s : Text) → split-once slash s ≡ cond (has_slash s) (Some (at_first s)) None
 unfolding has_slash before_slash behind_slash
 split-once-agrees [] = refl
 split-once-agrees (b ∷ s) = rw (← slash-test b, split-once-agrees s) (go (is_slash b) (has_slash s))
   where
     go : (t u : Bool)
-        → cond t (some (record { before = []; behind = s })) (map (longer b) (cond u (some (at_first s)) none))
-        ≡ cond (t || u) (some (record { before = cond t [] (b ∷ before_slash s); behind = cond t s (behind_slash s) })) none
+        → cond t (Some (record { before = []; behind = s })) (option_map (longer b) (cond u (Some (at_first s)) None))
+        ≡ cond (t || u) (Some (record { before = cond t [] (b ∷ before_slash s); behind = cond t s (behind_slash s) })) None
     go true u = refl
     go false true = refl
     go false false = refl
@@ -118,7 +118,7 @@ two-agree : (q : Text)
 two-agree q = rw split-once-agrees (go (has_slash q) refl)
   where
     go : (t : Bool) → has_slash q ≡ t
-        → next-and is-part (next-and is-rest (λ rest. true)) (splitn-from (splitn 1 slash) q (cond t (some (at_first q)) none))
+        → next-and is-part (next-and is-rest (λ rest. true)) (splitn-from (splitn 1 slash) q (cond t (Some (at_first q)) None))
         ≡ (non_empty (before_slash q) && is_local_name (behind_slash q))
     go true e = rw (nonempty-agrees (before_slash q), rest-agrees (behind_slash q), and-true)
     go false e = rw (no-slash-behind q e) (and-false (is-part q) ∙ sym (and-false (non_empty (before_slash q))))
@@ -128,7 +128,7 @@ unfolding has_three_parts before_slash
 path-agrees p = rw split-once-agrees (go (has_slash p) refl)
   where
     go : (t : Bool) → has_slash p ≡ t
-        → parts-valid (splitn-from (splitn 2 slash) p (cond t (some (at_first p)) none))
+        → parts-valid (splitn-from (splitn 2 slash) p (cond t (Some (at_first p)) None))
         ≡ (non_empty (before_slash p) && (non_empty (before_slash (behind_slash p)) && is_local_name (behind_slash (behind_slash p))))
     go true e = rw (nonempty-agrees (before_slash p)) (ap (λ (t : Bool). is-part (before_slash p) && t) (two-agree (behind_slash p)))
     go false e = rw (no-slash-behind p e) (and-false (is-part p) ∙ sym (and-false (non_empty (before_slash p))))
@@ -162,7 +162,7 @@ parent-agrees t m =
     ap (λ (o : Option Text). ok_or (InvalidParent t) o >>= tested t) (strip-agrees topic_scheme t) ∙ go (starts_with topic_scheme t) m
   where
     go : (u : Bool) → (u && is_marked_path (path_of t)) ≡ false
-        → (ok_or (InvalidParent t) (cond u (some (path_of t)) none) >>= tested t)
+        → (ok_or (InvalidParent t) (cond u (Some (path_of t)) None) >>= tested t)
         ≡ cond (u && is_path (path_of t)) (Ok (path_of t)) (Err (InvalidParent t))
     go true m = tested-agrees t (path_of t) m
     go false m = refl

@@ -3,24 +3,21 @@
 -- In order: the split at the last '/' (`rsplit-agrees`); the parts of a descriptor read (`parts-agree`); the stages of a name, the last
 -- first.
 -- Assumes nothing.
+use Rattle.std.specs.Prelude.{Option, Some, None}
 use Prim.Native.Nat.{ℕ, suc, ◌+◌, ◌-◌}
 use native.Mathlib.Omega.{arith}
 use mathlib.Core.Path.{◌≡◌, refl, sym, ap, ap₂, ◌∙◌}
 use mathlib.Core.Bool.{Bool, true, false, cond, not, ◌&&◌, ◌||◌, or-true, or-false}
 use mathlib.Core.List.{[], ◌∷◌, ◌++◌}
-use mathlib.Core.Option.{Option, some, none}
 use lib.ListN.{length, take, drop}
 use lib.Dec.{eqb}
 use Rattle.topic_types.specs.declared.KeyRange.{KeyRange}
 use Rattle.topic_types.specs.declared.KeyRangeError.{KeyRangeError}
-use Rattle.topic_types.specs.declared.RangeResult.{RangeResult}
-use Rattle.topic_types.specs.declared.RangeResult.TheVariants.{Valid, Invalid}
 use Rattle.topic_types.specs.KeyRanges.{new_key_range}
 use Rattle.refusal.specs.declared.Refusal.TheVariants as refusal
 use Rattle.slice.specs.Same.{same_bytes, starts_with}
 use Rattle.name_parents.specs.Parents.{topic_scheme, is_path, is_parent}
 use Rattle.name_topic.specs.Names.{segment_scheme}
-use Rattle.name_source.specs.declared.Parsed.TheVariants as parsed
 use Rattle.name_digits.specs.Digits.{decimal_value, hex_value, is_hex_word, is_segment_id}
 use Rattle.name_source.specs.Parse.{has_slash, before_last, start_part, end_part, id_part, is_descriptor}
 use Rattle.name_source.specs.Parse.{range_stage, descriptor_stage, parent_stage, parse_segment_topic}
@@ -43,7 +40,7 @@ use Rattle.rust_names.proofs.DescriptorAgrees.{word-agrees, id-agrees, sound, pa
 abbrev pub at_last : Text → Split
 at_last s = record { before = before_last s; behind = drop (length (before_last s) + 1) s }
 
-pub rsplit-agrees : (s : Text) → rsplit_once slash s ≡ cond (has_slash s) (some (at_last s)) none
+pub rsplit-agrees : (s : Text) → rsplit_once slash s ≡ cond (has_slash s) (Some (at_last s)) None
 unfolding has_slash before_last
 rsplit-agrees [] = refl
 rsplit-agrees (b ∷ s) = rw (rsplit-agrees s, slash-test b) (go (has_slash s))
@@ -52,8 +49,8 @@ rsplit-agrees (b ∷ s) = rw (rsplit-agrees s, slash-test b) (go (has_slash s))
     before t = cond t (b ∷ before_last s) []
 
     go : (t : Bool)
-        → rsplit-from slash b s (cond t (some (at_last s)) none)
-        ≡ cond (eqb b slash || t) (some (record { before = before t; behind = drop (length (before t) + 1) (b ∷ s) })) none
+        → rsplit-from slash b s (cond t (Some (at_last s)) None)
+        ≡ cond (eqb b slash || t) (Some (record { before = before t; behind = drop (length (before t) + 1) (b ∷ s) })) None
     go true = let e : suc (length (before_last s)) + 1 ≡ suc (length (before_last s) + 1) = omega arith in rw (or-true, e)
     go false = rw or-false
 
@@ -92,10 +89,10 @@ module _ (t parent : Text) where
       (is_hex_word x.start) (is_hex_word x.end) (is_segment_id x.id)
     where
       word : Text → Option ℕ
-      word s = cond (is_hex_word s) (some (hex_value s)) none
+      word s = cond (is_hex_word s) (Some (hex_value s)) None
 
       go : (a b c : ℕ) (u v w : Bool)
-          → with_parts (cond u (some a) none) (cond v (some b) none) (cond w (Ok c) (Err (InvalidSegment t)))
+          → with_parts (cond u (Some a) None) (cond v (Some b) None) (cond w (Ok c) (Err (InvalidSegment t)))
           ≡ cond (u && (v && w)) (with_range c (KeyRange-new a b)) (Err (InvalidSegment t))
       go a b c true true true = refl
       go a b c true true false = refl
@@ -117,10 +114,10 @@ module _ (t b : Text) (n : ℕ) (h : take (n - 10) (drop 10 t) ≡ b) where
   parent = topic_scheme ++ b
 
   -- 9
-  range-stage : (i : ℕ) (x : RangeResult) → map-err paper (with_range t parent i (range_of x)) ≡ read_of t (range_stage n i x)
+  range-stage : (i : ℕ) (x : Result KeyRange KeyRangeError) → map-err paper (with_range t parent i (range_of x)) ≡ read_of t (range_stage n i x)
   unfolding range_stage
-  range-stage i (Invalid e) = refl
-  range-stage i (Valid range) = ap (λ (l : Text). Ok (name_of l i range)) (sym h)
+  range-stage i (Err e) = refl
+  range-stage i (Ok range) = ap (λ (l : Text). Ok (name_of l i range)) (sym h)
 
   -- 18
   descriptor-stage : (d : Text) → map-err paper (with_text t parent d) ≡ read_of t (descriptor_stage n d)
@@ -132,12 +129,12 @@ module _ (t b : Text) (n : ℕ) (h : take (n - 10) (drop 10 t) ≡ b) where
       i : ℕ
       i = decimal_value (id_part d)
 
-      r : RangeResult
+      r : Result KeyRange KeyRangeError
       r = new_key_range (hex_value (start_part d)) (hex_value (end_part d))
 
       go : (u : Bool) → is_descriptor d ≡ u
           → map-err paper (cond u (with_descriptor t parent (parts_of d)) (Err (InvalidSegment t)))
-          ≡ read_of t (cond u (range_stage n i r) (parsed.Refused refusal.InvalidSegment))
+          ≡ read_of t (cond u (range_stage n i r) (Err refusal.InvalidSegment))
       go true q =
           let e : with_descriptor t parent (parts_of d) ≡ with_range t parent i (range_of r) =
           parts-agree t parent (parts_of d)
@@ -148,13 +145,13 @@ module _ (t b : Text) (n : ℕ) (h : take (n - 10) (drop 10 t) ≡ b) where
   -- 12
   parent-stage : (d : Text) → is_marked_path b ≡ false
       → map-err paper (canonical-parent-path parent >>= (λ ignored. with_text t parent d))
-      ≡ read_of t (cond (is_path b) (descriptor_stage n d) (parsed.Refused refusal.InvalidParent))
+      ≡ read_of t (cond (is_path b) (descriptor_stage n d) (Err refusal.InvalidParent))
   parent-stage d m =
       ap (λ (r : Result Text SegmentTopicError). map-err paper (r >>= (λ ignored. with_text t parent d))) (scheme-agrees b m) ∙ go (is_path b)
     where
       go : (u : Bool)
           → map-err paper (cond u (Ok b) (Err (InvalidParent parent)) >>= (λ ignored. with_text t parent d))
-          ≡ read_of t (cond u (descriptor_stage n d) (parsed.Refused refusal.InvalidParent))
+          ≡ read_of t (cond u (descriptor_stage n d) (Err refusal.InvalidParent))
       go true = descriptor-stage d
       go false = refl
 
@@ -170,15 +167,15 @@ module _ (t : Text) where
 
   slash-stage : is_marked_path (before_last (drop 10 t)) ≡ false
       → map-err paper (with_path (drop 10 t))
-      ≡ read_of t (cond (has_slash (drop 10 t)) (parent_stage (drop 10 t)) (parsed.Refused refusal.InvalidSegment))
+      ≡ read_of t (cond (has_slash (drop 10 t)) (parent_stage (drop 10 t)) (Err refusal.InvalidSegment))
   unfolding parent_stage
   slash-stage m =
       ap (λ (o : Option Split). map-err paper (ok_or (InvalidSegment t) o >>= with_halves)) (rsplit-agrees (drop 10 t))
       ∙ go (has_slash (drop 10 t))
     where
       go : (u : Bool)
-          → map-err paper (ok_or (InvalidSegment t) (cond u (some (at_last (drop 10 t))) none) >>= with_halves)
-          ≡ read_of t (cond u (parent_stage (drop 10 t)) (parsed.Refused refusal.InvalidSegment))
+          → map-err paper (ok_or (InvalidSegment t) (cond u (Some (at_last (drop 10 t))) None) >>= with_halves)
+          ≡ read_of t (cond u (parent_stage (drop 10 t)) (Err refusal.InvalidSegment))
       go true =
           let b : Text = before_last (drop 10 t) in
           let e : 10 + length b - 10 ≡ length b = omega arith in
@@ -192,7 +189,7 @@ parse-agrees t m =
     ∙ go (starts_with segment_scheme t) m
   where
     go : (u : Bool) → (u && is_marked_path (before_last (drop 10 t))) ≡ false
-        → map-err paper (ok_or (InvalidSegment t) (cond u (some (drop 10 t)) none) >>= with_path t)
-        ≡ read_of t (cond (u && has_slash (drop 10 t)) (parent_stage (drop 10 t)) (parsed.Refused refusal.InvalidSegment))
+        → map-err paper (ok_or (InvalidSegment t) (cond u (Some (drop 10 t)) None) >>= with_path t)
+        ≡ read_of t (cond (u && has_slash (drop 10 t)) (parent_stage (drop 10 t)) (Err refusal.InvalidSegment))
     go true m = slash-stage t m
     go false m = refl

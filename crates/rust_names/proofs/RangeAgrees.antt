@@ -15,22 +15,18 @@ use borrow.Author.Tests.{ltb-false, ne_eqb}
 use Rattle.topic_types.specs.declared.KeyRange.{KeyRange}
 use Rattle.topic_types.specs.declared.KeyRangeError.{KeyRangeError}
 use Rattle.topic_types.specs.declared.KeyRangeError.TheVariants.{StartOutOfBounds, EndOutOfBounds, Reversed}
-use Rattle.topic_types.specs.declared.RangeResult.{RangeResult}
-use Rattle.topic_types.specs.declared.RangeResult.TheVariants.{Valid, Invalid}
 use Rattle.topic_types.specs.declared.ScalableConsumerType.TheVariants.{Stream, Checkpoint}
 use Rattle.topic_types.specs.KeyRanges.{max_hash, key_range, new_key_range}
 use Rattle.topic_types.specs.ConsumerTypes.{to_wire, from_wire}
 use Rattle.topic_types.proofs.KeyRangeLaws.{Makes, new-valid}
 use Rattle.refusal.specs.declared.Refusal.TheVariants.{InvalidKeyRange}
 use Rattle.refusal.specs.Steps.{take_range}
-use Rattle.ranges_calls.specs.declared.LengthAnswer.TheVariants as length_answer
-use Rattle.ranges_calls.specs.declared.TestAnswer.{TestAnswer}
-use Rattle.ranges_calls.specs.declared.TestAnswer.TheVariants as test
 use Rattle.ranges_calls.specs.Calls.{values_in, holds_range, touches, length_of, contains_of, contains_range_of, is_adjacent_of}
 use Rattle.rust_magnetar.specs.Result.{Result, Ok, Err, ◌>>=◌, map-err}
 use Rattle.rust_magnetar.specs.Ranges.{MAX-HASH, KeyRange-new, KeyRange-len, KeyRange-contains, KeyRange-contains-range, KeyRange-is-adjacent-to}
 use Rattle.rust_names.specs.Agree.{both, range_of, length_result, test_result, NewAgrees, LengthAgrees, ContainsAgrees, ContainsRangeAgrees}
 use Rattle.rust_names.specs.Agree.{AdjacentAgrees, ToWireAgrees, FromWireAgrees}
+use Rattle.refusal.specs.declared.Refusal.{Refusal}
 
 pub new-agrees : NewAgrees
 unfolding new_key_range
@@ -39,7 +35,7 @@ new-agrees s e = go (ltb max_hash s) (ltb max_hash e) (ltb e s)
     go : (t u v : Bool)
         → cond t (Err (StartOutOfBounds s)) (cond u (Err (EndOutOfBounds e)) (cond v (Err (Reversed s e)) (Ok (key_range s e))))
         ≡ range_of
-        (cond t (Invalid (StartOutOfBounds s)) (cond u (Invalid (EndOutOfBounds e)) (cond v (Invalid (Reversed s e)) (Valid (key_range s e)))))
+        (cond t (Err (StartOutOfBounds s)) (cond u (Err (EndOutOfBounds e)) (cond v (Err (Reversed s e)) (Ok (key_range s e)))))
     go true u v = refl
     go false true v = refl
     go false false true = refl
@@ -48,12 +44,12 @@ new-agrees s e = go (ltb max_hash s) (ltb max_hash e) (ltb e s)
 pub new-bounds : (s e : ℕ) (r : KeyRange) → KeyRange-new s e ≡ Ok r → Makes s e r
 new-bounds s e r made = go (new_key_range s e) refl (sym (new-agrees s e) ∙ made)
   where
-    go : (x : RangeResult) → new_key_range s e ≡ x → range_of x ≡ Ok r → Makes s e r
-    go (Valid range) p q = let z : range ≡ r = cc in new-valid s e r (p ∙ ap Valid z)
-    go (Invalid error) p q = let z : ◌≡◌ {A = ℕ} 0 1 = cc in absurd (omega arith)
+    go : (x : Result KeyRange KeyRangeError) → new_key_range s e ≡ x → range_of x ≡ Ok r → Makes s e r
+    go (Ok range) p q = let z : range ≡ r = cc in new-valid s e r (p ∙ ap Ok z)
+    go (Err error) p q = let z : ◌≡◌ {A = ℕ} 0 1 = cc in absurd (omega arith)
 
 -- the range that this port makes is made by the Rust of its own ends
-pub valid-made : (s e : ℕ) (r : KeyRange) → new_key_range s e ≡ Valid r → KeyRange-new r.start r.end ≡ Ok r
+pub valid-made : (s e : ℕ) (r : KeyRange) → new_key_range s e ≡ Ok r → KeyRange-new r.start r.end ≡ Ok r
 valid-made s e r v =
     let m = (new-valid s e r v).made in
     ap (λ (x : KeyRange). KeyRange-new x.start x.end) m ∙ new-agrees s e ∙ ap range_of v
@@ -66,9 +62,9 @@ length-agrees s e =
     ap (λ (r : Result KeyRange KeyRangeError). map-err InvalidKeyRange (r >>= (λ range. Ok (KeyRange-len range)))) (new-agrees s e)
     ∙ go (new_key_range s e)
   where
-    go : (x : RangeResult) → map-err InvalidKeyRange (range_of x >>= (λ range. Ok (KeyRange-len range))) ≡ length_result (take_range length_answer.Refused x (λ r. length_answer.Length (values_in r)))
-    go (Valid range) = refl
-    go (Invalid error) = refl
+    go : (x : Result KeyRange KeyRangeError) → map-err InvalidKeyRange (range_of x >>= (λ range. Ok (KeyRange-len range))) ≡ length_result (take_range Err x (λ r. Ok (values_in r)))
+    go (Ok range) = refl
+    go (Err error) = refl
 
 pub contains-agrees : ContainsAgrees
 unfolding contains_of
@@ -78,33 +74,33 @@ contains-agrees s e hash =
     told : KeyRange → Result Bool KeyRangeError
     told range = Ok (KeyRange-contains range hash)
 
-    go : (x : RangeResult) → map-err InvalidKeyRange (range_of x >>= told)
-        ≡ test_result (take_range test.Refused x (λ range. test.Answered (KeyRange-contains range hash)))
-    go (Valid range) = refl
-    go (Invalid error) = refl
+    go : (x : Result KeyRange KeyRangeError) → map-err InvalidKeyRange (range_of x >>= told)
+        ≡ test_result (take_range Err x (λ range. Ok (KeyRange-contains range hash)))
+    go (Ok range) = refl
+    go (Err error) = refl
 
 -- ---- calls on two ranges
 
 module _ (s e os oe : ℕ) (f g : KeyRange → KeyRange → Bool) where
-  abbrev answer : (x y : RangeResult) → TestAnswer
-  answer x y = take_range test.Refused x (λ a. take_range test.Refused y (λ b. test.Answered (g a b)))
+  abbrev answer : (x y : Result KeyRange KeyRangeError) → Result Bool Refusal
+  answer x y = take_range Err x (λ a. take_range Err y (λ b. Ok (g a b)))
 
   second : Result KeyRange KeyRangeError → KeyRange → Result Bool KeyRangeError
   second y a = y >>= (λ b. Ok (f a b))
 
   -- two tests that agree on the ranges that the ends make
-  both-agree : ((a b : KeyRange) → new_key_range s e ≡ Valid a → new_key_range os oe ≡ Valid b → f a b ≡ g a b)
+  both-agree : ((a b : KeyRange) → new_key_range s e ≡ Ok a → new_key_range os oe ≡ Ok b → f a b ≡ g a b)
       → map-err InvalidKeyRange (both f s e os oe) ≡ test_result (answer (new_key_range s e) (new_key_range os oe))
   unfolding second
   both-agree h =
       ap₂ (λ (x y : Result KeyRange KeyRangeError). map-err InvalidKeyRange (x >>= second y)) (new-agrees s e) (new-agrees os oe)
       ∙ go (new_key_range s e) (new_key_range os oe) h
     where
-      go : (x y : RangeResult) → ((a b : KeyRange) → x ≡ Valid a → y ≡ Valid b → f a b ≡ g a b)
+      go : (x y : Result KeyRange KeyRangeError) → ((a b : KeyRange) → x ≡ Ok a → y ≡ Ok b → f a b ≡ g a b)
           → map-err InvalidKeyRange (range_of x >>= second (range_of y)) ≡ test_result (answer x y)
-      go (Invalid error) y k = refl
-      go (Valid a) (Invalid error) k = refl
-      go (Valid a) (Valid b) k = ap (λ (t : Bool). Ok t) (k a b refl refl)
+      go (Err error) y k = refl
+      go (Ok a) (Err error) k = refl
+      go (Ok a) (Ok b) k = ap (λ (t : Bool). Ok t) (k a b refl refl)
 
 pub contains-range-agrees : ContainsRangeAgrees
 unfolding contains_range_of
@@ -121,7 +117,7 @@ behind-agrees n m h = go (ltb n MAX-HASH) refl
 touches-agrees : (a b : KeyRange) → a.start ≤ max_hash → b.start ≤ max_hash → KeyRange-is-adjacent-to a b ≡ touches a b
 touches-agrees a b h k = rw (behind-agrees a.end b.start k, behind-agrees b.end a.start h)
 
-start-bound : (s e : ℕ) (r : KeyRange) → new_key_range s e ≡ Valid r → r.start ≤ max_hash
+start-bound : (s e : ℕ) (r : KeyRange) → new_key_range s e ≡ Ok r → r.start ≤ max_hash
 start-bound s e r p = let m = new-valid s e r p in omega (arith, m.order, m.bound)
 
 pub adjacent-agrees : AdjacentAgrees

@@ -3,12 +3,12 @@
 -- In order: errors renamed before or behind a `?` (`map-err-bind`); `SegmentSource::new`; `parent_topic`, which cuts off what is behind the
 -- last '/' of the whole name (`cut-path`); the parent of a name.
 -- Assumes nothing.
+use Rattle.std.specs.Prelude.{Some}
 use Prim.Native.Nat.{ℕ, ◌+◌, ◌-◌}
 use native.Mathlib.Omega.{arith}
 use mathlib.Core.Path.{◌≡◌, refl, sym, ap, ap₂, ◌∙◌}
 use mathlib.Core.Bool.{Bool, true, false, cond, not}
 use mathlib.Core.List.{List, [], ◌∷◌, ◌++◌}
-use mathlib.Core.Option.{some}
 use lib.ListN.{length, take, drop, length-drop, take-append-drop}
 use lib.Dec.{eqb}
 use borrow.Author.Tests.{eq-eqb}
@@ -21,9 +21,6 @@ use Rattle.slice.proofs.SameLaws.{same-eq}
 use Rattle.name_parents.specs.Parents.{topic_scheme}
 use Rattle.name_topic.specs.Names.{segment_scheme}
 use Rattle.name_topic.specs.Build.{written}
-use Rattle.name_source.specs.declared.Parsed.{Parsed}
-use Rattle.name_source.specs.declared.Parsed.TheVariants as parsed
-use Rattle.name_source.specs.declared.SourceAnswer.TheVariants as source
 use Rattle.name_source.specs.Parse.{has_slash, before_last, parse_segment_topic, parse_text, source_stage, segment_source}
 use Rattle.name_source.specs.Parse.{parent_outcome, parent_topic}
 use Rattle.name_source.proofs.SlashLaws.{before-last-inside, before-last-take}
@@ -51,15 +48,15 @@ module _ (id : SegmentId) (t : Text) (m : is_marked_name t ≡ false) where
       cond (not (eqb x.id.0 id.0)) (Err (SegmentIdMismatch id x.id))
       (Ok (record { segment-id = id; topic = t; key-range = x.key-range }))
 
-  source-stage : (x : Parsed) → (read_of t x >>= (λ (y : ParsedTopic). map-err paper (with_id y))) ≡ source_of t (source_stage id x)
+  source-stage : (x : Result (ℕ × KeyRange × SegmentId) Refusal) → (read_of t x >>= (λ (y : ParsedTopic). map-err paper (with_id y))) ≡ source_of t (source_stage id x)
   unfolding source_stage
-  source-stage (parsed.Refused x) = refl
-  source-stage (parsed.Name n range i) = go (eqb i.0 id.0)
+  source-stage (Err x) = refl
+  source-stage (Ok (n, range, i)) = go (eqb i.0 id.0)
     where
       go : (u : Bool)
           → map-err paper (cond (not u) (Err (SegmentIdMismatch id i)) (Ok (record { segment-id = id; topic = t; key-range = range })))
           ≡ source_of t
-          (cond u (source.Source (record { segment_id = id; key_range = range })) (source.Refused (refusal.SegmentIdMismatch id i)))
+          (cond u (Ok (record { segment_id = id; key_range = range })) (Err (refusal.SegmentIdMismatch id i)))
       go true = refl
       go false = refl
 
@@ -75,8 +72,8 @@ source-agrees id t u m = rw u (source-read id t m)
 
 -- ---- the path of a name
 
-rsplit-append : (q p : Text) (x : Split) → rsplit_once slash p ≡ some x
-    → rsplit_once slash (q ++ p) ≡ some (record { before = q ++ x.before; behind = x.behind })
+rsplit-append : (q p : Text) (x : Split) → rsplit_once slash p ≡ Some x
+    → rsplit_once slash (q ++ p) ≡ Some (record { before = q ++ x.before; behind = x.behind })
 rsplit-append [] p x e = e
 rsplit-append (b ∷ q) p x e = rw (rsplit-append q p x e)
 
@@ -91,9 +88,9 @@ cut-path : (t : Text) → starts_with segment_scheme t ≡ true → has_slash (d
 cut-path t h k =
     let p : Text = drop 10 t in
     let n : ℕ = length (before_last p) in
-    let s : rsplit_once slash p ≡ some (at_last p) = rsplit-agrees p ∙ rw k in
+    let s : rsplit_once slash p ≡ Some (at_last p) = rsplit-agrees p ∙ rw k in
     let e = ap (rsplit_once slash) (starts-split segment_scheme t h) ∙ rsplit-append segment_scheme p (at_last p) s in
-    let f : strip-prefix segment_scheme t ≡ some p = strip-agrees segment_scheme t ∙ rw h in
+    let f : strip-prefix segment_scheme t ≡ Some p = strip-agrees segment_scheme t ∙ rw h in
     let i = before-last-inside p k in
     let g : length p - (length (drop (n + 1) p) + 1) ≡ n = omega (arith, length-drop (n + 1) p) in
     ap₂ without_end (ap behind-length e) f ∙ ap (λ (m : ℕ). take m p) g ∙ before-last-take p
@@ -104,11 +101,11 @@ module _ (t : Text) (m : is_marked_name t ≡ false) where
   abbrev with_source : Result SegmentSource SegmentTopicError → Result Text SegmentTopicError
   with_source r = r >>= (λ made. Ok (parent-topic made))
 
-  abbrev parent_read : Parsed → Result Text Refusal
-  parent_read (parsed.Refused x) = Err x
-  parent_read (parsed.Name n range id) = Ok (topic_scheme ++ take (n - 10) (drop 10 t))
+  abbrev parent_read : Result (ℕ × KeyRange × SegmentId) Refusal → Result Text Refusal
+  parent_read (Err x) = Err x
+  parent_read (Ok (n, range, id)) = Ok (topic_scheme ++ take (n - 10) (drop 10 t))
 
-  module _ (n : ℕ) (range : KeyRange) (id : SegmentId) (e : parse_segment_topic t ≡ parsed.Name n range id) where
+  module _ (n : ℕ) (range : KeyRange) (id : SegmentId) (e : parse_segment_topic t ≡ Ok (n, range, id)) where
     own-id : map-err paper (SegmentSource-new id t) ≡ Ok (record { segment-id = id; topic = t; key-range = range })
     unfolding source_stage
     own-id = source-read id t m ∙ rw (e, eq-eqb id.0 id.0 refl)
@@ -134,20 +131,20 @@ module _ (t : Text) (m : is_marked_name t ≡ false) where
       own : ParsedTopic → Result Text Refusal
       own name = map-err paper (with_source (SegmentSource-new name.id t))
 
-      go : (x : Parsed) → parse_segment_topic t ≡ x → (read_of t x >>= own) ≡ parent_read x
-      go (parsed.Refused x) p = refl
-      go (parsed.Name n range id) p = own-parent n range id p
+      go : (x : Result (ℕ × KeyRange × SegmentId) Refusal) → parse_segment_topic t ≡ x → (read_of t x >>= own) ≡ parent_read x
+      go (Err x) p = refl
+      go (Ok (n, range, id)) p = own-parent n range id p
 
-  parent-stage : (out : List ℕ) (x : Parsed) (r : Result Text SegmentTopicError) → map-err paper r ≡ parent_read x
+  parent-stage : (out : List ℕ) (x : Result (ℕ × KeyRange × SegmentId) Refusal) (r : Result Text SegmentTopicError) → map-err paper r ≡ parent_read x
       → Gives out (parent_outcome t out x) r
   unfolding parent_outcome
-  parent-stage out (parsed.Refused x) (Ok text) e = λ h. cc
-  parent-stage out (parsed.Refused x) (Err error) e = λ h. cc
-  parent-stage out (parsed.Name n range id) (Ok text) e =
+  parent-stage out (Err x) (Ok text) e = λ h. cc
+  parent-stage out (Err x) (Err error) e = λ h. cc
+  parent-stage out (Ok (n, range, id)) (Ok text) e =
       let path : Text = take (n - 10) (drop 10 t) in
       let q : text ≡ topic_scheme ++ path = cc in
       gives-by out (written (topic_scheme ++ path) out) (ap (λ (l : Text). Ok l) q) (gives-text (topic_scheme ++ path) out)
-  parent-stage out (parsed.Name n range id) (Err error) e = λ h. cc
+  parent-stage out (Ok (n, range, id)) (Err error) e = λ h. cc
 
 pub parent-topic-agrees : ParentTopicAgrees
 unfolding parent_topic parse_text parent_outcome

@@ -10,29 +10,18 @@ use Rattle.std.specs.Prelude.{ℕ, ◌-◌, ◌≡◌, Bool, true, false, cond, 
 use Rattle.topic_types.specs.declared.KeyRange.{KeyRange}
 use Rattle.topic_types.specs.declared.KeyRangeError.{KeyRangeError}
 use Rattle.topic_types.specs.declared.SegmentId.{SegmentId}
-use Rattle.topic_types.specs.declared.RangeResult.{RangeResult}
-use Rattle.topic_types.specs.declared.RangeResult.TheVariants.{Valid, Invalid}
 use Rattle.topic_types.specs.declared.ScalableConsumerType.{ScalableConsumerType}
 use Rattle.topic_types.specs.KeyRanges.{new_key_range}
 use Rattle.topic_types.specs.ConsumerTypes.{to_wire, from_wire}
 use Rattle.refusal.specs.declared.Refusal.{Refusal}
 use Rattle.refusal.specs.declared.Refusal.TheVariants as refusal
-use Rattle.ranges_calls.specs.declared.LengthAnswer.{LengthAnswer}
-use Rattle.ranges_calls.specs.declared.LengthAnswer.TheVariants as lengths
-use Rattle.ranges_calls.specs.declared.TestAnswer.{TestAnswer}
-use Rattle.ranges_calls.specs.declared.TestAnswer.TheVariants as tests
 use Rattle.ranges_calls.specs.Calls.{length_of, contains_of, contains_range_of, is_adjacent_of}
 use Rattle.slice_int.specs.Put.{put}
 use Rattle.slice.specs.Same.{starts_with}
 use Rattle.utf8.specs.Table.{is_utf8}
-use Rattle.name_topic.specs.declared.NameAnswer.TheVariants.{Written}
 use Rattle.name_parents.specs.Parents.{topic_scheme, has_three_parts, front_clean, is_parent, path_of}
 use Rattle.name_topic.specs.Names.{segment_scheme, segment_scheme_size, segment_topic}
 use Rattle.name_topic.specs.Build.{NameOutcome, name_outcome, refuse, canonical_segment_topic}
-use Rattle.name_source.specs.declared.Parsed.{Parsed}
-use Rattle.name_source.specs.declared.Parsed.TheVariants as parsed
-use Rattle.name_source.specs.declared.SourceAnswer.{SourceAnswer}
-use Rattle.name_source.specs.declared.SourceAnswer.TheVariants as source
 use Rattle.name_source.specs.Parse.{before_last, parse_segment_topic, segment_source, parent_topic}
 use Rattle.rust_magnetar.specs.Result.{Result, Ok, Err, ◌>>=◌, map-err}
 use Rattle.rust_magnetar.specs.Text.{Text}
@@ -84,7 +73,7 @@ SegmentTopicAgrees =
 
 -- a call with an output: the text at its front and the text's length, or a refusal and the output as it was
 abbrev pub outcome_of : List ℕ → Result Text SegmentTopicError → NameOutcome
-outcome_of out (Ok text) = name_outcome (Written (length text)) (put out 0 text)
+outcome_of out (Ok text) = name_outcome (Ok (length text)) (put out 0 text)
 outcome_of out (Err error) = refuse (paper error) out
 
 -- what the Rust gives fits the output
@@ -106,18 +95,18 @@ BuildAgrees =
 -- ---- names read
 
 -- a name as it was read: its parent is `topic://` and the path that ends at the answered place
-abbrev pub read_of : Text → Parsed → Result ParsedTopic Refusal
-read_of t (parsed.Name path_end range id) =
+abbrev pub read_of : Text → Result (ℕ × KeyRange × SegmentId) Refusal → Result ParsedTopic Refusal
+read_of t (Ok (path_end, range, id)) =
     Ok (record { parent = topic_scheme ++ take (path_end - segment_scheme_size) (drop segment_scheme_size t); key-range = range; id = id })
-read_of t (parsed.Refused x) = Err x
+read_of t (Err x) = Err x
 
 -- `parse_segment_topic`
 abbrev pub ParseAgrees : Type 0
 ParseAgrees = (t : Text) → is_marked_name t ≡ false → map-err paper (parse-segment-topic t) ≡ read_of t (parse_segment_topic t)
 
-abbrev pub source_of : Text → SourceAnswer → Result SegmentSource Refusal
-source_of t (source.Source s) = Ok (record { segment-id = s.segment_id; topic = t; key-range = s.key_range })
-source_of t (source.Refused x) = Err x
+abbrev pub source_of : Text → Result SegmentSource Refusal → Result SegmentSource Refusal
+source_of t (Ok s) = Ok (record { segment-id = s.segment_id; topic = t; key-range = s.key_range })
+source_of t (Err x) = Err x
 
 -- `SegmentSource::new`
 abbrev pub SourceAgrees : Type 0
@@ -139,17 +128,17 @@ ParentTopicAgrees =
 
 -- ---- ranges given by their ends
 
-abbrev pub range_of : RangeResult → Result KeyRange KeyRangeError
-range_of (Valid range) = Ok range
-range_of (Invalid error) = Err error
+abbrev pub range_of : Result KeyRange KeyRangeError → Result KeyRange KeyRangeError
+range_of (Ok range) = Ok range
+range_of (Err error) = Err error
 
-abbrev pub length_result : LengthAnswer → Result ℕ Refusal
-length_result (lengths.Length n) = Ok n
-length_result (lengths.Refused x) = Err x
+abbrev pub length_result : Result ℕ Refusal → Result ℕ Refusal
+length_result (Ok n) = Ok n
+length_result (Err x) = Err x
 
-abbrev pub test_result : TestAnswer → Result Bool Refusal
-test_result (tests.Answered b) = Ok b
-test_result (tests.Refused x) = Err x
+abbrev pub test_result : Result Bool Refusal → Result Bool Refusal
+test_result (Ok b) = Ok b
+test_result (Err x) = Err x
 
 -- `KeyRange::new`
 abbrev pub NewAgrees : Type 0

@@ -1,5 +1,6 @@
 -- The statements of specs/FromOpen: what an accepted open leaves (crates/session_open/specs/Opened) is what each demand starts from.
 -- Assumes nothing.
+use Rattle.std.specs.Prelude.{Ok}
 use Prim.Native.Nat.{ℕ, ◌≤◌}
 use mathlib.Core.Path.{◌≡◌, refl, sym, ap, ◌∙◌, subst}
 use mathlib.Core.List.{List, []}
@@ -37,7 +38,7 @@ module _ (consumer : ℕ) (incarnation : ControllerIncarnation) (i : Identity) (
   abbrev left : OpenOutcome
   left = open_outcome consumer incarnation i st
 
-  module _ (e : left.answer ≡ answer.Accepted) where
+  module _ (e : left.answer ≡ Ok answer.Accepted) where
     leaves : Accepted consumer incarnation i st left
     leaves = (open-tied consumer incarnation i st).accepted (ap is_accepted e)
 

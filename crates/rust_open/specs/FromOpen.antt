@@ -4,7 +4,7 @@
 --
 -- The three statements of demand 2 are those of crates/rust_session/specs/Demand, that of demand 3 the one of crates/session/specs/DemandThree.
 -- Assumes nothing.
-use Rattle.std.specs.Prelude.{ℕ, ◌<◌, ◌≤◌, ◌≡◌, true, false, List, [], length}
+use Rattle.std.specs.Prelude.{ℕ, ◌<◌, ◌≤◌, ◌≡◌, true, false, List, [], length, Ok}
 use Rattle.topic_types.specs.declared.ControllerIncarnation.{ControllerIncarnation}
 use Rattle.packed.specs.Assignment.{slot_size}
 use Rattle.session.specs.declared.Answer.TheVariants.{Accepted}
@@ -27,7 +27,7 @@ new_caller consumer incarnation i =
 abbrev pub OpensNew : Type 0
 OpensNew =
     (consumer : ℕ) (incarnation : ControllerIncarnation) (i : Identity) (store : List ℕ) → let o = open_outcome consumer incarnation i store in
-    o.answer ≡ Accepted → opened o.next o.store ≡ new_caller consumer incarnation i
+    o.answer ≡ Ok Accepted → opened o.next o.store ≡ new_caller consumer incarnation i
 
 -- ---- demand 2
 
@@ -35,7 +35,7 @@ OpensNew =
 abbrev pub DemandTwoFedFromOpen : Type 0
 DemandTwoFedFromOpen =
     (consumer : ℕ) (incarnation : ControllerIncarnation) (i : Identity) (store : List ℕ) → let o = open_outcome consumer incarnation i store in
-    o.answer ≡ Accepted → is_marked i.topic ≡ false
+    o.answer ≡ Ok Accepted → is_marked i.topic ≡ false
     → (calls : List Call) → AllOfBytes calls → (reader : ℕ) → one_reader reader calls ≡ true
     → fed_shown reader o.next o.store calls ≡ rust_run (new_caller consumer incarnation i) (fed_calls o.next o.store calls)
 
@@ -43,7 +43,7 @@ DemandTwoFedFromOpen =
 abbrev pub DemandTwoFromOpen : Type 0
 DemandTwoFromOpen =
     (consumer : ℕ) (incarnation : ControllerIncarnation) (i : Identity) (store : List ℕ) → let o = open_outcome consumer incarnation i store in
-    o.answer ≡ Accepted → is_marked i.topic ≡ false
+    o.answer ≡ Ok Accepted → is_marked i.topic ≡ false
     → (calls : List Call) → AllOfBytes calls → (reader : ℕ) → one_reader reader calls ≡ true → none_ours o.next o.store calls ≡ true
     → port_run reader o.next o.store calls ≡ rust_run (new_caller consumer incarnation i) calls
 
@@ -51,7 +51,7 @@ DemandTwoFromOpen =
 abbrev pub DemandTwoOfInputsFromOpen : Type 0
 DemandTwoOfInputsFromOpen =
     (consumer : ℕ) (incarnation : ControllerIncarnation) (i : Identity) (store : List ℕ) → let o = open_outcome consumer incarnation i store in
-    o.answer ≡ Accepted → is_marked i.topic ≡ false → (room : ℕ) → room ≤ slot_size → store_for room ≤ length store
+    o.answer ≡ Ok Accepted → is_marked i.topic ≡ false → (room : ℕ) → room ≤ slot_size → store_for room ≤ length store
     → (calls : List Call) → AllOfBytes calls → (reader : ℕ) → one_reader reader calls ≡ true → all_roomy room i.topic calls ≡ true
     → (none_ours o.next o.store calls ≡ true)
     × (port_run reader o.next o.store calls ≡ rust_run (new_caller consumer incarnation i) calls)
@@ -61,6 +61,6 @@ DemandTwoOfInputsFromOpen =
 abbrev pub DemandThreeFromOpen : Type 0
 DemandThreeFromOpen =
     (consumer : ℕ) (incarnation : ControllerIncarnation) (i : Identity) (store : List ℕ) → let o = open_outcome consumer incarnation i store in
-    o.answer ≡ Accepted → (reader : ℕ) → reader < readers → (calls : List Call) → AllOfBytes calls
+    o.answer ≡ Ok Accepted → (reader : ℕ) → reader < readers → (calls : List Call) → AllOfBytes calls
     → let events = trace o.next o.store calls in let end = final o.next o.store calls in
     all_drained reader events ≡ true → Claim (held end) end.state.epoch_floor (watch reader unseen events)

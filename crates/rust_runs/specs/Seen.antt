@@ -1,9 +1,7 @@
 -- Public: what is seen of a run of the transcribed Rust, in the numbers that the program station prints: the answer,
 -- the list held, floor, incarnation and flags.
 -- Assumes nothing.
-use Rattle.std.specs.Prelude.{ℕ, Bool, List, [], ◌∷◌, map, ℤ}
-use Rattle.std.proofs.Math.Option
-use Rattle.std.proofs.Math.Option.{Option}
+use Rattle.std.specs.Prelude.{ℕ, Bool, List, [], ◌∷◌, map, ℤ, option_map, Option}
 use Rattle.topic_types.specs.declared.ControllerIncarnation.{ControllerIncarnation}
 use Rattle.topic_types.specs.declared.KeyRange.{KeyRange}
 use Rattle.topic_types.specs.declared.SegmentId.{SegmentId}
@@ -53,7 +51,7 @@ abbrev pub seen_of : Shown → Seen
 seen_of x =
     record {
       line = line_of x.answered;
-      held = Option.map list_of x.assignment;
+      held = option_map list_of x.assignment;
       floor = x.epoch-floor;
       link = x.incarnation.0;
       registered = x.registered;

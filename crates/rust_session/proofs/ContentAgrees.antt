@@ -4,12 +4,12 @@
 -- The Rust keeps the ids in a set, pushes each segment and sorts at the end; this port inserts each in its place. In order: the loop
 -- (`segments-agree`); sorting with one more at the end (`sort-snoc`); the sorted segments are the inserted ones (`order-agrees`).
 -- Assumes nothing.
+use Rattle.std.specs.Prelude.{Option, Some, None}
 use Prim.Native.Nat.{ℕ}
 use native.Mathlib.Omega.{arith}
 use mathlib.Core.Path.{◌≡◌, refl, ap, sym, ◌∙◌, subst}
 use mathlib.Core.Bool.{Bool, true, false, cond, not, true≢false, not-not}
 use mathlib.Core.List.{List, [], ◌∷◌, ◌++◌, map, append_assoc, append-nil}
-use mathlib.Core.Option.{Option, some, none}
 use lib.Dec.{eqb, ltb, leb}
 use borrow.Author.Tests.{ltb-true, ltb-false, leb-true, leb-false, eqb-false, le-leb, lt-leb}
 use Rattle.topic_types.specs.declared.SegmentId.{SegmentId}
@@ -47,7 +47,7 @@ same-ids : (ids : List SegmentId) (seen : List ℕ) (id : SegmentId) → SameIds
     → SameIds (BTreeSet-insert SegmentId-cmp id ids) (id.0 ∷ seen)
 same-ids ids seen id h k = ap (holds id-key k) (insert-agrees id ids) ∙ ap is_some (find-insert id-key k id ids) ∙ go (eqb k id.0)
   where
-    go : (t : Bool) → is_some (cond t (some id) (find id-key k ids)) ≡ is_some (cond t (some id.0) (find self k seen))
+    go : (t : Bool) → is_some (cond t (Some id) (find id-key k ids)) ≡ is_some (cond t (Some id.0) (find self k seen))
     go true = refl
     go false = h k
 
@@ -60,7 +60,7 @@ module _ (parent : Text) (m : is_marked parent ≡ false) where
   segments-agree : (ws : List WireSegment) (segments : List AssignedSegment) (ids : List SegmentId) (seen : List ℕ) → SameIds ids seen
       → Agreed Ours paper (segments-loop parent ws segments ids) (first_refusal parent seen ws) (segments ++ as_they_came parent ws)
   unfolding first_refusal assigned_segment
-  segments-agree [] segments ids seen h = Agreed.agree (ap (λ l. verdict none l) (sym (append-nil segments)))
+  segments-agree [] segments ids seen h = Agreed.agree (ap (λ l. verdict None l) (sym (append-nil segments)))
   segments-agree (w ∷ ws) segments ids seen h =
       seq-agreed Ours paper (AssignedSegment-try-from-pb w parent) (segment_fault parent w) x (segment-agrees parent m w) _
       (or_else (duplicate_fault seen w) later) (segments ++ (x ∷ as_they_came parent ws)) (λ n.
@@ -120,7 +120,7 @@ insert-insert x y n (z ∷ l) = go (id-le x z) refl (id-le y z) refl (id-le x y)
     go false t false u c v ih = simp (t, u) (ap (z ∷◌) ih)
 
 -- a key that is not held is not that of the first, and not held further on
-not_first : {A : Type 0} (b : Bool) (x : A) (o : Option A) → is_some (cond b (some x) o) ≡ false → (b ≡ false) × (is_some o ≡ false)
+not_first : {A : Type 0} (b : Bool) (x : A) (o : Option A) → is_some (cond b (Some x) o) ≡ false → (b ≡ false) × (is_some o ≡ false)
 not_first true x o e = absurd (true≢false e)
 not_first false x o e = (refl, e)
 
@@ -131,15 +131,15 @@ holds-insert k x (y ∷ ys) =
     choose (λ l. holds segment-key k l ≡ holds segment-key k (x ∷ (y ∷ ys))) (id-le x y) (λ t. refl)
     (λ t. over (eqb k (segment-key y)) (eqb k (segment-key x)) (holds-insert k x ys))
   where
-    over : (b c : Bool) → holds segment-key k (insert-by id-le x ys) ≡ is_some (cond c (some x) (find segment-key k ys))
-        → is_some (cond b (some y) (find segment-key k (insert-by id-le x ys)))
-        ≡ is_some (cond c (some x) (cond b (some y) (find segment-key k ys)))
+    over : (b c : Bool) → holds segment-key k (insert-by id-le x ys) ≡ is_some (cond c (Some x) (find segment-key k ys))
+        → is_some (cond b (Some y) (find segment-key k (insert-by id-le x ys)))
+        ≡ is_some (cond c (Some x) (cond b (Some y) (find segment-key k ys)))
     over true true e = refl
     over true false e = refl
     over false c e = e
 
 both_some : {A B : Type 0} (b : Bool) (x : A) (y : B) (o : Option A) (p : Option B) → is_some o ≡ is_some p
-    → is_some (cond b (some x) o) ≡ is_some (cond b (some y) p)
+    → is_some (cond b (Some x) o) ≡ is_some (cond b (Some y) p)
 both_some true x y o p e = refl
 both_some false x y o p e = e
 
@@ -187,7 +187,7 @@ module _ (parent : Text) where
       (holds_as k ys)
 
   order-agrees : (ws : List WireSegment) (segments : List AssignedSegment) (seen : List ℕ) (done : List port.AssignedSegment)
-      → sort-by id-le segments ≡ map (as_segment parent) done → SeenIds seen done → first_refusal parent seen ws ≡ none
+      → sort-by id-le segments ≡ map (as_segment parent) done → SeenIds seen done → first_refusal parent seen ws ≡ None
       → sort-by id-le (segments ++ as_they_came parent ws) ≡ map (as_segment parent) (in_id_order done ws)
   unfolding in_id_order
   order-agrees [] segments seen done e s n = ap (sort-by id-le) (append-nil segments) ∙ e
@@ -225,9 +225,9 @@ content-agrees parent a m =
     subst (λ o. Agreed Ours paper (ConsumerAssignment-try-from-pb a parent) o (as_assignment parent (consumer_assignment a)))
     (or-none (first_refusal parent [] a.segments))
     (seq-agreed Ours paper (segments-loop parent a.segments [] []) (first_refusal parent [] a.segments) (as_they_came parent a.segments)
-    (segments-agree parent m a.segments [] [] [] (λ k. refl)) _ none (as_assignment parent (consumer_assignment a))
+    (segments-agree parent m a.segments [] [] [] (λ k. refl)) _ None (as_assignment parent (consumer_assignment a))
     (λ n.
-    Agreed.agree (ap (λ l. verdict none (record { layout-epoch = a.layout_epoch; segments = l }))
+    Agreed.agree (ap (λ l. verdict None (record { layout-epoch = a.layout_epoch; segments = l }))
     (order-agrees parent a.segments [] [] [] refl seen_start n))))
 
 -- ---- an assignment that this port takes
@@ -254,8 +254,8 @@ taken-agrees parent w a m e = go (first_refusal parent [] w.segments) e (content
     go : (o : Option Refusal) → content_by o c ≡ taken a
         → Agreed Ours paper (ConsumerAssignment-try-from-pb w parent) o (as_assignment parent c)
         → ConsumerAssignment-try-from-pb w parent ≡ Ok (as_assignment parent a)
-    go (some x) e g = refused-taken e
-    go none e (Agreed.agree f) =
+    go (Some x) e g = refused-taken e
+    go None e (Agreed.agree f) =
         ok-agreed (ConsumerAssignment-try-from-pb w parent) (as_assignment parent c) f
         ∙ ap (λ (b : port.ConsumerAssignment). Ok (as_assignment parent b)) (fits-taken (leb (size_assignment c) slot_size) c a e)
-    go none e (Agreed.mine x p q) = let z : ◌≡◌ {A = ℕ} 0 1 = cc in absurd (omega arith)
+    go None e (Agreed.mine x p q) = let z : ◌≡◌ {A = ℕ} 0 1 = cc in absurd (omega arith)

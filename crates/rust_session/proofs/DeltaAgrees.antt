@@ -1,12 +1,11 @@
 -- The Rust's equality of assignments is this port's (`assignment-eq-agrees`), and its delta, taken over maps, is too (`delta-agrees`).
 -- Assumes nothing.
+use Rattle.std.specs.Prelude.{option_map, Option, Some, None}
 use Prim.Native.Nat.{ℕ}
 use native.Mathlib.Omega.{arith}
 use mathlib.Core.Path.{◌≡◌, refl, ap, ap₂, sym, ◌∙◌, subst}
 use mathlib.Core.Bool.{Bool, true, false, cond, not, ◌&&◌, false≢true, true≢false}
 use mathlib.Core.List.{List, [], ◌∷◌, map}
-use mathlib.Core.Option
-use mathlib.Core.Option.{Option, some, none}
 use lib.Dec.{eqb}
 use borrow.Author.Tests.{eqb-true}
 use Rattle.topic_types.specs.declared.KeyRange.{KeyRange}
@@ -98,10 +97,10 @@ find-each k m (x ∷ xs) r =
     ∙ go (eqb k (entry_key x)) refl
   where
     go : (b : Bool) → eqb k (entry_key x) ≡ b
-        → or_else (find entry_key k xs) (cond b (some x) (find entry_key k m))
-        ≡ or_else (cond b (some x) (find entry_key k xs)) (find entry_key k m)
+        → or_else (find entry_key k xs) (cond b (Some x) (find entry_key k m))
+        ≡ or_else (cond b (Some x) (find entry_key k xs)) (find entry_key k m)
     go true e =
-        ap (λ o. or_else o (some x))
+        ap (λ o. or_else o (Some x))
         (find-below entry_key k (entry_key x) xs (omega (arith, eqb-true k (entry_key x) e)) r.0 r.1)
     go false e = refl
 
@@ -132,20 +131,20 @@ collected t gs r = collect-rising (as_entries t gs) (rising-as t gs r)
 -- ---- deltas
 
 find-as : (t : Text) (id : SegmentId) (gs : List port.AssignedSegment)
-    → BTreeMap-get SegmentId-cmp id (as_entries t gs) ≡ Option.map (as_segment t) (find id_of id.0 gs)
+    → BTreeMap-get SegmentId-cmp id (as_entries t gs) ≡ option_map (as_segment t) (find id_of id.0 gs)
 find-as t id [] = refl
 find-as t id (g ∷ gs) = rw (eq_test id.0 g.segment_id) (go (eqb id.0 g.segment_id) (find-as t id gs))
   where
-    go : (b : Bool) → BTreeMap-get SegmentId-cmp id (as_entries t gs) ≡ Option.map (as_segment t) (find id_of id.0 gs)
-        → cond b (some (as_segment t g)) (BTreeMap-get SegmentId-cmp id (as_entries t gs))
-        ≡ Option.map (as_segment t) (cond b (some g) (find id_of id.0 gs))
+    go : (b : Bool) → BTreeMap-get SegmentId-cmp id (as_entries t gs) ≡ option_map (as_segment t) (find id_of id.0 gs)
+        → cond b (Some (as_segment t g)) (BTreeMap-get SegmentId-cmp id (as_entries t gs))
+        ≡ option_map (as_segment t) (cond b (Some g) (find id_of id.0 gs))
     go true ih = refl
     go false ih = ih
 
 differs : (t : Text) (o : Option port.AssignedSegment) (g : port.AssignedSegment)
-    → is-none-or (λ other. not (AssignedSegment-eq other (as_segment t g))) (Option.map (as_segment t) o) ≡ not (identical o g)
-differs t none g = refl
-differs t (some h) g = ap not (segment-eq-agrees t h g ∙ same-swap h g)
+    → is-none-or (λ other. not (AssignedSegment-eq other (as_segment t g))) (option_map (as_segment t) o) ≡ not (identical o g)
+differs t None g = refl
+differs t (Some h) g = ap not (segment-eq-agrees t h g ∙ same-swap h g)
 
 filter-as : {A B : Type 0} (f : A → B) (p : B → Bool) (q : A → Bool) → ((x : A) → p (f x) ≡ q x) → (xs : List A)
     → filter p (map f xs) ≡ map f (filter q xs)

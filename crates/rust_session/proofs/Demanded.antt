@@ -2,12 +2,12 @@
 --
 -- A call that one of ours refuses changes neither record nor store (`ours-still`), so it can be left out.
 -- Assumes nothing.
+use Rattle.std.specs.Prelude.{None}
 use Prim.Native.Nat.{ℕ}
 use mathlib.Core.Path.{◌≡◌, refl, ap, ap₂, sym, ◌∙◌, subst}
 use mathlib.Core.Bool.{Bool, true, false, cond, not, false≢true}
 use mathlib.Core.List.{List, [], ◌∷◌, map}
 use mathlib.Core.Logic.{inl}
-use mathlib.Core.Option.{none}
 use lib.ListN.{length}
 use lib.Dec.{ltb}
 use borrow.Author.Tests.{not-true}
@@ -148,7 +148,7 @@ start reader r f st unmarked =
             is = λ i.
                 record {
                   session =
-                      sess (registration_of reader st) r.consumer_id (identity_topic (slot st 0)) r.incarnation none
+                      sess (registration_of reader st) r.consumer_id (identity_topic (slot st 0)) r.incarnation None
                       (as_floor (sym f.no-floor i))
                       (map (as_assignment (identity_topic (slot st 0))) (queue_in st (sym f.no-queue i))) [] (sym f.not-invalidated i);
                   taken = [];

@@ -1,13 +1,13 @@
 -- A drain: one of the replays that `take_replayed_updates` gave is handed on, as this port's drain does where ours do not refuse, and the
 -- sessions stay alike (`fair-drain`).
 -- Assumes nothing.
+use Rattle.std.specs.Prelude.{None}
 use Prim.Native.Nat.{ℕ, suc, ◌<◌}
 use native.Mathlib.Omega.{arith}
 use mathlib.Core.Path.{◌≡◌, refl, ap, sym, ◌∙◌, subst}
 use mathlib.Core.Bool.{true, false, false≢true, true≢false}
 use mathlib.Core.List.{List, [], ◌++◌, append-nil}
 use mathlib.Core.Logic.{◌⊎◌, inl, inr}
-use mathlib.Core.Option.{none}
 use lib.ListN.{length, get_or, set, length-set}
 use lib.Dec.{ltb, leb}
 use borrow.Author.Tests.{leb-false}
@@ -117,7 +117,7 @@ module _ (n : Registration) (out : List ℕ) (s : Session) where
         subst (λ x. Agrees n call s (record { reply = session.unchanged; next = s.state; writes = [] }) (rust_step x call)) (sym d.is)
         (record {
           answered = refl;
-          mirror = mirror-still n s session.unchanged (caller n s none s.queue [] []) (subst (Mirror n s) d.is h);
+          mirror = mirror-still n s session.unchanged (caller n s None s.queue [] []) (subst (Mirror n s) d.is h);
         })
 
     pub fair-drain : Fair n call s (drain_call s n.reader (length out)) (rust_step c call)

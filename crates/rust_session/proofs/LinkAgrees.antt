@@ -1,12 +1,12 @@
 -- Begin and invalidate: `begin_incarnation` and `invalidate_authority` answer as this port's do, and the sessions stay alike (`fair-begin`,
 -- `fair-invalidate`).
 -- Assumes nothing.
+use Rattle.std.specs.Prelude.{Option, None}
 use Prim.Native.Nat.{ℕ}
 use mathlib.Core.Path.{◌≡◌, refl, ap, sym, ◌∙◌, subst}
 use mathlib.Core.Bool.{Bool, true, false, cond, not}
 use mathlib.Core.List.{List, []}
 use mathlib.Core.Logic.{◌⊎◌, inl, inr}
-use mathlib.Core.Option.{Option, none}
 use lib.Dec.{ltb, leb}
 use borrow.Author.Tests.{ltb-true, ltb-false, le-leb, lt-leb}
 use Rattle.topic_types.specs.declared.ControllerIncarnation.{ControllerIncarnation}
@@ -33,7 +33,7 @@ leaving s link invalidated = record { reply = session.accepted; next = unregiste
 abbrev left : Registration → Session → ControllerIncarnation → Bool → Caller
 left n s link invalidated =
     record {
-      session = sess n s.state.consumer_id s.topic link none (as_floor s.state.epoch_floor) [] [] invalidated;
+      session = sess n s.state.consumer_id s.topic link None (as_floor s.state.epoch_floor) [] [] invalidated;
       taken = [];
     }
 
@@ -57,7 +57,7 @@ swapped false x y = refl
 
 -- the method behind its test
 abbrev beginning : ControllerIncarnation → Run (Unit {0})
-beginning link s = record { after = with-fields link none s.epoch-floor [] [] false s; result = Ok tt }
+beginning link s = record { after = with-fields link None s.epoch-floor [] [] false s; result = Ok tt }
 
 module _ (n : Registration) (link : ControllerIncarnation) (s : Session) where
   abbrev Begins : List AssignmentReplay → session.Result → Did (Unit {0}) → Type 0
@@ -82,7 +82,7 @@ module _ (n : Registration) (link : ControllerIncarnation) (s : Session) where
       go : Idle n s c ⊎ Live n s c → Fair n (begin link) s (begin_call s link) (rust_step c (begin link))
       go (inl d) =
           subst (λ x. Fair n (begin link) s (begin_call s link) (rust_step x (begin link))) (sym d.is)
-          (begin-from none s.queue [] [] (subst (Mirror n s) d.is h))
+          (begin-from None s.queue [] [] (subst (Mirror n s) d.is h))
       go (inr d) =
           subst (λ x. Fair n (begin link) s (begin_call s link) (rust_step x (begin link))) (sym d.is)
           (begin-from (holding s) [] c.session.replayed-updates c.taken (subst (Mirror n s) d.is h))

@@ -4,13 +4,12 @@
 -- is to be shown of a call's result (`Agrees`, and `Fair` where ours do not refuse); refusals (`refuse-fair`, `plain-fair`); tests that both
 -- sides make (`both`, `through`, `floors`, `contents`).
 -- Assumes nothing.
+use Rattle.std.specs.Prelude.{option_map, Option, Some, None}
 use Prim.Native.Nat.{ℕ}
 use mathlib.Core.Path.{◌≡◌, refl, ap, ap₂, sym, ◌∙◌, subst}
 use mathlib.Core.Bool.{Bool, true, false, cond, false≢true, true≢false}
 use mathlib.Core.List.{List, [], ◌++◌, map}
 use mathlib.Core.Logic.{◌⊎◌, inl, inr}
-use mathlib.Core.Option
-use mathlib.Core.Option.{Option, some, none}
 use lib.ListN.{length, get_or}
 use lib.Seq.{take_at}
 use lib.Dec.{eqb, ltb, leb}
@@ -24,8 +23,6 @@ use Rattle.packed_delta.specs.Join.{Proper}
 use Rattle.intake_content.specs.Content as content
 use Rattle.intake_content.specs.Content.{Content, content_by}
 use Rattle.keyed.proofs.EachLaws.{Each}
-use Rattle.session.specs.declared.Floor.{Floor}
-use Rattle.session.specs.declared.Floor.TheVariants.{Unset, At}
 use Rattle.session.specs.Session as session
 use Rattle.session.specs.Session.{Session, CallAnswer, position_of, refuse, unless, floor_fault}
 use Rattle.session.specs.Trace.{Call, update, response, drain, begin, invalidate}
@@ -60,7 +57,7 @@ abbrev pub shown_in : (reader : ℕ) → Call → CallAnswer → Session → Sho
 shown_in reader c reply s =
     record {
       answered = answered_in c reply s;
-      assignment = Option.map (as_assignment s.topic) (held_in s);
+      assignment = option_map (as_assignment s.topic) (held_in s);
       epoch-floor = as_floor s.state.epoch_floor;
       incarnation = s.state.incarnation;
       registered = s.state.registered;
@@ -90,12 +87,12 @@ abbrev pub caller : Registration → Session → Option ConsumerAssignment → L
 caller n s o q r t = record { session = rust n s o q r; taken = t }
 
 abbrev pub holding : Session → Option ConsumerAssignment
-holding s = some (as_assignment s.topic s.list)
+holding s = Some (as_assignment s.topic s.list)
 
 -- unregistered: the queue waits, and nothing is left to be drained
 pub record Idle (n : Registration) (s : Session) (c : Caller) : Type 0 where
   pub registered : s.state.registered ≡ false
-  pub is : c ≡ caller n s none s.queue [] []
+  pub is : c ≡ caller n s None s.queue [] []
   pub proper : Each Proper s.queue
 
 -- registered: the list is held, no push waits, and what the caller has not handed on is what is left for the reader to drain
@@ -201,7 +198,7 @@ no-error-text (SegmentTopic source) h = refl
 no-error-text (Broker code message) h = absurd (true≢false h)
 no-error-text (Empty request) h = refl
 
-plain_of : (e : AssignmentError) (x : Refusal) → paper e ≡ x → Theirs (some x) → Plain e x
+plain_of : (e : AssignmentError) (x : Refusal) → paper e ≡ x → Theirs (Some x) → Plain e x
 plain_of e x p t =
     record { is = p; text = no-error-text e (subst (λ y. eqb (number_of y) 16 ≡ false) (sym p) t.1); number = t.1 }
 
@@ -224,18 +221,18 @@ through P true x y s k f g = f refl
 through P false x y s k f g = g refl
 
 -- the floor
-pub floors : {B : Type 0} (P : session.Result → Did B → Type 0) (epoch : ℕ) (f : Floor) (s : Session) (S : ScalableConsumerSession)
+pub floors : {B : Type 0} (P : session.Result → Did B → Type 0) (epoch : ℕ) (f : Option ℕ) (s : Session) (S : ScalableConsumerSession)
     (p : session.Result) (k : Unit {0} → Run B)
     → ((x : Refusal) (y : AssignmentError) → Plain y x → P (refuse x s) (record { after = S; result = Err y }))
-    → (floor_fault epoch f ≡ none → P p (k tt S)) → P (unless (floor_fault epoch f) s p) (go_on S (enforce epoch (as_floor f)) k)
-floors P epoch Unset s S p k h g = g refl
-floors P epoch (At f) s S p k h g = go (ltb epoch f) g
+    → (floor_fault epoch f ≡ None → P p (k tt S)) → P (unless (floor_fault epoch f) s p) (go_on S (enforce epoch (as_floor f)) k)
+floors P epoch None s S p k h g = g refl
+floors P epoch (Some f) s S p k h g = go (ltb epoch f) g
   where
     fault : Refusal
     fault = refusal.CrossIncarnationEpochRegression epoch f
 
-    go : (b : Bool) → (cond b (some fault) none ≡ none → P p (k tt S))
-        → P (unless (cond b (some fault) none) s p) (go_on S (cond b (Err (CrossIncarnationEpochRegression epoch f)) (Ok (tt {0}))) k)
+    go : (b : Bool) → (cond b (Some fault) None ≡ None → P p (k tt S))
+        → P (unless (cond b (Some fault) None) s p) (go_on S (cond b (Err (CrossIncarnationEpochRegression epoch f)) (Ok (tt {0}))) k)
     go true g = h fault (CrossIncarnationEpochRegression epoch f) (record { is = refl; text = refl; number = refl })
     go false g = g refl
 
@@ -245,20 +242,20 @@ module _ {B : Type 0} (P : session.Result → Did B → Type 0) (t : Text) (answ
     (bad : (x : Refusal) (y : AssignmentError) → Plain y x → P (answer (content.refused x)) (record { after = S; result = Err y }))
     (own : (x : Refusal) → Ours x → (d : Did B) → P (answer (content.refused x)) d)
     (agrees : P (answer (content.taken a)) (k (as_assignment t a) S)) where
-  refused-same : (r : Refusal) (x : AssignmentError) → paper x ≡ r → OursOrTheirs (some r)
+  refused-same : (r : Refusal) (x : AssignmentError) → paper x ≡ r → OursOrTheirs (Some r)
       → P (answer (content.refused r)) (record { after = S; result = Err x })
   refused-same r x p (inl o) = own r o (record { after = S; result = Err x })
   refused-same r x p (inr u) = bad r x (plain_of x r p u)
 
   contents-same : (m : Result ConsumerAssignment AssignmentError) (v : Option Refusal) → map-err paper m ≡ verdict v (as_assignment t a)
       → OursOrTheirs v → P (answer (content_by v a)) (go_on S m k)
-  contents-same (Ok x) none e u =
+  contents-same (Ok x) None e u =
       let p : x ≡ as_assignment t a = cc in
       choose (λ c. P (answer c) (k x S)) (leb (size_assignment a) slot_size)
       (λ u. subst (λ y. P (answer (content.taken a)) (k y S)) (sym p) agrees) (λ u. own refusal.AssignmentTooLong refl (k x S))
-  contents-same (Ok x) (some r) e u = ok-err e
-  contents-same (Err x) none e u = ok-err (sym e)
-  contents-same (Err x) (some r) e u = let p : paper x ≡ r = cc in refused-same r x p u
+  contents-same (Ok x) (Some r) e u = ok-err e
+  contents-same (Err x) None e u = ok-err (sym e)
+  contents-same (Err x) (Some r) e u = let p : paper x ≡ r = cc in refused-same r x p u
 
   pub contents : (m : Result ConsumerAssignment AssignmentError) (v : Option Refusal)
       → Agreed Ours paper m v (as_assignment t a) → OursOrTheirs v → P (answer (content_by v a)) (go_on S m k)

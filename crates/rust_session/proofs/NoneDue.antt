@@ -1,13 +1,13 @@
 -- On a store with room for 1,024 pushes of so many bytes and with a well-formed identity, none of ours is due in a run of calls whose inputs
 -- are roomy (`none-due`), so demand 2 holds of it (`demand-two-of-inputs`): its condition is no way out.
 -- Assumes nothing.
+use Rattle.std.specs.Prelude.{Option, Some, None, ℤ, ⊤, Result, Ok, Err}
 use Prim.Native.Nat.{ℕ, suc, ◌+◌, ◌≤◌}
 use native.Mathlib.Nat.{suc-mul, mul-le-mul_right}
 use native.Mathlib.Omega.{arith}
 use mathlib.Core.Path.{◌≡◌, refl, ap, ap₂, sym, ◌∙◌, subst}
 use mathlib.Core.Bool.{Bool, true, false, not, ◌&&◌, ◌||◌, false≢true, true≢false}
 use mathlib.Core.List.{List, [], ◌∷◌}
-use mathlib.Core.Option.{Option, some, none}
 use lib.ListN.{length}
 use lib.Dec.{eqb, ltb, leb}
 use borrow.Author.Tests.{not-true, leb-true, le-leb, lt-leb, le-ltb, ltb-true, ltb-false, eqb-false}
@@ -15,11 +15,7 @@ use Rattle.slice.specs.BoolLaws.{both_true}
 use Rattle.topic_types.specs.declared.ControllerIncarnation.{ControllerIncarnation}
 use Rattle.refusal.specs.declared.Refusal.{Refusal}
 use Rattle.wire_schema.specs.declared.MessageKind.TheVariants.{CommandScalableTopicAssignmentUpdate, CommandScalableTopicSubscribeResponse}
-use Rattle.wire_schema.specs.declared.Checked.{Checked}
-use Rattle.wire_schema.specs.declared.Checked.TheVariants as checked
 use Rattle.wire_schema.specs.FirstFault.{first_fault}
-use Rattle.wire_readers.specs.declared.ErrorCode.{ErrorCode}
-use Rattle.wire_readers.specs.declared.ErrorCode.TheVariants.{Given, Absent}
 use Rattle.wire_readers.specs.Messages.{WireAssignment, WireResponse, update_of, response_of}
 use Rattle.keyed.proofs.KeyedLaws.{choose}
 use Rattle.packed.specs.Assignment.{ConsumerAssignment, slot_size, size_assignment}
@@ -54,9 +50,9 @@ use Rattle.rust_session.proofs.Demanded.{ours-is, demand-two}
 no_true : {A : Type 0} (b : Bool) → b ≡ false → b ≡ true → A
 no_true b f t = absurd (true≢false (sym t ∙ f))
 
-clean-denied : (w : WireResponse) (e : ErrorCode) → ours (denied w e) ≡ false
-clean-denied w (Given code) = refl
-clean-denied w Absent = refl
+clean-denied : (w : WireResponse) (e : Option ℤ) → ours (denied w e) ≡ false
+clean-denied w (Some code) = refl
+clean-denied w None = refl
 
 abbrev Short : ℕ → ConsumerAssignment → Type 0
 Short room a = size_assignment a ≤ room
@@ -70,8 +66,8 @@ module _ (room : ℕ) (most : room ≤ slot_size) where
   Clean x = (ours_in x.reply ≡ false) × Each Small (pushes x.writes)
 
   clean-unless : (o : Option Refusal) (s : Session) (x : session.Result) → Theirs o → Clean x → Clean (unless o s x)
-  clean-unless none s x t c = c
-  clean-unless (some r) s x t c = (t.0, tt)
+  clean-unless None s x t c = c
+  clean-unless (Some r) s x t c = (t.0, tt)
 
   clean_found : (s : Session) (by : ℕ) (f : Found) → Clean (drained s by f)
   unfolding drained
@@ -81,8 +77,8 @@ module _ (room : ℕ) (most : room ≤ slot_size) where
   clean-content : (limit : ℕ) → limit ≤ slot_size → (answer : Content → session.Result) (v : Option Refusal) (a : ConsumerAssignment)
       → fits_by v (leb (size_assignment a) limit) ≡ true → ((x : Refusal) → ours x ≡ false → Clean (answer (refused x)))
       → (size_assignment a ≤ limit → Clean (answer (taken a))) → Clean (answer (content_by v a))
-  clean-content limit l answer (some x) a h f g = f x (not-true (ours x) h)
-  clean-content limit l answer none a h f g =
+  clean-content limit l answer (Some x) a h f g = f x (not-true (ours x) h)
+  clean-content limit l answer None a h f g =
       let k : size_assignment a ≤ limit = leb-true (size_assignment a) limit h in
       choose (λ c. Clean (answer c)) (leb (size_assignment a) slot_size) (λ u. g k)
       (λ u. absurd (false≢true (sym u ∙ le-leb (size_assignment a) slot_size (omega arith))))
@@ -131,23 +127,23 @@ module _ (room : ℕ) (most : room ≤ slot_size) where
         (clean-unless (stale_fault b (replayable s)) s _ (theirs-stale b (replayable s)) (refl, tt))
 
     module _ (message : List ℕ) (link : ControllerIncarnation) where
-      clean-update : (k : Checked) → is_taken k ≡ true → fits room s.topic (update_of message).assignment ≡ true
+      clean-update : (k : Result ⊤ Refusal) → is_taken k ≡ true → fits room s.topic (update_of message).assignment ≡ true
           → Clean (update_checked s link message k)
       unfolding update_valid content_of update_content
-      clean-update (checked.Refused x) h f = absurd (false≢true h)
-      clean-update checked.Valid h f =
+      clean-update (Err x) h f = absurd (false≢true h)
+      clean-update (Ok record {}) h f =
           let a : WireAssignment = (update_of message).assignment in
           choose Clean (not (eqb link.0 s.state.incarnation.0)) (λ t. (refl, tt)) (λ t.
           choose Clean (not (eqb (update_of message).consumer_id s.state.consumer_id)) (λ t. (refl, tt)) (λ t.
           clean-content room most (update_content s) (first_refusal s.topic [] a.segments) (consumer_assignment a)
           f (λ x p. (p, tt)) (clean-pushed (consumer_assignment a))))
 
-      clean-response : (k : Checked) → is_taken k ≡ true
+      clean-response : (k : Result ⊤ Refusal) → is_taken k ≡ true
           → (not (response_of message).has_assignment || fits slot_size s.topic (response_of message).assignment) ≡ true
           → Clean (response_checked s link message k)
       unfolding response_valid content_of response_content
-      clean-response (checked.Refused x) h f = absurd (false≢true h)
-      clean-response checked.Valid h f =
+      clean-response (Err x) h f = absurd (false≢true h)
+      clean-response (Ok record {}) h f =
           let a : WireAssignment = (response_of message).assignment in
           choose Clean (not (eqb link.0 s.state.incarnation.0)) (λ t. (refl, tt)) (λ t.
           choose Clean (response_of message).has_assignment
@@ -159,14 +155,14 @@ module _ (room : ℕ) (most : room ≤ slot_size) where
     clean-call : (w : Call) → roomy room s.topic w ≡ true → Clean (result_of s w)
     unfolding update_call response_call drain_call update_valid update_content response_valid response_content response_assignment
     clean-call (update message link out) h =
-        let k : Checked = first_fault CommandScalableTopicAssignmentUpdate message in
+        let k : (Result ⊤ Refusal) = first_fault CommandScalableTopicAssignmentUpdate message in
         let p = both_true (leb min_output (length out)) (is_taken k && fits room s.topic (update_of message).assignment) h in
         let q = both_true (is_taken k) (fits room s.topic (update_of message).assignment) p.1 in
         choose Clean (ltb s.size min_store) (no_true (ltb s.size min_store) large) (λ t.
         choose Clean (ltb (length out) min_output) (no_true (ltb (length out) min_output) (long out p.0)) (λ t.
         choose Clean (damaged s) (no_true (damaged s) sound) (λ t. clean-update message link k q.0 q.1)))
     clean-call (response message link) h =
-        let k : Checked = first_fault CommandScalableTopicSubscribeResponse message in
+        let k : (Result ⊤ Refusal) = first_fault CommandScalableTopicSubscribeResponse message in
         let q = both_true (is_taken k) (not (response_of message).has_assignment || fits slot_size s.topic (response_of message).assignment) h in
         choose Clean (ltb s.size min_store) (no_true (ltb s.size min_store) large) (λ t.
         choose Clean (damaged s) (no_true (damaged s) sound) (λ t. clean-response message link k q.0 q.1))

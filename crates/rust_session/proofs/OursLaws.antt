@@ -1,16 +1,14 @@
 -- Which refusals are ours: those of the reader are (`fault-ours`); those of the floor and of a replay are not, and none of these is the
 -- broker's (`Theirs`: `theirs-floor`, `theirs-stale`); of those of an assignment's content 34 is (`OursOrTheirs`: `either-content`).
 -- Assumes nothing.
+use Rattle.std.specs.Prelude.{Option, Some, None, ⊤, Result, Ok, Err}
 use Prim.Native.Nat.{ℕ, ◌+◌}
 use mathlib.Core.Path.{◌≡◌, refl}
 use mathlib.Core.Bool.{true, false}
 use mathlib.Core.List.{List, [], ◌∷◌}
-use mathlib.Core.Option.{Option, some, none}
 use mathlib.Core.Logic.{◌⊎◌, inl, inr}
 use lib.Dec.{eqb, ltb}
 use Rattle.topic_types.specs.declared.SegmentId.{SegmentId}
-use Rattle.topic_types.specs.declared.RangeResult.{RangeResult}
-use Rattle.topic_types.specs.declared.RangeResult.TheVariants.{Valid, Invalid}
 use Rattle.topic_types.specs.KeyRanges.{key_range, new_key_range}
 use Rattle.refusal.specs.declared.Refusal.{Refusal}
 use Rattle.refusal.specs.Refusals.{number_of}
@@ -18,7 +16,6 @@ use Rattle.slice.specs.Same.{same_bytes}
 use Rattle.ranges.specs.Overlap.{any_overlap}
 use Rattle.name_parents.specs.Parents.{is_parent}
 use Rattle.wire_schema.specs.declared.MessageKind.{MessageKind}
-use Rattle.wire_schema.specs.declared.Checked.{Checked}
 use Rattle.wire_schema.specs.FirstFault.{first_fault}
 use Rattle.wire_readers.specs.declared.IntRange.{IntRange}
 use Rattle.wire_readers.specs.Messages.{WireSegment}
@@ -27,12 +24,12 @@ use Rattle.keyed.proofs.KeyedLaws.{choose}
 use Rattle.packed.specs.Assignment.{ConsumerAssignment}
 use Rattle.intake_content.specs.Content.{wire_id, range_fault_by, range_fault, bucket_ok, bucket_fault, buckets_of, overlap_fault, expected_topic}
 use Rattle.intake_content.specs.Content.{first_outside, outside_fault_by, outside_fault, name_fault, segment_fault, duplicate_fault, first_refusal}
-use Rattle.session.specs.declared.Floor.{Floor}
-use Rattle.session.specs.declared.Floor.TheVariants.{Unset, At}
 use Rattle.session.specs.Session.{floor_fault}
 use Rattle.session.specs.Response.{stale_fault}
 use Rattle.rust_names.proofs.FaultLaws.{IfRefused, fault-if}
 use Rattle.rust_session.specs.Demand.{ours}
+use Rattle.topic_types.specs.declared.KeyRange.{KeyRange}
+use Rattle.topic_types.specs.declared.KeyRangeError.{KeyRangeError}
 
 -- a refusal for a reason of this port's own
 abbrev pub Ours : Refusal → Type 0
@@ -40,7 +37,7 @@ Ours x = ours x ≡ true
 
 -- ---- 3 to 7
 
-abbrev pub OursIf : Checked → Type 0
+abbrev pub OursIf : Result ⊤ Refusal → Type 0
 OursIf = IfRefused Ours
 
 pub fault-ours : (k : MessageKind) (l : List ℕ) → OursIf (first_fault k l)
@@ -49,25 +46,25 @@ fault-ours = fault-if Ours refl refl refl refl
 -- ---- 9 to 14, 26, 27, 34
 
 abbrev pub Theirs : Option Refusal → Type 0
-Theirs none = Unit {0}
-Theirs (some x) = (ours x ≡ false) × (eqb (number_of x) 16 ≡ false)
+Theirs None = Unit {0}
+Theirs (Some x) = (ours x ≡ false) × (eqb (number_of x) 16 ≡ false)
 
 -- ours, or theirs
 abbrev pub OursOrTheirs : Option Refusal → Type 0
-OursOrTheirs none = Unit {0}
-OursOrTheirs (some x) = Ours x ⊎ Theirs (some x)
+OursOrTheirs None = Unit {0}
+OursOrTheirs (Some x) = Ours x ⊎ Theirs (Some x)
 
 either-theirs : (o : Option Refusal) → Theirs o → OursOrTheirs o
-either-theirs none t = tt
-either-theirs (some x) t = inr t
+either-theirs None t = tt
+either-theirs (Some x) t = inr t
 
 either-or : (o p : Option Refusal) → OursOrTheirs o → OursOrTheirs p → OursOrTheirs (or_else o p)
-either-or none p a b = b
-either-or (some x) p a b = a
+either-or None p a b = b
+either-or (Some x) p a b = a
 
-theirs-range : (id : SegmentId) (r : RangeResult) → Theirs (range_fault_by id r)
-theirs-range id (Valid r) = tt
-theirs-range id (Invalid e) = (refl, refl)
+theirs-range : (id : SegmentId) (r : Result KeyRange KeyRangeError) → Theirs (range_fault_by id r)
+theirs-range id (Ok r) = tt
+theirs-range id (Err e) = (refl, refl)
 
 theirs-buckets : (id : SegmentId) (index : ℕ) (rs : List IntRange) → Theirs (bucket_fault id index rs)
 unfolding bucket_fault
@@ -81,8 +78,8 @@ theirs-name parent w =
     (λ t. choose Theirs (same_bytes w.segment_topic (expected_topic parent w)) (λ u. tt) (λ u. (refl, refl))) (λ t. (refl, refl))
 
 either-outside : (id : SegmentId) (o : Option ℕ) → OursOrTheirs (outside_fault_by id o)
-either-outside id none = tt
-either-outside id (some i) = inl refl
+either-outside id None = tt
+either-outside id (Some i) = inl refl
 
 either-segment : (parent : List ℕ) (w : WireSegment) → OursOrTheirs (segment_fault parent w)
 unfolding segment_fault
@@ -104,9 +101,9 @@ either-content parent seen (w ∷ ws) =
     (either-theirs (duplicate_fault seen w) (choose Theirs (holds self w.segment_id seen) (λ t. (refl, refl)) (λ t. tt)))
     (either-content parent (w.segment_id ∷ seen) ws))
 
-pub theirs-floor : (epoch : ℕ) (f : Floor) → Theirs (floor_fault epoch f)
-theirs-floor epoch Unset = tt
-theirs-floor epoch (At f) = choose Theirs (ltb epoch f) (λ t. (refl, refl)) (λ t. tt)
+pub theirs-floor : (epoch : ℕ) (f : Option ℕ) → Theirs (floor_fault epoch f)
+theirs-floor epoch None = tt
+theirs-floor epoch (Some f) = choose Theirs (ltb epoch f) (λ t. (refl, refl)) (λ t. tt)
 
 pub theirs-stale : (b : ConsumerAssignment) (q : List ConsumerAssignment) → Theirs (stale_fault b q)
 unfolding stale_fault

@@ -4,12 +4,12 @@
 -- `apply-same`, `apply-new`); the loop (`loop-agrees`); what a drain finds is the first of the replays that are left (`replays-end`,
 -- `replays-none`, `replays-entry`).
 -- Assumes nothing.
+use Rattle.std.specs.Prelude.{Option, Some, None}
 use Prim.Native.Nat.{ℕ, zero, suc, ◌+◌, ◌≤◌, ◌<◌, max}
 use native.Mathlib.Omega.{arith}
 use mathlib.Core.Path.{◌≡◌, refl, ap, ap₂, sym, ◌∙◌, subst}
 use mathlib.Core.Bool.{Bool, true, false, cond}
 use mathlib.Core.List.{List, [], ◌∷◌, ◌++◌, map, append_assoc, append-nil}
-use mathlib.Core.Option.{Option, some, none}
 use lib.ListN.{length, get_or}
 use lib.Dec.{eqb, ltb}
 use borrow.Author.Tests.{ltb-true, ltb-false}
@@ -25,8 +25,6 @@ use Rattle.packed_delta.specs.Delta as port-delta
 use Rattle.packed_delta.specs.Change.{delta_between}
 use Rattle.packed_delta.specs.Join.{Proper}
 use Rattle.keyed.proofs.EachLaws.{Each}
-use Rattle.session.specs.declared.Floor.{Floor}
-use Rattle.session.specs.declared.Floor.TheVariants.{Unset, At}
 use Rattle.session.specs.Session.{raise}
 use Rattle.session.specs.Response.{stale_fault, last_list}
 use Rattle.session.specs.Drain.{end, entry, next_change}
@@ -41,13 +39,13 @@ use Rattle.rust_session.proofs.DeltaAgrees.{assignment-eq-agrees, rust_delta, de
 
 -- ---- floors
 
-pub raise-agrees : (f : Floor) (epoch : ℕ) → some (map-or-max (as_floor f) epoch) ≡ as_floor (raise f epoch)
-raise-agrees Unset epoch = refl
-raise-agrees (At f) epoch = go (ltb f epoch) refl
+pub raise-agrees : (f : Option ℕ) (epoch : ℕ) → Some (map-or-max (as_floor f) epoch) ≡ as_floor (raise f epoch)
+raise-agrees None epoch = refl
+raise-agrees (Some f) epoch = go (ltb f epoch) refl
   where
-    go : (b : Bool) → ltb f epoch ≡ b → some (max f epoch) ≡ as_floor (cond b (At epoch) (At f))
-    go true t = let l = ltb-true f epoch t in let m : max f epoch ≡ epoch = omega arith in ap some m
-    go false t = let l = ltb-false f epoch t in let m : max f epoch ≡ f = omega arith in ap some m
+    go : (b : Bool) → ltb f epoch ≡ b → Some (max f epoch) ≡ as_floor (cond b (Some epoch) (Some f))
+    go true t = let l = ltb-true f epoch t in let m : max f epoch ≡ epoch = omega arith in ap Some m
+    go false t = let l = ltb-false f epoch t in let m : max f epoch ≡ f = omega arith in ap Some m
 
 -- ---- a session of the Rust, by its fields
 
@@ -79,18 +77,18 @@ sess n id t link assignment floor buffered replayed invalidated =
 
 -- its shape: the stale test, the equality test, the rest
 abbrev shape : {A : Type 0} → Bool → Bool → AssignmentError → ScalableConsumerSession → Run (Option A) → Did (Option A)
-shape stale same e s rest = go_on s (cond stale (Err e) (Ok (tt {0}))) (λ x. cond same (pure none) rest)
+shape stale same e s rest = go_on s (cond stale (Err e) (Ok (tt {0}))) (λ x. cond same (pure None) rest)
 
-module _ (n : Registration) (id : ℕ) (t : Text) (link : ControllerIncarnation) (f : Floor) (q : List ConsumerAssignment)
+module _ (n : Registration) (id : ℕ) (t : Text) (link : ControllerIncarnation) (f : Option ℕ) (q : List ConsumerAssignment)
     (r : List AssignmentReplay) (v : Bool) (b a : port.ConsumerAssignment) where
   abbrev here : ScalableConsumerSession
-  here = sess n id t link (some (as_assignment t b)) (as_floor f) q r v
+  here = sess n id t link (Some (as_assignment t b)) (as_floor f) q r v
 
   abbrev onward : Run (Option AssignmentDelta)
   onward s =
       record {
-        after = with-epoch-floor (some (map-or-max (as_floor f) a.layout_epoch)) (with-assignment (some (as_assignment t a)) s);
-        result = Ok (some (rust_delta (as_assignment t b).segments (as_assignment t a).segments a.layout_epoch));
+        after = with-epoch-floor (Some (map-or-max (as_floor f) a.layout_epoch)) (with-assignment (Some (as_assignment t a)) s);
+        result = Ok (Some (rust_delta (as_assignment t b).segments (as_assignment t a).segments a.layout_epoch));
       }
 
   apply-with : (c d : Bool) → ltb a.layout_epoch b.layout_epoch ≡ c → same_assignment b a ≡ d
@@ -102,18 +100,18 @@ module _ (n : Registration) (id : ℕ) (t : Text) (link : ControllerIncarnation)
   apply-stale p = apply-with true (same_assignment b a) p refl
 
   pub apply-same : ltb a.layout_epoch b.layout_epoch ≡ false → same_assignment b a ≡ true
-      → apply-incoming (as_assignment t a) here ≡ record { after = here; result = Ok none }
+      → apply-incoming (as_assignment t a) here ≡ record { after = here; result = Ok None }
   apply-same p u = apply-with false true p u
 
   pub apply-new : ltb a.layout_epoch b.layout_epoch ≡ false → same_assignment b a ≡ false → Proper b → Proper a
       → apply-incoming (as_assignment t a) here
       ≡ record {
-        after = sess n id t link (some (as_assignment t a)) (as_floor (raise f a.layout_epoch)) q r v;
-        result = Ok (some (as_delta t (delta_between b a)));
+        after = sess n id t link (Some (as_assignment t a)) (as_floor (raise f a.layout_epoch)) q r v;
+        result = Ok (Some (as_delta t (delta_between b a)));
       }
   apply-new p u pb pa =
       apply-with false false p u
-      ∙ ap₂ (λ g d. record { after = sess n id t link (some (as_assignment t a)) g q r v; result = Ok (some d) })
+      ∙ ap₂ (λ g d. record { after = sess n id t link (Some (as_assignment t a)) g q r v; result = Ok (Some d) })
       (raise-agrees f a.layout_epoch) (delta-agrees t b a pb pa)
 
 -- ---- the replay loop
@@ -126,8 +124,8 @@ pub record Plain (e : AssignmentError) (x : Refusal) : Type 0 where
 
 -- what the loop comes to: with no stale push that session, else that push's refusal
 abbrev pub Replayed : Option Refusal → ScalableConsumerSession → Did (Unit {0}) → Type 0
-Replayed none s d = d ≡ record { after = s; result = Ok tt }
-Replayed (some x) s d = (e : AssignmentError) × (d.result ≡ Err e) × Plain e x
+Replayed None s d = d ≡ record { after = s; result = Ok tt }
+Replayed (Some x) s d = (e : AssignmentError) × (d.result ≡ Err e) × Plain e x
 
 -- the loop, in its second half
 abbrev loop_rest : ℕ → List ConsumerAssignment → Option AssignmentDelta → Run (Unit {0})
@@ -139,7 +137,7 @@ loop_on request q d = go_on d.after d.result (loop_rest request q)
 module _ (n : Registration) (request id : ℕ) (t : Text) (link : ControllerIncarnation) (v : Bool) where
   -- the Rust's session in the loop, with that list, those pushes ahead and those replays behind
   abbrev looping : port.ConsumerAssignment → List ConsumerAssignment → List AssignmentReplay → ScalableConsumerSession
-  looping b q r = sess n id t link (some (as_assignment t b)) (some b.layout_epoch) q r v
+  looping b q r = sess n id t link (Some (as_assignment t b)) (Some b.layout_epoch) q r v
 
   pub loop-agrees : (q : List port.ConsumerAssignment) (b : port.ConsumerAssignment) (r : List AssignmentReplay) → Proper b → Each Proper q
       → Replayed (stale_fault b q) (looping (last_list b q) [] (r ++ replays t b q 0))
@@ -161,31 +159,31 @@ module _ (n : Registration) (request id : ℕ) (t : Text) (link : ControllerInca
       go : (c : Bool) → ltb a.layout_epoch b.layout_epoch ≡ c → (d : Bool) → same_assignment b a ≡ d
           → ((l : List AssignmentReplay) → Replayed (stale_fault a q) (finish (l ++ replays t a q 0))
           (replay-loop request rest (looping a rest l)))
-          → Replayed (cond c (some (refusal.StaleEpoch a.layout_epoch b.layout_epoch)) (stale_fault a q))
+          → Replayed (cond c (Some (refusal.StaleEpoch a.layout_epoch b.layout_epoch)) (stale_fault a q))
           (finish (r ++ cond d (replays t a q 0) (found ∷ replays t a q 0)))
           (loop_on request rest (apply-incoming (as_assignment t a) (looping b rest r)))
       go true p d u ih = (
         StaleEpoch a.layout_epoch b.layout_epoch,
-        ap (λ x. (loop_on request rest x).result) (apply-stale n id t link (At b.layout_epoch) rest r v b a p),
+        ap (λ x. (loop_on request rest x).result) (apply-stale n id t link (Some b.layout_epoch) rest r v b a p),
         record { is = refl; text = refl; number = refl },
       )
       go false p true u ih =
           subst (λ x. Replayed (stale_fault a q) (finish (r ++ replays t a q 0)) (loop_on request rest x))
-          (sym (apply-same n id t link (At b.layout_epoch) rest r v b a p u))
+          (sym (apply-same n id t link (Some b.layout_epoch) rest r v b a p u))
           (subst (λ x. Replayed (stale_fault a q) (finish (r ++ replays t a q 0)) (replay-loop request rest (looping x rest r)))
           (sym (assignment-eq b a u)) (ih r))
       go false p false u ih =
           subst (λ x. Replayed (stale_fault a q) (finish (r ++ (found ∷ replays t a q 0))) (loop_on request rest x))
-          (sym (apply-new n id t link (At b.layout_epoch) rest r v b a p u pb pq.0
-          ∙ ap (λ g. record { after = sess n id t link (some (as_assignment t a)) g rest r v; result = Ok (some found.delta) }) higher))
+          (sym (apply-new n id t link (Some b.layout_epoch) rest r v b a p u pb pq.0
+          ∙ ap (λ g. record { after = sess n id t link (Some (as_assignment t a)) g rest r v; result = Ok (Some found.delta) }) higher))
           (subst (λ l. Replayed (stale_fault a q) (finish l) (replay-loop request rest (looping a rest (r ++ (found ∷ [])))))
           (append_assoc r (found ∷ []) (replays t a q 0)) (ih (r ++ (found ∷ []))))
         where
-          higher : as_floor (raise (At b.layout_epoch) a.layout_epoch) ≡ some a.layout_epoch
+          higher : as_floor (raise (Some b.layout_epoch) a.layout_epoch) ≡ Some a.layout_epoch
           higher =
               let l : b.layout_epoch ≤ a.layout_epoch = ltb-false a.layout_epoch b.layout_epoch p in
               let m : max b.layout_epoch a.layout_epoch ≡ a.layout_epoch = omega arith in
-              sym (raise-agrees (At b.layout_epoch) a.layout_epoch) ∙ ap some m
+              sym (raise-agrees (Some b.layout_epoch) a.layout_epoch) ∙ ap Some m
 
 -- ---- what is left to be drained
 

@@ -1,13 +1,13 @@
 -- A response: `handle_subscribe_response_for` answers as this port's response does, where ours do not refuse, and the sessions stay alike
 -- (`fair-response`).
 -- Assumes nothing.
+use Rattle.std.specs.Prelude.{Option, Some, None, ℤ, ⊤, Ok, Err}
 use Prim.Native.Nat.{ℕ}
 use native.Mathlib.Omega.{arith}
 use mathlib.Core.Path.{◌≡◌, refl, ap, sym, ◌∙◌, subst}
 use mathlib.Core.Bool.{Bool, true, false, cond, not, true≢false}
 use mathlib.Core.List.{List, [], ◌++◌, map}
 use mathlib.Core.Logic.{◌⊎◌, inl, inr}
-use mathlib.Core.Option.{Option, some, none}
 use lib.ListN.{length, take}
 use lib.Seq.{take_at}
 use lib.Dec.{eqb, ltb}
@@ -15,11 +15,7 @@ use Rattle.topic_types.specs.declared.ControllerIncarnation.{ControllerIncarnati
 use Rattle.refusal.specs.declared.Refusal.{Refusal}
 use Rattle.refusal.specs.declared.Refusal.TheVariants as refusal
 use Rattle.wire_schema.specs.declared.MessageKind.TheVariants.{CommandScalableTopicSubscribeResponse}
-use Rattle.wire_schema.specs.declared.Checked.{Checked}
-use Rattle.wire_schema.specs.declared.Checked.TheVariants as checked
 use Rattle.wire_schema.specs.FirstFault.{first_fault}
-use Rattle.wire_readers.specs.declared.ErrorCode.{ErrorCode}
-use Rattle.wire_readers.specs.declared.ErrorCode.TheVariants.{Given, Absent}
 use Rattle.wire_readers.specs.Messages.{WireAssignment, WireResponse, response_of}
 use Rattle.keyed.proofs.KeyedLaws.{choose}
 use Rattle.packed.specs.Assignment as port
@@ -27,7 +23,6 @@ use Rattle.packed_delta.specs.Join.{Proper}
 use Rattle.intake_content.specs.Content as content
 use Rattle.intake_content.specs.Content.{first_refusal, consumer_assignment, content_of}
 use Rattle.keyed.proofs.EachLaws.{Each}
-use Rattle.session.specs.declared.Floor.{Floor}
 use Rattle.session.specs.Store.{min_store}
 use Rattle.session.specs.Session as session
 use Rattle.session.specs.Session.{Session, damaged, refuse, unless, floor_fault, raise}
@@ -55,7 +50,7 @@ use Rattle.rust_session.proofs.Mirror.{floors, contents}
 
 abbrev staged_of : ConsumerAssignment → ScalableConsumerSession → ScalableConsumerSession
 staged_of b clone =
-    with-replayed-updates [] (with-epoch-floor (some (map-or-max clone.epoch-floor b.layout-epoch)) (with-assignment (some b) clone))
+    with-replayed-updates [] (with-epoch-floor (Some (map-or-max clone.epoch-floor b.layout-epoch)) (with-assignment (Some b) clone))
 
 -- the staged session becomes the session; or the loop's error is handed on, and nothing has changed
 abbrev commit_with : ScalableConsumerSession → ConsumerAssignment → Result (Unit {0}) AssignmentError → ScalableConsumerSession
@@ -74,7 +69,7 @@ assignment_rest request a = get >>= λ self. lift (ConsumerAssignment-try-from-p
 
 abbrev reply_rest : WireResponse → Bool → Run ConsumerAssignment
 reply_rest w has =
-    lift (ok_or (without-assignment w (resp-error w.error)) (cond has (some w.assignment) none)) >>= assignment_rest w.request_id
+    lift (ok_or (without-assignment w (resp-error w.error)) (cond has (Some w.assignment) None)) >>= assignment_rest w.request_id
 
 module _ (n : Registration) (message : List ℕ) (link : ControllerIncarnation) (s : Session) where
   abbrev call : Call
@@ -89,7 +84,7 @@ module _ (n : Registration) (message : List ℕ) (link : ControllerIncarnation) 
   abbrev incarnation : ControllerIncarnation
   incarnation = s.state.incarnation
 
-  abbrev floor : Floor
+  abbrev floor : Option ℕ
   floor = s.state.epoch_floor
 
   abbrev flag : Bool
@@ -104,13 +99,13 @@ module _ (n : Registration) (message : List ℕ) (link : ControllerIncarnation) 
   Responds t x d = Fair n call s x (after_response t d.after d.result)
 
   -- 16 with the broker's text, or 17
-  denial : (e : ErrorCode) → paper (without-assignment own (resp-error e)) ≡ denied own e
-  denial (Given code) = refl
-  denial Absent = refl
+  denial : (e : Option ℤ) → paper (without-assignment own (resp-error e)) ≡ denied own e
+  denial (Some code) = refl
+  denial None = refl
 
-  denial-text : (e : ErrorCode) → text_of (without-assignment own (resp-error e)) ≡ text_beside call (denied own e)
-  denial-text (Given code) = refl
-  denial-text Absent = refl
+  denial-text : (e : Option ℤ) → text_of (without-assignment own (resp-error e)) ≡ text_beside call (denied own e)
+  denial-text (Some code) = refl
+  denial-text None = refl
 
   -- how many pushes are replayed
   abbrev count : ℕ
@@ -123,21 +118,21 @@ module _ (n : Registration) (message : List ℕ) (link : ControllerIncarnation) 
     abbrev from : ScalableConsumerSession
     from = rust n s o q r
 
-    module _ (b : port.ConsumerAssignment) (pb : Proper b) (low : floor_fault b.layout_epoch floor ≡ none) where
+    module _ (b : port.ConsumerAssignment) (pb : Proper b) (low : floor_fault b.layout_epoch floor ≡ None) where
       abbrev last : port.ConsumerAssignment
       last = last_list b q
 
       -- the Rust's session after an accepted response, with that floor
       abbrev registered : Option ℕ → ScalableConsumerSession
-      registered f = sess n id s.topic incarnation (some (theirs last)) f [] (replays s.topic b q 0) flag
+      registered f = sess n id s.topic incarnation (Some (theirs last)) f [] (replays s.topic b q 0) flag
 
       abbrev finished : ScalableConsumerSession
-      finished = registered (some last.layout_epoch)
+      finished = registered (Some last.layout_epoch)
 
-      raised : stale_fault b q ≡ none → as_floor (raise floor last.layout_epoch) ≡ some last.layout_epoch
+      raised : stale_fault b q ≡ None → as_floor (raise floor last.layout_epoch) ≡ Some last.layout_epoch
       raised e = ap as_floor (raise-over floor b.layout_epoch last.layout_epoch low (stale-last b q e))
 
-      accepted : stale_fault b q ≡ none → Mirror n (with_queue s (register s b last) q) (record { session = finished; taken = [] })
+      accepted : stale_fault b q ≡ None → Mirror n (with_queue s (register s b last) q) (record { session = finished; taken = [] })
       accepted e =
           record {
             unmarked = h.unmarked;
@@ -154,7 +149,7 @@ module _ (n : Registration) (message : List ℕ) (link : ControllerIncarnation) 
 
       committed : (v : Option Refusal) → stale_fault b q ≡ v → (d : Did (Unit {0})) → Replayed v finished d
           → Responds t (unless v s (register s b last)) (commit_with from (theirs b) d.result d.after)
-      committed none e d p =
+      committed None e d p =
           subst (λ x. Responds t (register s b last) (commit_with from (theirs b) x.result x.after)) (sym p)
           (λ f.
           record {
@@ -163,15 +158,15 @@ module _ (n : Registration) (message : List ℕ) (link : ControllerIncarnation) 
                 subst (λ l. Mirror n (with_queue s (register s b last) l) (record { session = finished; taken = [] })) (sym stays)
                 (accepted e);
           })
-      committed (some x) e d p =
+      committed (Some x) e d p =
           subst (λ z. Responds t (refuse x s) (commit_with from (theirs b) z d.after)) (sym p.1)
           (plain-fair n call s x p.0 (caller n s o q r t) p.2 h)
 
       -- the loop starts from the floor raised to the baseline's epoch
       abbrev looped : Option ℕ → Did (Unit {0})
-      looped f = replay-loop own.request_id (map theirs q) (sess n id s.topic incarnation (some (theirs b)) f (map theirs q) [] flag)
+      looped f = replay-loop own.request_id (map theirs q) (sess n id s.topic incarnation (Some (theirs b)) f (map theirs q) [] flag)
 
-      staged : some (map-or-max (as_floor floor) b.layout_epoch) ≡ some b.layout_epoch
+      staged : Some (map-or-max (as_floor floor) b.layout_epoch) ≡ Some b.layout_epoch
       staged =
           raise-agrees floor b.layout_epoch ∙ ap as_floor (raise-over floor b.layout_epoch b.layout_epoch low (omega arith))
 
@@ -223,23 +218,23 @@ module _ (n : Registration) (message : List ℕ) (link : ControllerIncarnation) 
   module _ (c : Caller) (h : Mirror n s c) where
     -- from either state
     response-taken : Idle n s c ⊎ Live n s c → Fair n call s (response_valid s link (response_of message))
-        (rust_response c link message checked.Valid)
+        (rust_response c link message (Ok record {}))
     response-taken (inl d) =
         let u = d.registered in
-        subst (λ x. Fair n call s (response_valid s link (response_of message)) (rust_response x link message checked.Valid)) (sym d.is)
-        (response-valid none s.queue [] [] (subst (Mirror n s) d.is h) (rw u)
+        subst (λ x. Fair n call s (response_valid s link (response_of message)) (rust_response x link message (Ok record {}))) (sym d.is)
+        (response-valid None s.queue [] [] (subst (Mirror n s) d.is h) (rw u)
         (rw u (take_at s.queue [] s.state.queue_count h.counted)) (rw u h.counted) d.proper)
     response-taken (inr d) =
         let u = d.registered in
-        subst (λ x. Fair n call s (response_valid s link (response_of message)) (rust_response x link message checked.Valid)) (sym d.is)
+        subst (λ x. Fair n call s (response_valid s link (response_of message)) (rust_response x link message (Ok record {}))) (sym d.is)
         (response-valid (holding s) [] c.session.replayed-updates c.taken (subst (Mirror n s) d.is h) (rw u) (rw u) (rw u) tt)
 
     -- 3 to 7
-    response-checked : (k : Checked) → first_fault CommandScalableTopicSubscribeResponse message ≡ k
+    response-checked : (k : Result ⊤ Refusal) → first_fault CommandScalableTopicSubscribeResponse message ≡ k
         → Fair n call s (response_checked s link message k) (rust_response c link message k)
-    response-checked (checked.Refused x) e =
+    response-checked (Err x) e =
         λ f. absurd (true≢false (sym (subst OursIf e (fault-ours CommandScalableTopicSubscribeResponse message)) ∙ f))
-    response-checked checked.Valid e = response-taken h.state
+    response-checked (Ok record {}) e = response-taken h.state
 
     -- 1, 22
     pub fair-response : Fair n call s (response_call s message link) (rust_step c call)

@@ -1,18 +1,16 @@
 -- One segment of a message: the Rust's `AssignedSegment::try_from_pb` refuses it and takes it as this port does (`segment-agrees`), the
 -- first refusal with its numbers.
 -- Assumes nothing.
+use Rattle.std.specs.Prelude.{Option, Some, None}
 use Prim.Native.Nat.{ℕ, ◌+◌}
 use native.Mathlib.Omega.{arith}
 use mathlib.Core.Path.{◌≡◌, refl, ap, ◌∙◌}
 use mathlib.Core.Bool.{Bool, true, false, cond, not}
 use mathlib.Core.List.{List, [], ◌∷◌, map}
-use mathlib.Core.Option.{Option, some, none}
 use lib.IntN.{ℤ, pos, negsuc}
 use lib.Dec.{ltb, leb}
 use Rattle.topic_types.specs.declared.KeyRange.{KeyRange}
 use Rattle.topic_types.specs.declared.KeyRangeError.TheVariants.{StartOutOfBounds, EndOutOfBounds, Reversed}
-use Rattle.topic_types.specs.declared.RangeResult.{RangeResult}
-use Rattle.topic_types.specs.declared.RangeResult.TheVariants.{Valid, Invalid}
 use Rattle.topic_types.specs.declared.SegmentId.{SegmentId}
 use Rattle.topic_types.specs.KeyRanges.{max_hash, key_range, new_key_range}
 use Rattle.topic_types.proofs.KeyRangeLaws.{new-valid}
@@ -47,6 +45,7 @@ use Rattle.rust_session.specs.Values.{as_segment}
 use Rattle.rust_session.proofs.Verdicts.{verdict, seq, Agreed, seq-agreed, test-agreed, or-none, or-unless}
 use Rattle.rust_session.proofs.OverlapAgrees.{Ordered, windows-agree}
 use Rattle.rust_session.proofs.OursLaws.{Ours}
+use Rattle.topic_types.specs.declared.KeyRangeError.{KeyRangeError}
 
 -- ---- ranges
 
@@ -59,33 +58,33 @@ range-agrees id a b = go (ltb max_hash a) (ltb max_hash b) (ltb b a)
     go : (t u v : Bool)
         → map-err paper (map-err (λ source. InvalidRange id source)
         (cond t (Err (StartOutOfBounds a)) (cond u (Err (EndOutOfBounds b)) (cond v (Err (Reversed a b)) (Ok (key_range a b))))))
-        ≡ verdict (range_fault_by id (cond t (Invalid (StartOutOfBounds a)) (cond u (Invalid (EndOutOfBounds b))
-        (cond v (Invalid (Reversed a b)) (Valid (key_range a b)))))) (key_range a b)
+        ≡ verdict (range_fault_by id (cond t (Err (StartOutOfBounds a)) (cond u (Err (EndOutOfBounds b))
+        (cond v (Err (Reversed a b)) (Ok (key_range a b)))))) (key_range a b)
     go true u v = refl
     go false true v = refl
     go false false true = refl
     go false false false = refl
 
 -- with no fault the Rust makes the range
-range-made : (id : SegmentId) (a b : ℕ) → range_fault_by id (new_key_range a b) ≡ none → KeyRange-new a b ≡ Ok (key_range a b)
+range-made : (id : SegmentId) (a b : ℕ) → range_fault_by id (new_key_range a b) ≡ None → KeyRange-new a b ≡ Ok (key_range a b)
 range-made id a b n = new-agrees a b ∙ go (new_key_range a b) refl n
   where
-    go : (x : RangeResult) → new_key_range a b ≡ x → range_fault_by id x ≡ none → range_of x ≡ Ok (key_range a b)
-    go (Valid r) p n = ap (λ (q : KeyRange). Ok q) (new-valid a b r p).made
-    go (Invalid e) p n = let z : ◌≡◌ {A = ℕ} 0 1 = cc in absurd (omega arith)
+    go : (x : Result KeyRange KeyRangeError) → new_key_range a b ≡ x → range_fault_by id x ≡ None → range_of x ≡ Ok (key_range a b)
+    go (Ok r) p n = ap (λ (q : KeyRange). Ok q) (new-valid a b r p).made
+    go (Err e) p n = let z : ◌≡◌ {A = ℕ} 0 1 = cc in absurd (omega arith)
 
 -- with one error for all of its errors
 valid-agrees : (e : AssignmentError) (a b : ℕ)
     → map-err paper (map-err (λ source. e) (KeyRange-new a b))
-    ≡ verdict (cond (is_valid (new_key_range a b)) none (some (paper e))) (key_range a b)
+    ≡ verdict (cond (is_valid (new_key_range a b)) None (Some (paper e))) (key_range a b)
 unfolding new_key_range
 valid-agrees e a b = go (ltb max_hash a) (ltb max_hash b) (ltb b a)
   where
     go : (t u v : Bool)
         → map-err paper (map-err (λ source. e)
         (cond t (Err (StartOutOfBounds a)) (cond u (Err (EndOutOfBounds b)) (cond v (Err (Reversed a b)) (Ok (key_range a b))))))
-        ≡ verdict (cond (is_valid (cond t (Invalid (StartOutOfBounds a)) (cond u (Invalid (EndOutOfBounds b))
-        (cond v (Invalid (Reversed a b)) (Valid (key_range a b)))))) none (some (paper e))) (key_range a b)
+        ≡ verdict (cond (is_valid (cond t (Err (StartOutOfBounds a)) (cond u (Err (EndOutOfBounds b))
+        (cond v (Err (Reversed a b)) (Ok (key_range a b)))))) None (Some (paper e))) (key_range a b)
     go true u v = refl
     go false true v = refl
     go false false true = refl
@@ -95,7 +94,7 @@ valid-agrees e a b = go (ltb max_hash a) (ltb max_hash b) (ltb b a)
 
 one-bucket : (e : AssignmentError) (a b : ℤ)
     → map-err paper (bucket-range-from e (u32-try-from a) (u32-try-from b))
-    ≡ verdict (cond (is_bucket a b) none (some (paper e))) (key_range (magnitude a) (magnitude b))
+    ≡ verdict (cond (is_bucket a b) None (Some (paper e))) (key_range (magnitude a) (magnitude b))
 one-bucket e (negsuc a) b = refl
 one-bucket e (pos a) (negsuc b) = refl
 one-bucket e (pos a) (pos b) = valid-agrees e a b
@@ -105,11 +104,11 @@ pub buckets-agree : (id : SegmentId) (index : ℕ) (rs : List IntRange)
 unfolding bucket_fault
 buckets-agree id index [] = refl
 buckets-agree id index (r ∷ rs) =
-    seq paper (bucket-range id index r) (cond (bucket_ok r) none (some fault)) (bucket_of r)
+    seq paper (bucket-range id index r) (cond (bucket_ok r) None (Some fault)) (bucket_of r)
     (one-bucket (InvalidBucketRange id index r.start r.end) r.start r.end) _ later (bucket_of r ∷ map bucket_of rs)
     (λ n.
     seq paper (collect-results (enumerate-map (bucket-range id) (index + 1) rs)) later (map bucket_of rs) (buckets-agree id (index + 1) rs) _
-    none (bucket_of r ∷ map bucket_of rs) (λ m. refl)
+    None (bucket_of r ∷ map bucket_of rs) (λ m. refl)
     ∙ ap (λ o. verdict o (bucket_of r ∷ map bucket_of rs)) (or-none later))
     ∙ ap (λ o. verdict o (bucket_of r ∷ map bucket_of rs)) (or-unless (bucket_ok r) fault later)
   where
@@ -120,7 +119,7 @@ buckets-agree id index (r ∷ rs) =
     later = bucket_fault id (index + 1) rs
 
 -- with no fault no bucket is reversed
-buckets-ordered : (id : SegmentId) (index : ℕ) (rs : List IntRange) → bucket_fault id index rs ≡ none → Ordered (map bucket_of rs)
+buckets-ordered : (id : SegmentId) (index : ℕ) (rs : List IntRange) → bucket_fault id index rs ≡ None → Ordered (map bucket_of rs)
 unfolding bucket_fault
 buckets-ordered id index [] e = tt
 buckets-ordered id index (r ∷ rs) e =
@@ -154,7 +153,7 @@ module _ (parent : Text) (unmarked : is_marked parent ≡ false) (w : WireSegmen
 
   attach-agrees : (b : Bool) → same_bytes w.segment_topic (expected_topic parent w) ≡ b
       → map-err paper (attached w range (buckets_of w) (expected_topic parent w))
-      ≡ verdict (cond b none (some (refusal.AttachmentMismatch (wire_id w)))) (made w range (buckets_of w) (expected_topic parent w))
+      ≡ verdict (cond b None (Some (refusal.AttachmentMismatch (wire_id w)))) (made w range (buckets_of w) (expected_topic parent w))
   attach-agrees true e =
       rw (text_same w.segment_topic (expected_topic parent w), e)
       (ap (λ t. Ok (made w range (buckets_of w) t)) (same-eq w.segment_topic (expected_topic parent w) e))
@@ -172,13 +171,13 @@ module _ (parent : Text) (unmarked : is_marked parent ≡ false) (w : WireSegmen
           → map-err paper
           (map-err SegmentTopic (cond b (Ok (expected_topic parent w)) (Err (topic.InvalidParent parent))) >>= attached w range (buckets_of w))
           ≡ verdict
-          (cond b (cond (same_bytes w.segment_topic (expected_topic parent w)) none (some (refusal.AttachmentMismatch (wire_id w))))
-          (some refusal.InvalidParent)) (made w range (buckets_of w) (expected_topic parent w))
+          (cond b (cond (same_bytes w.segment_topic (expected_topic parent w)) None (Some (refusal.AttachmentMismatch (wire_id w))))
+          (Some refusal.InvalidParent)) (made w range (buckets_of w) (expected_topic parent w))
       go true = attach-agrees (same_bytes w.segment_topic (expected_topic parent w)) refl
       go false = refl
 
   -- 34: the Rust does not ask
-  inside-agrees : range_fault w ≡ none
+  inside-agrees : range_fault w ≡ None
       → Agreed Ours paper (named parent w range (buckets_of w)) (or_else (outside_fault w) (name_fault parent w))
       (as_segment parent (assigned_segment w))
   inside-agrees n = go (first_outside range 0 (buckets_of w))
@@ -186,8 +185,8 @@ module _ (parent : Text) (unmarked : is_marked parent ≡ false) (w : WireSegmen
       go : (o : Option ℕ)
           → Agreed Ours paper (named parent w range (buckets_of w)) (or_else (outside_fault_by (wire_id w) o) (name_fault parent w))
           (as_segment parent (assigned_segment w))
-      go none = Agreed.agree (names-agree (range-made (wire_id w) w.hash_start w.hash_end n))
-      go (some i) = Agreed.mine (refusal.BucketOutsideSegment (wire_id w) i) refl refl
+      go None = Agreed.agree (names-agree (range-made (wire_id w) w.hash_start w.hash_end n))
+      go (Some i) = Agreed.mine (refusal.BucketOutsideSegment (wire_id w) i) refl refl
 
   pub segment-agrees : Agreed Ours paper (AssignedSegment-try-from-pb w parent) (segment_fault parent w) (as_segment parent (assigned_segment w))
   unfolding segment_fault

@@ -1,14 +1,13 @@
 -- A call: all of them (`fair-call`); sessions that are alike show the same (`shown-agrees`); and what record and store show as bytes is
 -- what the session in values shows (`bytes-show`).
 -- Assumes nothing.
+use Rattle.std.specs.Prelude.{option_map, Some, None}
 use Prim.Native.Nat.{ℕ, ◌<◌}
 use native.Mathlib.Omega.{arith}
 use mathlib.Core.Path.{◌≡◌, refl, ap, ap₂, sym, ◌∙◌, subst}
 use mathlib.Core.Bool.{Bool, true, cond}
 use mathlib.Core.List.{List, [], map}
 use mathlib.Core.Logic.{◌⊎◌, inl, inr}
-use mathlib.Core.Option
-use mathlib.Core.Option.{some, none}
 use lib.ListN.{length, drop, get_or}
 use lib.Seq.{take_at}
 use lib.Dec.{ltb}
@@ -61,7 +60,7 @@ shown-agrees n w s x y g = go g.mirror.state
     shown t b =
         record {
           answered = t;
-          assignment = Option.map (as_assignment z.topic) (cond b (some z.list) none);
+          assignment = option_map (as_assignment z.topic) (cond b (Some z.list) None);
           epoch-floor = as_floor z.state.epoch_floor;
           incarnation = z.state.incarnation;
           registered = b;
@@ -79,7 +78,7 @@ shown-agrees n w s x y g = go g.mirror.state
         ∙ ap (λ l.
         record {
           answered = y.answered;
-          assignment = some (as_assignment z.topic z.list);
+          assignment = Some (as_assignment z.topic z.list);
           epoch-floor = as_floor z.state.epoch_floor;
           incarnation = z.state.incarnation;
           registered = true;

@@ -1,12 +1,12 @@
 -- The Rust's sets and maps by segment id are lists by key as this port has them: a set of ids (`contains-agrees`,
 -- `insert-agrees`), and a map of entries (`map-insert-agrees`); and its `filter` is this port's (`filter-agrees`).
 -- Assumes nothing.
+use Rattle.std.specs.Prelude.{Some}
 use Prim.Native.Nat.{ℕ}
 use native.Mathlib.Omega.{arith}
 use mathlib.Core.Path.{◌≡◌, refl, ap, sym, ◌∙◌}
 use mathlib.Core.Bool.{Bool, true, false, cond, ◌||◌}
 use mathlib.Core.List.{List, [], ◌∷◌}
-use mathlib.Core.Option.{some}
 use lib.Dec.{eqb, ltb}
 use borrow.Author.Tests.{ltb-true, eqb-true, ne_eqb}
 use Rattle.topic_types.specs.declared.SegmentId.{SegmentId}
@@ -48,7 +48,7 @@ pub contains-agrees : (id : SegmentId) (ids : List SegmentId) → BTreeSet-conta
 contains-agrees id [] = refl
 contains-agrees id (x ∷ ids) = rw (eq_test id.0 x.0, contains-agrees id ids) (go (eqb id.0 x.0))
   where
-    go : (t : Bool) → (t || is_some (find id-key id.0 ids)) ≡ is_some (cond t (some x) (find id-key id.0 ids))
+    go : (t : Bool) → (t || is_some (find id-key id.0 ids)) ≡ is_some (cond t (Some x) (find id-key id.0 ids))
     go true = refl
     go false = refl
 

@@ -1,13 +1,13 @@
 -- An update: `handle_assignment_update_for` answers as this port's update does, where ours do not refuse, and the sessions stay alike
 -- (`fair-update`).
 -- Assumes nothing.
+use Rattle.std.specs.Prelude.{Option, None, ⊤, Result, Ok, Err}
 use Prim.Native.Nat.{ℕ, ◌+◌}
 use native.Mathlib.Omega.{arith}
 use mathlib.Core.Path.{◌≡◌, refl, ap, sym, ◌∙◌, subst}
 use mathlib.Core.Bool.{Bool, true, false, cond, not, false≢true, true≢false}
 use mathlib.Core.List.{List, [], ◌∷◌, ◌++◌, map}
 use mathlib.Core.Logic.{◌⊎◌, inl, inr}
-use mathlib.Core.Option.{Option, none}
 use lib.ListN.{length, length-append}
 use lib.Seq.{take_all}
 use lib.Dec.{eqb, ltb}
@@ -15,8 +15,6 @@ use borrow.Author.Tests.{le-ltb}
 use Rattle.topic_types.specs.declared.ControllerIncarnation.{ControllerIncarnation}
 use Rattle.refusal.specs.declared.Refusal.TheVariants as refusal
 use Rattle.wire_schema.specs.declared.MessageKind.TheVariants.{CommandScalableTopicAssignmentUpdate}
-use Rattle.wire_schema.specs.declared.Checked.{Checked}
-use Rattle.wire_schema.specs.declared.Checked.TheVariants as checked
 use Rattle.wire_schema.specs.FirstFault.{first_fault}
 use Rattle.wire_readers.specs.Messages.{WireUpdate, update_of}
 use Rattle.keyed.proofs.KeyedLaws.{choose}
@@ -28,7 +26,6 @@ use Rattle.intake_content.specs.Content as content
 use Rattle.intake_content.specs.Content.{first_refusal, consumer_assignment, content_of}
 use Rattle.keyed.proofs.EachLaws.{Each, each_append}
 use Rattle.intake_content.proofs.SoundLaws.{length-map}
-use Rattle.session.specs.declared.Floor.{Floor}
 use Rattle.packed_queue.specs.Entries.{size_entry}
 use Rattle.session.specs.Store.{min_store, min_output, max_queue, queue_end}
 use Rattle.session.specs.Session as session
@@ -50,11 +47,12 @@ use Rattle.rust_session.proofs.ReplayAgrees.{Registration, sess, apply-stale, ap
 use Rattle.rust_session.proofs.OursLaws.{Ours, OursIf, either-content, fault-ours}
 use Rattle.rust_session.proofs.Mirror.{rust, caller, holding, Idle, Live, Mirror, Fair, mirror-still, with_queue, mirror-same}
 use Rattle.rust_session.proofs.Mirror.{refuse-fair, plain-fair, both, through, floors, contents}
+use Rattle.refusal.specs.declared.Refusal.{Refusal}
 
 -- ---- the Rust's method, from each `?` on
 
 abbrev pushing : ScalableConsumerSession → ConsumerAssignment → Run (Option AssignmentDelta)
-pushing self incoming = change (with-buffered-updates (self.buffered-updates ++ (incoming ∷ []))) >> pure none
+pushing self incoming = change (with-buffered-updates (self.buffered-updates ++ (incoming ∷ []))) >> pure None
 
 abbrev queueing : ScalableConsumerSession → ConsumerAssignment → Run (Option AssignmentDelta)
 queueing self incoming =
@@ -93,7 +91,7 @@ module _ (n : Registration) (message : List ℕ) (link : ControllerIncarnation) 
   abbrev incarnation : ControllerIncarnation
   incarnation = s.state.incarnation
 
-  abbrev floor : Floor
+  abbrev floor : Option ℕ
   floor = s.state.epoch_floor
 
   -- a list of this port as the Rust's
@@ -111,10 +109,10 @@ module _ (n : Registration) (message : List ℕ) (link : ControllerIncarnation) 
       let m = s.state.queue_count in
       take_all (m + 1) (s.queue ++ (a ∷ [])) (omega (arith, e, length-append s.queue (a ∷ [])))
 
-  module _ (idle : s.state.registered ≡ false) (each : Each Proper s.queue) (h : Mirror n s (caller n s none s.queue [] []))
+  module _ (idle : s.state.registered ≡ false) (each : Each Proper s.queue) (h : Mirror n s (caller n s None s.queue [] []))
       (a : port.ConsumerAssignment) (pa : Proper a) where
     abbrev before : ScalableConsumerSession
-    before = rust n s none s.queue []
+    before = rust n s None s.queue []
 
     abbrev longer : List port.ConsumerAssignment
     longer = s.queue ++ (a ∷ [])
@@ -122,7 +120,7 @@ module _ (n : Registration) (message : List ℕ) (link : ControllerIncarnation) 
     abbrev behind : List port.ConsumerAssignment → Session
     behind q = with_queue s (enqueue s a) q
 
-    queued : Mirror n (behind longer) (caller n (behind longer) none longer [] [])
+    queued : Mirror n (behind longer) (caller n (behind longer) None longer [] [])
     queued =
         record {
           unmarked = h.unmarked;
@@ -133,7 +131,7 @@ module _ (n : Registration) (message : List ℕ) (link : ControllerIncarnation) 
 
     -- the Rust's session with those pushes
     abbrev waiting : List ConsumerAssignment → Caller
-    waiting l = record { session = sess n id s.topic incarnation none (as_floor floor) l [] s.state.invalidated; taken = [] }
+    waiting l = record { session = sess n id s.topic incarnation None (as_floor floor) l [] s.state.invalidated; taken = [] }
 
     enqueue-fair : Updates [] (enqueue s a) (pushing before (theirs a) before)
     enqueue-fair f =
@@ -151,12 +149,12 @@ module _ (n : Registration) (message : List ℕ) (link : ControllerIncarnation) 
         choose (λ x. Updates [] x (incoming_rest before (theirs a) before)) s.state.registered
         (λ u. absurd (false≢true (sym idle ∙ u))) (λ u.
         floors (Updates []) a.layout_epoch floor s before _ (λ x. queueing before (theirs a))
-        (λ x y p. plain-fair n call s x y (caller n s none s.queue [] []) p h) (λ e.
+        (λ x y p. plain-fair n call s x y (caller n s None s.queue [] []) p h) (λ e.
         both (Updates []) (eqb s.state.queue_count max_queue) (eqb (length before.buffered-updates) 1024)
         (ap (λ (m : ℕ). eqb m 1024) (sym (length-map theirs s.queue ∙ h.counted)))
         (fail (PreBaselineBufferFull 1024)) (pushing before (theirs a)) before
         (λ v. refuse-fair n call s (refusal.PreBaselineBufferFull max_queue) (PreBaselineBufferFull 1024)
-        (caller n s none s.queue [] []) refl refl h)
+        (caller n s None s.queue [] []) refl refl h)
         (λ v.
         choose (λ x. Updates [] x (pushing before (theirs a) before)) (ltb s.size (queue_end s.queue + size_entry a))
         (λ w f. absurd (true≢false (sym (no_room s.state.queue_count v) ∙ f))) (λ w. enqueue-fair))))
@@ -247,23 +245,23 @@ module _ (n : Registration) (message : List ℕ) (link : ControllerIncarnation) 
   module _ (c : Caller) (h : Mirror n s c) where
     -- from either state
     update-taken : Idle n s c ⊎ Live n s c
-        → Fair n call s (update_valid s link (update_of message)) (rust_update c link message checked.Valid)
+        → Fair n call s (update_valid s link (update_of message)) (rust_update c link message (Ok record {}))
     update-taken (inl d) =
         let k = subst (Mirror n s) d.is h in
-        subst (λ x. Fair n call s (update_valid s link (update_of message)) (rust_update x link message checked.Valid)) (sym d.is)
-        (update-valid none s.queue [] [] k (λ a pa. update-idle d.registered d.proper k a pa))
+        subst (λ x. Fair n call s (update_valid s link (update_of message)) (rust_update x link message (Ok record {}))) (sym d.is)
+        (update-valid None s.queue [] [] k (λ a pa. update-idle d.registered d.proper k a pa))
     update-taken (inr d) =
         let k = subst (Mirror n s) d.is h in
-        subst (λ x. Fair n call s (update_valid s link (update_of message)) (rust_update x link message checked.Valid)) (sym d.is)
+        subst (λ x. Fair n call s (update_valid s link (update_of message)) (rust_update x link message (Ok record {}))) (sym d.is)
         (update-valid (holding s) [] c.session.replayed-updates c.taken k
         (λ a pa. update-live d.registered d.proper c.session.replayed-updates c.taken d.left k a pa))
 
     -- 3 to 7
-    update-checked : (k : Checked) → first_fault CommandScalableTopicAssignmentUpdate message ≡ k
+    update-checked : (k : Result ⊤ Refusal) → first_fault CommandScalableTopicAssignmentUpdate message ≡ k
         → Fair n call s (update_checked s link message k) (rust_update c link message k)
-    update-checked (checked.Refused x) e =
+    update-checked (Err x) e =
         λ f. absurd (true≢false (sym (subst OursIf e (fault-ours CommandScalableTopicAssignmentUpdate message)) ∙ f))
-    update-checked checked.Valid e = update-taken h.state
+    update-checked (Ok record {}) e = update-taken h.state
 
     -- 1, 2, 22
     pub fair-update : Fair n call s (update_call s message link (length out)) (rust_step c call)

@@ -11,15 +11,11 @@
 -- Three statements, each proved in proofs/: `DemandTwoFed` has no other condition, and feeds the Rust the calls that none of ours refuses;
 -- `DemandTwo` is 01's wording; `DemandTwoOfInputs` says when none of ours is due, by the inputs alone.
 -- Assumes nothing.
-use Rattle.std.specs.Prelude.{ℕ, ◌+◌, ◌*◌, ◌≤◌, ◌≡◌, Bool, true, false, cond, not, ◌&&◌, ◌||◌, List, [], ◌∷◌, ◌++◌, map, length, take, drop, get_or, pos, nat_abs, eqb, leb, ltb}
-use Rattle.std.proofs.Math.Option
-use Rattle.std.proofs.Math.Option.{Option, some, none}
+use Rattle.std.specs.Prelude.{ℕ, ◌+◌, ◌*◌, ◌≤◌, ◌≡◌, Bool, true, false, cond, not, ◌&&◌, ◌||◌, List, [], ◌∷◌, ◌++◌, map, length, take, drop, get_or, pos, nat_abs, eqb, leb, ltb, option_map, Option, Some, None, ⊤}
 use Rattle.topic_types.specs.declared.ControllerIncarnation.{ControllerIncarnation}
 use Rattle.refusal.specs.declared.Refusal.{Refusal}
 use Rattle.refusal.specs.Refusals.{number_of, values_of}
 use Rattle.wire_schema.specs.declared.MessageKind.TheVariants.{CommandScalableTopicAssignmentUpdate, CommandScalableTopicSubscribeResponse}
-use Rattle.wire_schema.specs.declared.Checked.{Checked}
-use Rattle.wire_schema.specs.declared.Checked.TheVariants as checked
 use Rattle.wire_schema.specs.FirstFault.{first_fault}
 use Rattle.wire_readers.specs.Messages.{WireAssignment, update_of, response_of}
 use Rattle.keyed.specs.Keyed.{is_some}
@@ -29,7 +25,7 @@ use Rattle.packed_delta.specs.Delta.{decode_delta}
 use Rattle.intake_content.specs.Content.{first_refusal, consumer_assignment}
 use Rattle.session.specs.declared.SessionRecord.{SessionRecord}
 use Rattle.session.specs.declared.Answer.{Answer}
-use Rattle.session.specs.declared.Answer.TheVariants.{Refused, Accepted, Unchanged, Delta, Replay}
+use Rattle.session.specs.declared.Answer.TheVariants.{Accepted, Unchanged, Delta, Replay}
 use Rattle.session.specs.Store.{min_store, min_output, max_queue, identity_slot, baseline_slot, slot, list_in, queue_in}
 use Rattle.session.specs.Session.{readers, position_of}
 use Rattle.session.specs.Identity.{identity_topic, subscription_of, consumer_name_of, identity_kind, is_identity}
@@ -90,19 +86,19 @@ abbrev pub sheet_at : List ℕ → ℕ → port.ConsumerAssignment
 sheet_at store place = decode_assignment (take slot_size (drop place store))
 
 -- an answer, with the lists and the delta that it refers to; "The baseline is read from its slot"
-abbrev pub answered_by : Call → Answer → List ℕ → List ℕ → Answered
-answered_by c (Refused x) store out = refuses x (text_beside c x)
-answered_by c Accepted store out = cond (is_response c) (baseline (as_assignment (topic_in store) (list_in store baseline_slot))) done
-answered_by c Unchanged store out = no_change
-answered_by c (Delta n) store out = delta (as_delta (topic_in store) (decode_delta (take n out)))
-answered_by c (Replay place n) store out = replay (as_replay (topic_in store) (sheet_at store place) (decode_delta (take n out)))
+abbrev pub answered_by : Call → Result Answer Refusal → List ℕ → List ℕ → Answered
+answered_by c (Err x) store out = refuses x (text_beside c x)
+answered_by c (Ok Accepted) store out = cond (is_response c) (baseline (as_assignment (topic_in store) (list_in store baseline_slot))) done
+answered_by c (Ok Unchanged) store out = no_change
+answered_by c (Ok (Delta n)) store out = delta (as_delta (topic_in store) (decode_delta (take n out)))
+answered_by c (Ok (Replay place n)) store out = replay (as_replay (topic_in store) (sheet_at store place) (decode_delta (take n out)))
 
 -- with what is left for that reader to drain
 abbrev pub port_shown : (reader : ℕ) → Call → CallOutcome → Shown
 port_shown reader c x =
     record {
       answered = answered_by c x.answer x.store x.out;
-      assignment = Option.map (as_assignment (topic_in x.store)) (held (record { state = x.next; store = x.store }));
+      assignment = option_map (as_assignment (topic_in x.store)) (held (record { state = x.next; store = x.store }));
       epoch-floor = as_floor x.next.epoch_floor;
       incarnation = x.next.incarnation;
       registered = x.next.registered;
@@ -138,8 +134,8 @@ refusing e session taken = turn (refuses (paper e) (text_of e)) session taken
 
 abbrev pub after_update : List AssignmentReplay → ScalableConsumerSession → Result (Option AssignmentDelta) AssignmentError → Turn
 after_update taken session (Err e) = refusing e session taken
-after_update taken session (Ok none) = turn no_change session taken
-after_update taken session (Ok (some d)) = turn (delta d) session taken
+after_update taken session (Ok None) = turn no_change session taken
+after_update taken session (Ok (Some d)) = turn (delta d) session taken
 
 abbrev pub after_response : List AssignmentReplay → ScalableConsumerSession → Result ConsumerAssignment AssignmentError → Turn
 after_response taken session (Err e) = refusing e session taken
@@ -159,14 +155,14 @@ after_take taken session (Err e) = refusing e session taken
 after_take taken session (Ok rs) = hand_on session (taken ++ rs)
 
 -- a message that the reader does not take is not fed to the Rust
-abbrev pub rust_update : Caller → ControllerIncarnation → List ℕ → Checked → Turn
-rust_update c incarnation message (checked.Refused x) = turn (refuses x []) c.session c.taken
-rust_update c incarnation message checked.Valid =
+abbrev pub rust_update : Caller → ControllerIncarnation → List ℕ → Result ⊤ Refusal → Turn
+rust_update c incarnation message (Err x) = turn (refuses x []) c.session c.taken
+rust_update c incarnation message (Ok record {}) =
     let d = handle-assignment-update-for incarnation (update_of message) c.session in after_update c.taken d.after d.result
 
-abbrev pub rust_response : Caller → ControllerIncarnation → List ℕ → Checked → Turn
-rust_response c incarnation message (checked.Refused x) = turn (refuses x []) c.session c.taken
-rust_response c incarnation message checked.Valid =
+abbrev pub rust_response : Caller → ControllerIncarnation → List ℕ → Result ⊤ Refusal → Turn
+rust_response c incarnation message (Err x) = turn (refuses x []) c.session c.taken
+rust_response c incarnation message (Ok record {}) =
     let d = handle-subscribe-response-for incarnation (response_of message) c.session in after_response c.taken d.after d.result
 
 abbrev pub rust_step : Caller → Call → Turn
@@ -220,12 +216,12 @@ no_room x = eqb (number_of x) 28 && not (eqb (first_value x) max_queue)
 abbrev pub ours : Refusal → Bool
 ours x = ours_by_number (number_of x) || no_room x
 
-abbrev pub is_ours : Answer → Bool
-is_ours (Refused x) = ours x
-is_ours Accepted = false
-is_ours Unchanged = false
-is_ours (Delta n) = false
-is_ours (Replay place n) = false
+abbrev pub is_ours : Result Answer Refusal → Bool
+is_ours (Err x) = ours x
+is_ours (Ok Accepted) = false
+is_ours (Ok Unchanged) = false
+is_ours (Ok (Delta n)) = false
+is_ours (Ok (Replay place n)) = false
 
 -- none of ours is due in the run
 abbrev pub none_ours : SessionRecord → List ℕ → List Call → Bool
@@ -262,15 +258,15 @@ one_reader reader (c ∷ cs) = drains_by reader c && one_reader reader cs
 
 -- an assignment that is refused for its content, by one of 9 to 14, or has at most so many bytes
 abbrev pub fits_by : Option Refusal → Bool → Bool
-fits_by none short = short
-fits_by (some x) short = not (ours x)
+fits_by None short = short
+fits_by (Some x) short = not (ours x)
 
 abbrev pub fits : ℕ → Text → WireAssignment → Bool
 fits room parent a = fits_by (first_refusal parent [] a.segments) (leb (size_assignment (consumer_assignment a)) room)
 
-abbrev pub is_taken : Checked → Bool
-is_taken checked.Valid = true
-is_taken (checked.Refused x) = false
+abbrev pub is_taken : Result ⊤ Refusal → Bool
+is_taken (Ok record {}) = true
+is_taken (Err x) = false
 
 -- pushes have room for so many bytes each
 abbrev pub roomy : ℕ → Text → Call → Bool

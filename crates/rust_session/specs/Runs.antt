@@ -3,8 +3,7 @@
 -- Small runs of the Rust's session, by computation: what the transcription does where a reader of the sources may stumble. Their messages
 -- are bytes.
 -- Assumes nothing.
-use Rattle.std.specs.Prelude.{ℕ, ◌≡◌, refl, Bool, true, false, List, [], ◌∷◌, ◌++◌, map, take, replicate, pos}
-use Rattle.std.proofs.Math.Option.{Option, some, none}
+use Rattle.std.specs.Prelude.{ℕ, ◌≡◌, refl, Bool, true, false, List, [], ◌∷◌, ◌++◌, map, take, replicate, pos, Option, Some, None}
 use Rattle.topic_types.specs.declared.ControllerIncarnation.{ControllerIncarnation}
 use Rattle.topic_types.specs.declared.ScalableConsumerType.TheVariants.{Stream}
 use Rattle.topic_types.specs.KeyRanges.{key_range}
@@ -79,8 +78,8 @@ flags calls = map (λ (x : Shown). x.invalidated) (rust_run fresh calls)
 
 -- the last of them
 abbrev pub last_of : List Answered → Option Answered
-last_of [] = none
-last_of (x ∷ []) = some x
+last_of [] = None
+last_of (x ∷ []) = Some x
 last_of (x ∷ (y ∷ l)) = last_of (y ∷ l)
 
 pub record Runs : Type 0 where
@@ -93,7 +92,7 @@ pub record Runs : Type 0 where
   pub falling-queue : tells (pushed 5 ∷ pushed 4 ∷ responded 3 ∷ responded 6 ∷ [])
       ≡ no_change ∷ no_change ∷ refuses (StaleEpoch 4 5) [] ∷ refuses (StaleEpoch 5 6) [] ∷ []
   -- the 1,025th push is 28
-  pub full-queue : last_of (tells (replicate 1025 (pushed 5))) ≡ some (refuses (PreBaselineBufferFull 1024) [])
+  pub full-queue : last_of (tells (replicate 1025 (pushed 5))) ≡ Some (refuses (PreBaselineBufferFull 1024) [])
   -- while registered a response below the floor is 26; one at the same epoch is taken
   pub registered-again : tells (responded 5 ∷ responded 4 ∷ responded 5 ∷ [])
       ≡ baseline (none-at 5) ∷ refuses (CrossIncarnationEpochRegression 4 5) [] ∷ baseline (none-at 5) ∷ []
@@ -104,7 +103,7 @@ pub record Runs : Type 0 where
   pub update-between : tells (pushed 5 ∷ responded 4 ∷ pushed 6 ∷ drain 0 [] ∷ [])
       ≡ no_change ∷ baseline (none-at 4) ∷ delta (change 6 []) ∷ replay (record { assignment = none-at 5; delta = change 5 [] }) ∷ []
   -- the floor is the last list's epoch before any drain, and outlives begin
-  pub floor-kept : floors (pushed 9 ∷ responded 3 ∷ begin (link 2) ∷ []) ≡ none ∷ some 9 ∷ some 9 ∷ []
+  pub floor-kept : floors (pushed 9 ∷ responded 3 ∷ begin (link 2) ∷ []) ≡ None ∷ Some 9 ∷ Some 9 ∷ []
   -- an invalidated session takes a response and stays invalidated, until begin
   pub flag-kept : flags (invalidate ∷ responded 3 ∷ begin (link 2) ∷ []) ≡ true ∷ true ∷ false ∷ []
   -- an incarnation that does not advance is 25

@@ -1,8 +1,7 @@
 -- Public: this port's values as the Rust's. A segment's name is not stored here: it is rebuilt from parent, range and
 -- id.
 -- Assumes nothing.
-use Rattle.std.specs.Prelude.{ℕ, zero, suc, cond, List, [], ◌∷◌, map, eqb}
-use Rattle.std.proofs.Math.Option.{Option, some, none}
+use Rattle.std.specs.Prelude.{ℕ, zero, suc, cond, List, [], ◌∷◌, map, eqb, Option, Some, None}
 use Rattle.topic_types.specs.declared.SegmentId.{SegmentId}
 use Rattle.topic_types.specs.declared.ScalableConsumerType.{ScalableConsumerType}
 use Rattle.topic_types.specs.declared.ScalableConsumerType.TheVariants.{Stream, Checkpoint}
@@ -12,8 +11,6 @@ use Rattle.packed.specs.Assignment as port
 use Rattle.packed.specs.Equal.{same_assignment}
 use Rattle.packed_delta.specs.Delta as port-delta
 use Rattle.packed_delta.specs.Change.{delta_between}
-use Rattle.session.specs.declared.Floor.{Floor}
-use Rattle.session.specs.declared.Floor.TheVariants.{Unset, At}
 use Rattle.rust_magnetar.specs.Text.{Text}
 use Rattle.rust_magnetar.specs.Assignment.{AssignedSegment, ConsumerAssignment}
 use Rattle.rust_magnetar.specs.Session.{AssignmentDelta, AssignmentReplay}
@@ -39,9 +36,9 @@ as_delta parent d = record { layout-epoch = d.layout_epoch; gained = map (as_seg
 abbrev pub as_replay : Text → port.ConsumerAssignment → port-delta.AssignmentDelta → AssignmentReplay
 as_replay parent a d = record { assignment = as_assignment parent a; delta = as_delta parent d }
 
-abbrev pub as_floor : Floor → Option ℕ
-as_floor Unset = none
-as_floor (At epoch) = some epoch
+abbrev pub as_floor : Option ℕ → Option ℕ
+as_floor None = None
+as_floor (Some epoch) = Some epoch
 
 -- the kind of an identity slot
 abbrev pub as_type : ℕ → ScalableConsumerType

@@ -1,5 +1,6 @@
 -- Where the inputs are roomy none of ours is due (`none-due`), so the exception of demand 2 is no way out.
 -- Assumes nothing.
+use Rattle.std.specs.Prelude.{ℤ, ⊤, Option, Some, None, Result, Ok, Err}
 use Prim.Native.Nat.{ℕ, ◌+◌, ◌^◌}
 use native.Mathlib.Omega.{arith}
 use mathlib.Core.Path.{◌≡◌, refl, sym, ap, ◌∙◌, subst}
@@ -11,11 +12,7 @@ use Rattle.slice.specs.BoolLaws.{both_true}
 use Rattle.slice_int.specs.Be.{bytes_of}
 use Rattle.slice_int.proofs.BeLaws.{length-bytes_of}
 use Rattle.wire_schema.specs.declared.MessageKind.TheVariants.{CommandWatchScalableTopicsUpdate}
-use Rattle.wire_schema.specs.declared.Checked.{Checked}
-use Rattle.wire_schema.specs.declared.Checked.TheVariants as checked
 use Rattle.wire_schema.specs.FirstFault.{first_fault}
-use Rattle.wire_readers.specs.declared.ErrorCode.{ErrorCode}
-use Rattle.wire_readers.specs.declared.ErrorCode.TheVariants.{Given, Absent}
 use Rattle.wire_readers.specs.Messages.{WireEvent, none, snapshot, diff, WireWatchUpdate, watch_update_of}
 use Rattle.watch_topics.specs.Topics.{insert_all, sorted, rising, all_short}
 use Rattle.watch_topics.specs.Packed.{encode_topics, size_topics, is_set}
@@ -30,6 +27,7 @@ use Rattle.rust_magnetar.specs.Watch.{Snapshot, Diff, WatchDid, handle-event, ha
 use Rattle.rust_watch.specs.Demand.{Update, Held, set_in, is_ours, opened, is_taken, named_by, fits_change, fits_did, NoneDue}
 use Rattle.rust_watch.proofs.LoopLaws.{did, diff_is, snapshot-is}
 use Rattle.rust_watch.proofs.StepAgrees.{set-rising, both-choose}
+use Rattle.refusal.specs.declared.Refusal.{Refusal}
 
 -- the lengths of the outputs
 snapshot-length : (l : List Text) → length (0 ∷ encode_topics l) ≡ 1 + size_topics l
@@ -61,9 +59,9 @@ module _ (id : ℕ) (h : Held) (u : Update) where
   abbrev Clean : WatchOutcome → WatchDid → Type 0
   Clean x d = fits_did d d.result h u ≡ true → is_ours x.answer ≡ false
 
-  none-clean : (w : WireWatchUpdate) (c : ErrorCode) → is_ours (refuse buffer out (no_event w.watch_id c)).answer ≡ false
-  none-clean w (Given code) = refl
-  none-clean w Absent = refl
+  none-clean : (w : WireWatchUpdate) (c : Option ℤ) → is_ours (refuse buffer out (no_event w.watch_id c)).answer ≡ false
+  none-clean w (Some code) = refl
+  none-clean w None = refl
 
   snapshot-clean : (p : List Field) → all_short (parts_of 1 p) ≡ true
       → Clean (settle buffer out (snapshot_by p)) (did id (sorted (parts_of 1 p)) (Snapshot (sorted (parts_of 1 p))))
@@ -100,11 +98,11 @@ module _ (id : ℕ) (h : Held) (u : Update) where
   unfolding for_watch
   valid-clean r w a = both-choose Clean (not (eqb w.watch_id id)) (λ e f. refl) (λ e. event-clean r w w.event a)
 
-  checked-clean : rising old ≡ true → (k : Checked) → is_taken k ≡ true
+  checked-clean : rising old ≡ true → (k : Result ⊤ Refusal) → is_taken k ≡ true
       → all_short (named_by (watch_update_of u.message).event) ≡ true
       → Clean (when_checked buffer out id old u.message k) (handle-update (watch_update_of u.message) (opened id h))
-  checked-clean r (checked.Refused x) t a = absurd (false≢true t)
-  checked-clean r checked.Valid t a = valid-clean r (watch_update_of u.message) a
+  checked-clean r (Err x) t a = absurd (false≢true t)
+  checked-clean r (Ok record {}) t a = valid-clean r (watch_update_of u.message) a
 
 pub none-due : NoneDue
 unfolding handle_update for_watch by_event settle

@@ -3,6 +3,7 @@
 -- In order: how long the set and the lists of a change may be (`size-sorted` to `size-after`), so what an update did fits (`Grows`); what it leaves
 -- of the buffer (`Moves`) and of the set (`Formed`); the run, by induction.
 -- Assumes nothing.
+use Rattle.std.specs.Prelude.{⊤, Result, Ok, Err}
 use Prim.Native.Nat.{ℕ, ◌+◌, ◌^◌, ◌≤◌, ◌<◌}
 use native.Mathlib.Omega.{arith}
 use mathlib.Core.Path.{◌≡◌, refl, sym, ap, ◌∙◌, subst}
@@ -16,8 +17,6 @@ use Rattle.slice.specs.BoolLaws.{both, both_true}
 use Rattle.slice.proofs.PartLaws.{Bytes-take}
 use Rattle.slice_int.proofs.PutLaws.{length-put}
 use Rattle.wire_schema.specs.declared.MessageKind.TheVariants.{CommandWatchScalableTopicsUpdate}
-use Rattle.wire_schema.specs.declared.Checked.{Checked}
-use Rattle.wire_schema.specs.declared.Checked.TheVariants as checked
 use Rattle.wire_schema.specs.FirstFault.{first_fault}
 use Rattle.wire_readers.specs.Messages.{WireEvent, none, snapshot, diff, WireWatchUpdate, watch_update_of}
 use Rattle.keyed.proofs.KeyedLaws.{choose}
@@ -28,8 +27,6 @@ use Rattle.watch_lists.proofs.SizeLaws.{size-insert_all, size-filter}
 use Rattle.wire_values.specs.Values.{parts_of}
 use Rattle.watch_window.specs.declared.Listing.TheVariants.{Added, Removed}
 use Rattle.watch_window.specs.Lists.{kept, is_listed, added_of, removed_of}
-use Rattle.watch.specs.declared.WatchAnswer.{WatchAnswer}
-use Rattle.watch.specs.declared.WatchAnswer.TheVariants.{Changed, Refused}
 use Rattle.watch.specs.Watch.{Change, WatchOutcome, snapshot_by, diff_by, settle, by_event, for_watch, when_checked, handle_update}
 use Rattle.watch.proofs.Keeps.{leaves-of-short}
 use Rattle.rust_magnetar.specs.Text.{Text}
@@ -41,6 +38,7 @@ use Rattle.rust_watch.proofs.LoopLaws.{did, diff_is, snapshot-is}
 use Rattle.rust_watch.proofs.StepAgrees.{set-rising, step-agrees}
 use Rattle.rust_watch.proofs.NoneDue.{none-due}
 use Rattle.rust_watch.proofs.Demanded.{demand-two-watch}
+use Rattle.refusal.specs.declared.Refusal.{Refusal}
 
 -- ---- how long a change may be
 
@@ -119,9 +117,9 @@ module _ (id : ℕ) (h : Held) (u : Update) where
 
 module _ (buffer out : List ℕ) where
   -- a change is no longer than the buffer; a refusal leaves it as it is
-  abbrev MovesBy : WatchAnswer → List ℕ → Type 0
-  MovesBy (Changed set n) b = set ≤ length buffer
-  MovesBy (Refused x) b = b ≡ buffer
+  abbrev MovesBy : Result (ℕ × ℕ) Refusal → List ℕ → Type 0
+  MovesBy (Ok (set, n)) b = set ≤ length buffer
+  MovesBy (Err x) b = b ≡ buffer
 
   abbrev Moves : WatchOutcome → Type 0
   Moves x = (length x.buffer ≡ length buffer) × MovesBy x.answer x.buffer
@@ -144,10 +142,10 @@ module _ (buffer out : List ℕ) where
   moves-event o w (snapshot p) = moves-settle (snapshot_by p)
   moves-event o w (diff p) = moves-settle (diff_by o p)
 
-  moves-checked : (id : ℕ) (old : List Text) (m : List ℕ) (k : Checked) → Moves (when_checked buffer out id old m k)
+  moves-checked : (id : ℕ) (old : List Text) (m : List ℕ) (k : Result ⊤ Refusal) → Moves (when_checked buffer out id old m k)
   unfolding for_watch
-  moves-checked id o m (checked.Refused x) = (refl, refl)
-  moves-checked id o m checked.Valid =
+  moves-checked id o m (Err x) = (refl, refl)
+  moves-checked id o m (Ok record {}) =
       let w = watch_update_of m in choose Moves (not (eqb w.watch_id id)) (λ t. (refl, refl)) (λ t. moves-event o w w.event)
 
   moves : (id used : ℕ) (m : List ℕ) → Moves (handle_update buffer out id used m)
@@ -197,13 +195,13 @@ module _ (id : ℕ) (h : Held) (u : Update) (more : ℕ) (f : Formed (named_size
   moved : Moves h.buffer u.out x
   moved = moves h.buffer u.out id h.used u.message
 
-  inside-by : (a : WatchAnswer) → MovesBy h.buffer u.out a x.buffer → used_after h.used a ≤ length x.buffer
-  inside-by (Changed set n) m = omega (arith, moved.0, m)
-  inside-by (Refused y) m = omega (arith, moved.0, f.inside)
+  inside-by : (a : Result (ℕ × ℕ) Refusal) → MovesBy h.buffer u.out a x.buffer → used_after h.used a ≤ length x.buffer
+  inside-by (Ok (set, n)) m = omega (arith, moved.0, m)
+  inside-by (Err y) m = omega (arith, moved.0, f.inside)
 
-  set-by : (a : WatchAnswer) → x.answer ≡ a → MovesBy h.buffer u.out a x.buffer → is_set (take (used_after h.used a) x.buffer) ≡ true
-  set-by (Changed set n) e m = leaves-of-short h.buffer u.out id h.used u.message (λ g. f.short) set n e
-  set-by (Refused y) e m = ap (λ (b : List ℕ). is_set (take h.used b)) m ∙ f.set
+  set-by : (a : Result (ℕ × ℕ) Refusal) → x.answer ≡ a → MovesBy h.buffer u.out a x.buffer → is_set (take (used_after h.used a) x.buffer) ≡ true
+  set-by (Ok (set, n)) e m = leaves-of-short h.buffer u.out id h.used u.message (λ g. f.short) set n e
+  set-by (Err y) e m = ap (λ (b : List ℕ). is_set (take h.used b)) m ∙ f.set
 
   next-formed : Formed more (held_after h x)
   next-formed =

@@ -3,6 +3,7 @@
 -- In order: bytes read back (`front-back`, `output-snapshot`, `output-diff`); what is asked of a step (`Step`); refusals; a change; the
 -- event; the call.
 -- Assumes nothing.
+use Rattle.std.specs.Prelude.{ℤ, ⊤, Option, Some, None, Result, Ok, Err}
 use Prim.Native.Nat.{ℕ, ◌^◌, ◌<◌}
 use native.Mathlib.Omega.{arith}
 use mathlib.Core.Path.{◌≡◌, refl, sym, ap, ap₂, ◌∙◌, subst}
@@ -21,11 +22,7 @@ use Rattle.slice_int.specs.Put.{put}
 use Rattle.slice_int.proofs.BeLaws.{be-front, drop-front}
 use Rattle.slice_int.proofs.PutLaws.{take_put}
 use Rattle.wire_schema.specs.declared.MessageKind.TheVariants.{CommandWatchScalableTopicsUpdate}
-use Rattle.wire_schema.specs.declared.Checked.{Checked}
-use Rattle.wire_schema.specs.declared.Checked.TheVariants as checked
 use Rattle.wire_schema.specs.FirstFault.{first_fault}
-use Rattle.wire_readers.specs.declared.ErrorCode.{ErrorCode}
-use Rattle.wire_readers.specs.declared.ErrorCode.TheVariants.{Given, Absent}
 use Rattle.wire_readers.specs.Messages.{WireEvent, none, snapshot, diff, WireWatchUpdate, watch_update_of}
 use Rattle.keyed.proofs.KeyedLaws.{choose}
 use Rattle.watch_topics.specs.Topics.{insert_all, sorted, rising, all_short}
@@ -186,11 +183,11 @@ module _ (id : ℕ) (h : Held) (u : Update) where
 
     -- ---- the event, and the call
 
-    none-step : (w : WireWatchUpdate) → w ≡ watch_update_of u.message → (c : ErrorCode)
+    none-step : (w : WireWatchUpdate) → w ≡ watch_update_of u.message → (c : Option ℤ)
         → Step (refuse buffer out (no_event w.watch_id c)) (fails (opened id h) (without-event w c))
-    none-step w e (Given code) =
+    none-step w e (Some code) =
         theirs-step (refusal.Broker code) _ (ap (λ (x : WireWatchUpdate). refuses (refusal.Broker code) x.message) (sym e))
-    none-step w e Absent = theirs-step (refusal.EmptyUpdate w.watch_id) _ refl
+    none-step w e None = theirs-step (refusal.EmptyUpdate w.watch_id) _ refl
 
     event-step : rising old ≡ true → (w : WireWatchUpdate) → w ≡ watch_update_of u.message → (e : WireEvent)
         → Step (by_event buffer out old w e) (handle-event w e (opened id h))
@@ -209,10 +206,10 @@ module _ (id : ℕ) (h : Held) (u : Update) where
         (λ e. theirs-step (refusal.WatchMismatch w.watch_id id) (WatchMismatch w.watch_id id) refl)
         (λ e. event-step r w q w.event)
 
-    checked-step : rising old ≡ true → (k : Checked) → OursIf k
+    checked-step : rising old ≡ true → (k : Result ⊤ Refusal) → OursIf k
         → Step (when_checked buffer out id old u.message k) (handle-update (watch_update_of u.message) (opened id h))
-    checked-step r (checked.Refused x) o = ours-step x o _
-    checked-step r checked.Valid o = valid-step r (watch_update_of u.message) refl
+    checked-step r (Err x) o = ours-step x o _
+    checked-step r (Ok record {}) o = valid-step r (watch_update_of u.message) refl
 
     pub step-agrees : Step (watch_step id h u) (handle-update (watch_update_of u.message) (opened id h))
     unfolding handle_update for_watch by_event settle

@@ -4,22 +4,18 @@
 -- The port's run goes by `handle_update`, which the program's contract cites, on the bytes of buffer and output; the Rust's by the transcription in the crate magnetar. What is
 -- shown is in the Rust's types: the error with its numbers and the broker's text, or the change, read from the output's bytes; and the set, read from the buffer.
 -- Assumes nothing.
-use Rattle.std.specs.Prelude.{ℕ, ◌+◌, ◌^◌, ◌≤◌, ◌≡◌, Bool, true, false, cond, not, ◌&&◌, ◌||◌, List, [], ◌∷◌, ◌++◌, length, take, drop, eqb, leb, ltb}
+use Rattle.std.specs.Prelude.{ℕ, ◌+◌, ◌^◌, ◌≤◌, ◌≡◌, Bool, true, false, cond, not, ◌&&◌, ◌||◌, List, [], ◌∷◌, ◌++◌, length, take, drop, eqb, leb, ltb, ⊤}
 use Rattle.slice.specs.Bytes.{Bytes}
 use Rattle.refusal.specs.declared.Refusal.{Refusal}
 use Rattle.refusal.specs.declared.Refusal.TheVariants as refusal
 use Rattle.refusal.specs.Refusals.{number_of}
 use Rattle.slice_int.specs.Be.{be}
 use Rattle.wire_schema.specs.declared.MessageKind.TheVariants.{CommandWatchScalableTopicsUpdate}
-use Rattle.wire_schema.specs.declared.Checked.{Checked}
-use Rattle.wire_schema.specs.declared.Checked.TheVariants as checked
 use Rattle.wire_schema.specs.FirstFault.{first_fault}
 use Rattle.wire_readers.specs.Messages.{WireEvent, none, snapshot, diff, watch_update_of}
 use Rattle.watch_topics.specs.Topics.{all_short}
 use Rattle.watch_topics.specs.Packed.{decode_topics, size_topics, is_set}
 use Rattle.wire_values.specs.Values.{parts_of}
-use Rattle.watch.specs.declared.WatchAnswer.{WatchAnswer}
-use Rattle.watch.specs.declared.WatchAnswer.TheVariants.{Changed, Refused}
 use Rattle.watch.specs.Watch.{WatchOutcome, handle_update}
 use Rattle.rust_magnetar.specs.Result.{Result, Ok, Err}
 use Rattle.rust_magnetar.specs.Text.{Text}
@@ -67,9 +63,9 @@ abbrev pub watch_step : ℕ → Held → Update → WatchOutcome
 watch_step id h u = handle_update h.buffer u.out id h.used u.message
 
 -- "its byte length given and answered"
-abbrev pub used_after : ℕ → WatchAnswer → ℕ
-used_after used (Changed set out) = set
-used_after used (Refused x) = used
+abbrev pub used_after : ℕ → Result (ℕ × ℕ) Refusal → ℕ
+used_after used (Ok (set, out)) = set
+used_after used (Err x) = used
 
 abbrev pub held_after : Held → WatchOutcome → Held
 held_after h x = record { buffer = x.buffer; used = used_after h.used x.answer }
@@ -81,9 +77,9 @@ change_of (kind ∷ l) =
     cond (eqb kind 0) (Snapshot (decode_topics l))
     (Diff (decode_topics (take (be (take 4 l)) (drop 4 l))) (decode_topics (drop (be (take 4 l)) (drop 4 l))))
 
-abbrev pub answered_by : Update → WatchAnswer → List ℕ → Answered
-answered_by u (Refused x) out = refuses x (cond (eqb (number_of x) 16) (watch_update_of u.message).message [])
-answered_by u (Changed set n) out = changes (change_of (take n out))
+abbrev pub answered_by : Update → Result (ℕ × ℕ) Refusal → List ℕ → Answered
+answered_by u (Err x) out = refuses x (cond (eqb (number_of x) 16) (watch_update_of u.message).message [])
+answered_by u (Ok (set, n)) out = changes (change_of (take n out))
 
 abbrev pub port_shown : Held → Update → WatchOutcome → Shown
 port_shown h u x = record { answered = answered_by u x.answer x.out; topics = set_in (held_after h x) }
@@ -106,9 +102,9 @@ rust_run w (u ∷ us) = let d = handle-update (watch_update_of u.message) w in r
 abbrev pub ours : ℕ → Bool
 ours n = (leb 1 n && leb n 8) || (eqb n 15 || ((leb 20 n && leb n 22) || (eqb n 30 || eqb n 31)))
 
-abbrev pub is_ours : WatchAnswer → Bool
-is_ours (Refused x) = ours (number_of x)
-is_ours (Changed set out) = false
+abbrev pub is_ours : Result (ℕ × ℕ) Refusal → Bool
+is_ours (Err x) = ours (number_of x)
+is_ours (Ok (set, out)) = false
 
 -- the updates that none of ours refuses, and what the port shows after each of them, in its run over all
 abbrev pub fed_updates : ℕ → Held → List Update → List Update
@@ -142,9 +138,9 @@ DemandTwoWatch =
 -- ---- when none of ours is due, by the inputs alone: the set is well formed, the reader takes the message, its topics have 16-bit lengths, and what the Rust's change comes to
 -- fits buffer and output
 
-abbrev pub is_taken : Checked → Bool
-is_taken checked.Valid = true
-is_taken (checked.Refused x) = false
+abbrev pub is_taken : Result ⊤ Refusal → Bool
+is_taken (Ok record {}) = true
+is_taken (Err x) = false
 
 abbrev pub named_by : WireEvent → List Text
 named_by none = []

@@ -1,12 +1,12 @@
 -- A drain keeps what holds for a reader: one of another reader whatever it is, one of its own with none owed and with one owed.
 -- Assumes nothing.
+use Rattle.std.specs.Prelude.{option_map}
 use Prim.Native.Nat.{ℕ, suc, ◌≤◌, ◌<◌}
 use native.Mathlib.Omega.{arith}
 use mathlib.Core.Path.{◌≡◌, refl, ap, sym, ◌∙◌, subst}
 use mathlib.Core.Bool.{Bool, true, false, not, ◌&&◌, false≢true}
 use mathlib.Core.List.{List, [], ◌∷◌, ◌++◌}
 use mathlib.Core.Logic.{inl, inr, ◌≢◌}
-use mathlib.Core.Option.{map}
 use lib.Dec.{eqb}
 use lib.ListN.{length, length-set}
 use borrow.Author.Tests.{eqb-true, eqb-false}
@@ -141,7 +141,7 @@ module _ (reader : ℕ) (low : reader < 8) (out : List ℕ) (s : Session) (o : S
         uploaded =
             subst
             (λ n.
-            Uploaded s.baseline (before s.baseline s.queue n) (map (apply (delta_between reached v)) o.uploader) o.baseline
+            Uploaded s.baseline (before s.baseline s.queue n) (option_map (apply (delta_between reached v)) o.uploader) o.baseline
             (o.deltas ++ (delta_between reached v ∷ [])) (raise o.highest (delta_between reached v).layout_epoch))
             (sym (own_at h.eight (suc j)))
             (uploaded-delta h.uploaded (proper at) (proper (suc j))

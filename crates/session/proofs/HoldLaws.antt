@@ -4,12 +4,12 @@
 -- accepted response until a drain of its own answers none (`Owing`); what is to be shown of a call (`Kept`, `Drained`); calls that leave the
 -- queue as it is, and what a delta does to the uploader. That each call keeps it: `DrainLaws`, `KeptLaws`.
 -- Assumes nothing.
+use Rattle.std.specs.Prelude.{Option, Some, None, option_map}
 use Prim.Native.Nat.{ℕ, ◌≤◌}
 use mathlib.Core.Path.{◌≡◌, ap, sym, ◌∙◌, subst}
 use mathlib.Core.Bool.{Bool, true, false, cond, not, ◌&&◌}
 use mathlib.Core.List.{List, [], ◌∷◌, ◌++◌}
 use mathlib.Core.Logic.{◌⊎◌, inl, inr}
-use mathlib.Core.Option.{Option, some, none, map}
 use lib.Dec.{eqb}
 use lib.ListN.{length}
 use lib.Seq.{take_at}
@@ -20,8 +20,6 @@ use Rattle.packed_delta.specs.Join.{Proper, apply, apply_all}
 use Rattle.packed_delta.proofs.DeltaLaws.{delta-law, delta-proper}
 use Rattle.packed_delta.proofs.BracketLaws.{AllProper, apply_all-append, proper-append}
 use Rattle.keyed.proofs.EachLaws.{Each}
-use Rattle.session.specs.declared.Floor.{Floor}
-use Rattle.session.specs.declared.Floor.TheVariants.{At}
 use Rattle.session.specs.Session.{Session, Result, position_of, raise}
 use Rattle.session.specs.Response.{stale_fault, last_list}
 use Rattle.session.specs.Trace.{Call, drain, Event}
@@ -35,30 +33,30 @@ use Rattle.session.proofs.CallLaws.{unchanged_result}
 -- no list is held
 pub record Idle (s : Session) (o : Seen) : Type 0 where
   pub registered : s.state.registered ≡ false
-  pub list : o.sender.list ≡ none
+  pub list : o.sender.list ≡ None
   pub pending : o.sender.pending ≡ last_in s.queue
-  pub uploader : o.uploader ≡ none
+  pub uploader : o.uploader ≡ None
   pub highest : s.state.epoch_floor ≡ o.highest
   pub proper : Each Proper s.queue
   pub counted : length s.queue ≡ s.state.queue_count
 
 -- a list is held: the sender has it, and the floor is its epoch
-pub record Held (registered : Bool) (floor : Floor) (list : ConsumerAssignment) (x : Sender) : Type 0 where
+pub record Held (registered : Bool) (floor : Option ℕ) (list : ConsumerAssignment) (x : Sender) : Type 0 where
   pub live : registered ≡ true
-  pub raised : floor ≡ At list.layout_epoch
-  pub sent : x.list ≡ some list
-  pub pending : x.pending ≡ none
+  pub raised : floor ≡ Some list.layout_epoch
+  pub sent : x.list ≡ Some list
+  pub pending : x.pending ≡ None
   pub proper : Proper list
 
 -- the uploader has u, which the deltas since the baseline b make of it
 pub record Uploaded (b u : ConsumerAssignment) (uploader baseline : Option ConsumerAssignment) (deltas : List AssignmentDelta)
-    (highest : Floor) : Type 0 where
-  pub has : uploader ≡ some u
-  pub based : baseline ≡ some b
+    (highest : Option ℕ) : Type 0 where
+  pub has : uploader ≡ Some u
+  pub based : baseline ≡ Some b
   pub turned : apply_all deltas b ≡ u
   pub proper : AllProper deltas
   pub proper-baseline : Proper b
-  pub top : highest ≡ At u.layout_epoch
+  pub top : highest ≡ Some u.layout_epoch
 
 abbrev pub HeldIn : Session → Seen → Type 0
 HeldIn s o = Held s.state.registered s.state.epoch_floor s.list o.sender
@@ -80,7 +78,7 @@ pub record Owing (reader : ℕ) (s : Session) (o : Seen) : Type 0 where
   pub uploaded : UploadedIn s o (before s.baseline s.queue (position_of s.state reader))
   pub eight : length s.state.drain_positions ≡ 8
   pub last : s.list ≡ last_list s.baseline s.queue
-  pub fresh : stale_fault s.baseline s.queue ≡ none
+  pub fresh : stale_fault s.baseline s.queue ≡ None
   pub proper : Each Proper s.queue
   pub counted : length s.queue ≡ s.state.queue_count
 
@@ -96,7 +94,7 @@ event_with s c x =
     record {
       call = c;
       accepted = accepts x.reply;
-      none = is_unchanged x.reply;
+      None = is_unchanged x.reply;
       delta = handed x.reply;
       baseline = (after s x).baseline;
     }
@@ -110,7 +108,7 @@ abbrev pub see_if : Bool → Event → Seen → Seen
 see_if own e o =
     record {
       sender = sender_step e o.sender;
-      uploader = cond own (on_delta e.delta (λ d l. map (apply d) l) o.uploader) o.uploader;
+      uploader = cond own (on_delta e.delta (λ d l. option_map (apply d) l) o.uploader) o.uploader;
       baseline = cond own (on_delta e.delta (λ d b. b) o.baseline) o.baseline;
       response = cond own (on_delta e.delta (λ d m. m) o.response) o.response;
       deltas = cond own (on_delta e.delta (λ d l. l ++ (d ∷ [])) o.deltas) o.deltas;
@@ -152,14 +150,14 @@ invariant-still reader w s o g = invariant-same reader w s (unchanged_result s) 
 
 -- ---- what the uploader has after a delta from u to v
 
-module _ {b u v : ConsumerAssignment} {uploader baseline : Option ConsumerAssignment} {deltas : List AssignmentDelta} {highest : Floor}
+module _ {b u v : ConsumerAssignment} {uploader baseline : Option ConsumerAssignment} {deltas : List AssignmentDelta} {highest : Option ℕ}
     (h : Uploaded b u uploader baseline deltas highest) (pu : Proper u) (pv : Proper v) (rises : u.layout_epoch ≤ v.layout_epoch) where
-  pub uploaded-delta : Uploaded b v (map (apply (delta_between u v)) uploader) baseline (deltas ++ (delta_between u v ∷ []))
+  pub uploaded-delta : Uploaded b v (option_map (apply (delta_between u v)) uploader) baseline (deltas ++ (delta_between u v ∷ []))
       (raise highest (delta_between u v).layout_epoch)
   unfolding delta_between
   uploaded-delta =
       record {
-        has = ap (map (apply (delta_between u v))) h.has ∙ ap some (delta-law u v pu pv);
+        has = ap (option_map (apply (delta_between u v))) h.has ∙ ap Some (delta-law u v pu pv);
         based = h.based;
         turned =
             apply_all-append deltas (delta_between u v ∷ []) b ∙ ap (apply (delta_between u v)) h.turned ∙ delta-law u v pu pv;

@@ -1,12 +1,12 @@
 -- Each call with no drain owed keeps what holds for a reader: update, response, begin and invalidate; `keep-call` is any of the five.
 -- Assumes nothing.
+use Rattle.std.specs.Prelude.{Some, None, Option}
 use Prim.Native.Nat.{ℕ, ◌+◌, ◌<◌}
 use native.Mathlib.Omega.{arith}
 use mathlib.Core.Path.{◌≡◌, refl, ap, sym, ◌∙◌, subst}
 use mathlib.Core.Bool.{Bool, true, false, cond, false≢true}
 use mathlib.Core.List.{List, [], ◌∷◌, ◌++◌}
 use mathlib.Core.Logic.{inl, inr}
-use mathlib.Core.Option.{some, none}
 use lib.Dec.{ltb}
 use lib.ListN.{length, take, length-append}
 use lib.Seq.{take_at, take_all}
@@ -20,8 +20,6 @@ use Rattle.packed.specs.Equal.{same_assignment}
 use Rattle.packed.proofs.EqualLaws.{assignment-eq}
 use Rattle.packed_delta.specs.Join.{Proper}
 use Rattle.keyed.proofs.EachLaws.{Each, each_append}
-use Rattle.session.specs.declared.Floor.{Floor}
-use Rattle.session.specs.declared.Floor.TheVariants.{At}
 use Rattle.session.specs.Session.{Session, accepted, Result, floor_fault, raise}
 use Rattle.session.specs.Update.{enqueue, hold}
 use Rattle.session.specs.Response.{stale_fault, last_list, replayable, register}
@@ -39,10 +37,10 @@ use Rattle.session.proofs.DrainLaws.{keep-drain}
 
 -- ---- update
 
-send-pending : (a : ConsumerAssignment) (x : Sender) → x.list ≡ none → send_update a x ≡ record { list = none; pending = some a }
+send-pending : (a : ConsumerAssignment) (x : Sender) → x.list ≡ None → send_update a x ≡ record { list = None; pending = Some a }
 send-pending a x e = simp e
 
-send-list : (a l : ConsumerAssignment) (x : Sender) → x.list ≡ some l → send_update a x ≡ record { list = some a; pending = x.pending }
+send-list : (a l : ConsumerAssignment) (x : Sender) → x.list ≡ Some l → send_update a x ≡ record { list = Some a; pending = x.pending }
 send-list a l x e = simp e
 
 module _ (reader : ℕ) (message : List ℕ) (incarnation : ControllerIncarnation) (out : List ℕ) (s : Session) (o : Seen) where
@@ -77,7 +75,7 @@ module _ (reader : ℕ) (message : List ℕ) (incarnation : ControllerIncarnatio
 
   module _ (h : Settled reader s o) where
     -- the sender's list is then the push
-    held-pushed : {floor : Floor} → floor ≡ At pushed.layout_epoch
+    held-pushed : {floor : Option ℕ} → floor ≡ Some pushed.layout_epoch
         → Held s.state.registered floor pushed (send_update pushed o.sender)
     held-pushed f =
         let p = send-list pushed s.list o.sender h.held.sent in
@@ -96,7 +94,7 @@ module _ (reader : ℕ) (message : List ℕ) (incarnation : ControllerIncarnatio
         (inr (record {
           held =
               subst (λ l. Held s.state.registered s.state.epoch_floor l (send_update pushed o.sender)) e
-              (held-pushed (h.held.raised ∙ ap (λ (l : ConsumerAssignment). At l.layout_epoch) (sym e)));
+              (held-pushed (h.held.raised ∙ ap (λ (l : ConsumerAssignment). Some l.layout_epoch) (sym e)));
           uploaded = h.uploaded;
           position = h.position;
           eight = h.eight;
@@ -162,7 +160,7 @@ module _ (reader : ℕ) (message : List ℕ) (incarnation : ControllerIncarnatio
   abbrev KeptResponse : Result → Type 0
   KeptResponse = Kept reader s (response message incarnation) o
 
-  keep-register : Invariant reader false s o → floor_fault own.layout_epoch s.state.epoch_floor ≡ none → stale_fault own (replayable s) ≡ none
+  keep-register : Invariant reader false s o → floor_fault own.layout_epoch s.state.epoch_floor ≡ None → stale_fault own (replayable s) ≡ None
       → KeptResponse (register s own (last_list own (replayable s)))
   keep-register g t u =
       let r = ready reader s o g in
@@ -173,14 +171,14 @@ module _ (reader : ℕ) (message : List ℕ) (incarnation : ControllerIncarnatio
             record {
               live = refl;
               raised = raise-over f own.layout_epoch (last_list own (replayable s)).layout_epoch t (stale-last own (replayable s) u);
-              sent = ap (λ x. or_else x (some own)) r.pending ∙ last_in-or (replayable s) own;
+              sent = ap (λ x. or_else x (Some own)) r.pending ∙ last_in-or (replayable s) own;
               pending = refl;
               proper = last-proper own (replayable s) p r.proper;
             };
         uploaded =
             subst
             (λ n.
-            Uploaded own (before own (take (cond s.state.registered 0 s.state.queue_count) (s.queue ++ [])) n) (some own) (some own) []
+            Uploaded own (before own (take (cond s.state.registered 0 s.state.queue_count) (s.queue ++ [])) n) (Some own) (Some own) []
             (raise o.highest own.layout_epoch))
             (sym (start-zero reader))
             (record {

@@ -1,9 +1,9 @@
 -- The session in values: what a call does to a session whose slots and queue are read as assignments, without bytes. proofs/ carry demand 3 over this model to bytes.
 -- Assumes nothing.
+use Rattle.std.specs.Prelude.{Option, Some, None}
 use Prim.Native.Nat.{ℕ}
 use mathlib.Core.Bool.{Bool, true, false, cond}
 use mathlib.Core.List.{List, [], ◌∷◌, ◌++◌}
-use mathlib.Core.Option.{Option, some, none}
 use lib.ListN.{length, take}
 use lib.Dec.{eqb, ltb}
 use Rattle.topic_types.specs.declared.ControllerIncarnation.{ControllerIncarnation}
@@ -79,18 +79,18 @@ is_unchanged (changed d) = false
 is_unchanged (replayed index place d) = false
 
 abbrev pub handed : CallAnswer → Option AssignmentDelta
-handed (refused x) = none
-handed accepted = none
-handed unchanged = none
-handed (changed d) = some d
-handed (replayed index place d) = some d
+handed (refused x) = None
+handed accepted = None
+handed unchanged = None
+handed (changed d) = Some d
+handed (replayed index place d) = Some d
 
 abbrev pub value_event : Session → Call → Event
 value_event s c =
     record {
       call = c;
       accepted = accepts (result_of s c).reply;
-      none = is_unchanged (result_of s c).reply;
+      None = is_unchanged (result_of s c).reply;
       delta = handed (result_of s c).reply;
       baseline = (after s (result_of s c)).baseline;
     }
@@ -105,4 +105,4 @@ value_final s (c ∷ cs) = value_final (after s (result_of s c)) cs
 
 -- the list held
 abbrev pub held_in : Session → Option ConsumerAssignment
-held_in s = cond s.state.registered (some s.list) none
+held_in s = cond s.state.registered (Some s.list) None

@@ -1,11 +1,11 @@
 -- The queue of a session: its last list, what stands before a position, what a drain finds there, and that a replay's epochs do not fall.
 -- Assumes nothing.
+use Rattle.std.specs.Prelude.{Option, Some, None}
 use Prim.Native.Nat.{ℕ, zero, suc, ◌+◌, ◌≤◌}
 use native.Mathlib.Omega.{arith}
 use mathlib.Core.Path.{◌≡◌, refl, ap, sym, ◌∙◌, subst}
 use mathlib.Core.Bool.{Bool, true, false, cond}
 use mathlib.Core.List.{List, [], ◌∷◌, ◌++◌}
-use mathlib.Core.Option.{Option, some, none}
 use lib.Dec.{ltb}
 use lib.ListN.{length}
 use borrow.Author.Tests.{ltb-false, le-ltb}
@@ -20,8 +20,6 @@ use Rattle.packed_delta.specs.Change.{delta_between}
 use Rattle.packed_delta.specs.Join.{Proper}
 use Rattle.intake_content.proofs.SoundLaws.{if_none}
 use Rattle.keyed.proofs.EachLaws.{Each}
-use Rattle.session.specs.declared.Floor.{Floor}
-use Rattle.session.specs.declared.Floor.TheVariants.{Unset, At}
 use Rattle.session.specs.Session.{floor_fault, raise}
 use Rattle.session.specs.Response.{stale_fault, last_list}
 use Rattle.session.specs.Drain.{end, entry, next_change}
@@ -29,35 +27,35 @@ use Rattle.session.specs.Drain.{end, entry, next_change}
 -- ---- floors
 
 -- a floor at which an epoch is no fault is raised to anything from that epoch on
-pub raise-over : (f : Floor) (epoch to : ℕ) → floor_fault epoch f ≡ none → epoch ≤ to → raise f to ≡ At to
-raise-over Unset epoch to h l = refl
-raise-over (At f) epoch to h l =
-    let g : f ≤ epoch = ltb-false epoch f (if_none (ltb epoch f) (CrossIncarnationEpochRegression epoch f) none h).0 in
-    choose (λ x. x ≡ At to) (ltb f to) (λ t. refl) (λ t. ap At (omega (arith, ltb-false f to t)))
+pub raise-over : (f : Option ℕ) (epoch to : ℕ) → floor_fault epoch f ≡ None → epoch ≤ to → raise f to ≡ Some to
+raise-over None epoch to h l = refl
+raise-over (Some f) epoch to h l =
+    let g : f ≤ epoch = ltb-false epoch f (if_none (ltb epoch f) (CrossIncarnationEpochRegression epoch f) None h).0 in
+    choose (λ x. x ≡ Some to) (ltb f to) (λ t. refl) (λ t. ap Some (omega (arith, ltb-false f to t)))
 
 -- a floor is raised to anything that is not below it
-pub raise-next : (floor to : ℕ) → floor ≤ to → raise (At floor) to ≡ At to
+pub raise-next : (floor to : ℕ) → floor ≤ to → raise (Some floor) to ≡ Some to
 raise-next floor to l =
-    raise-over (At floor) to to (ap (λ b. cond b (some (CrossIncarnationEpochRegression to floor)) none) (le-ltb to floor l)) (omega arith)
+    raise-over (Some floor) to to (ap (λ b. cond b (Some (CrossIncarnationEpochRegression to floor)) None) (le-ltb to floor l)) (omega arith)
 
 -- ---- the last list
 
 -- the last of the queue, if there is one
 abbrev pub last_in : List ConsumerAssignment → Option ConsumerAssignment
-last_in [] = none
-last_in (a ∷ q) = some (last_list a q)
+last_in [] = None
+last_in (a ∷ q) = Some (last_list a q)
 
 last-append : (b : ConsumerAssignment) (q : List ConsumerAssignment) (a : ConsumerAssignment) → last_list b (q ++ (a ∷ [])) ≡ a
 unfolding last_list
 last-append b [] a = refl
 last-append b (c ∷ q) a = last-append c q a
 
-pub last_in-append : (q : List ConsumerAssignment) (a : ConsumerAssignment) → last_in (q ++ (a ∷ [])) ≡ some a
+pub last_in-append : (q : List ConsumerAssignment) (a : ConsumerAssignment) → last_in (q ++ (a ∷ [])) ≡ Some a
 unfolding last_list
 last_in-append [] a = refl
-last_in-append (c ∷ q) a = ap some (last-append c q a)
+last_in-append (c ∷ q) a = ap Some (last-append c q a)
 
-pub last_in-or : (q : List ConsumerAssignment) (b : ConsumerAssignment) → or_else (last_in q) (some b) ≡ some (last_list b q)
+pub last_in-or : (q : List ConsumerAssignment) (b : ConsumerAssignment) → or_else (last_in q) (Some b) ≡ Some (last_list b q)
 unfolding last_list
 last_in-or [] b = refl
 last_in-or (a ∷ q) b = refl
@@ -69,19 +67,19 @@ last-proper b (a ∷ q) r s = last-proper a q s.0 s.1
 
 -- ---- epochs
 
-stale-head : (b a : ConsumerAssignment) (q : List ConsumerAssignment) → stale_fault b (a ∷ q) ≡ none → b.layout_epoch ≤ a.layout_epoch
+stale-head : (b a : ConsumerAssignment) (q : List ConsumerAssignment) → stale_fault b (a ∷ q) ≡ None → b.layout_epoch ≤ a.layout_epoch
 unfolding stale_fault
 stale-head b a q e =
     ltb-false a.layout_epoch b.layout_epoch
     (if_none (ltb a.layout_epoch b.layout_epoch) (StaleEpoch a.layout_epoch b.layout_epoch) (stale_fault a q) e).0
 
-stale-tail : (b a : ConsumerAssignment) (q : List ConsumerAssignment) → stale_fault b (a ∷ q) ≡ none → stale_fault a q ≡ none
+stale-tail : (b a : ConsumerAssignment) (q : List ConsumerAssignment) → stale_fault b (a ∷ q) ≡ None → stale_fault a q ≡ None
 unfolding stale_fault
 stale-tail b a q e =
     (if_none (ltb a.layout_epoch b.layout_epoch) (StaleEpoch a.layout_epoch b.layout_epoch) (stale_fault a q) e).1
 
 -- where no push is stale, the last list's epoch is not below the baseline's
-pub stale-last : (b : ConsumerAssignment) (q : List ConsumerAssignment) → stale_fault b q ≡ none
+pub stale-last : (b : ConsumerAssignment) (q : List ConsumerAssignment) → stale_fault b q ≡ None
     → b.layout_epoch ≤ (last_list b q).layout_epoch
 unfolding last_list
 stale-last b [] e = omega arith
@@ -126,7 +124,7 @@ pub record Change (i : ℕ) (b : ConsumerAssignment) (q : List ConsumerAssignmen
   pub place : ℕ
   pub at : j ≡ i + place
   pub delta : d ≡ delta_between (before b q k) (before b q (suc place))
-  pub rises : stale_fault b q ≡ none → (before b q k).layout_epoch ≤ (before b q (suc place)).layout_epoch
+  pub rises : stale_fault b q ≡ None → (before b q k).layout_epoch ≤ (before b q (suc place)).layout_epoch
 
 not_end : {A : Type 0} (j : ℕ) (d : AssignmentDelta) → end ≡ entry j d → A
 not_end j d e = let z : ◌≡◌ {A = ℕ} 0 1 = cc in absurd (omega arith)

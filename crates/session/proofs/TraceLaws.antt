@@ -4,13 +4,13 @@
 -- an output say what the reply says (`accepted-is`, `none_is`, `handed-is`); a call on bytes is its result in values (`step_is`,
 -- `event-is`); a list of calls of bytes (`bytes-of`) has the same events and the same end (`Same`, `same`).
 -- Assumes nothing.
+use Rattle.std.specs.Prelude.{Option, Some, None, ⊤, Ok, Err}
 use Prim.Native.Nat.{ℕ, zero, suc, ◌+◌, ◌≤◌, ◌<◌}
 use native.Mathlib.Omega.{arith}
 use mathlib.Core.Path.{◌≡◌, refl, sym, ap, ap₂, ◌∙◌, subst}
 use mathlib.Core.Logic.{◌≢◌}
 use mathlib.Core.Bool.{Bool, true, false, not, false≢true}
 use mathlib.Core.List.{List, [], ◌∷◌, append-nil}
-use mathlib.Core.Option.{Option, some, none}
 use lib.ListN.{length, take}
 use lib.Seq.{take_at}
 use lib.Dec.{eqb, ltb, leb}
@@ -21,8 +21,6 @@ use Rattle.topic_types.specs.declared.ControllerIncarnation.{ControllerIncarnati
 use Rattle.refusal.specs.declared.Refusal.{Refusal}
 use Rattle.slice.proofs.PartLaws.{Bytes}
 use Rattle.wire_schema.specs.declared.MessageKind.TheVariants.{CommandScalableTopicAssignmentUpdate, CommandScalableTopicSubscribeResponse}
-use Rattle.wire_schema.specs.declared.Checked.{Checked}
-use Rattle.wire_schema.specs.declared.Checked.TheVariants as checked
 use Rattle.wire_schema.specs.FirstFault.{first_fault}
 use Rattle.wire_readers.specs.Messages.{WireAssignment, update_of, response_of}
 use Rattle.slice_int.specs.Put.{put}
@@ -90,8 +88,8 @@ module _ (r : SessionRecord) (st : List ℕ) (k : Kept r st) where
   follow-none = follow-still r st k unchanged r tt (λ t. t) (omega arith) k.positions
 
   follow-unless : (o : Option Refusal) (x : Result) → Follows r st x → Follows r st (unless o now x)
-  follow-unless none x h = h
-  follow-unless (some y) x h = follow-refuse y
+  follow-unless None x h = h
+  follow-unless (Some y) x h = follow-refuse y
 
   -- an update's list
   follow-registered : 6144 ≤ length st → r.registered ≡ true → (a : ConsumerAssignment) → Packable a → Follows r st (update_registered now a)
@@ -138,10 +136,10 @@ module _ (r : SessionRecord) (st : List ℕ) (k : Kept r st) where
   packable parent w h a e = let f = content-fits parent w h a e in record { fits = f.0; ok = f.1 }
 
   module _ (message : List ℕ) (bytes : Bytes message) (incarnation : ControllerIncarnation) where
-    update-checked : 6144 ≤ length st → (c : Checked) → Follows r st (update_checked now incarnation message c)
+    update-checked : 6144 ≤ length st → (c : Result ⊤ Refusal) → Follows r st (update_checked now incarnation message c)
     unfolding update_valid
-    update-checked big (checked.Refused x) = follow-refuse x
-    update-checked big checked.Valid =
+    update-checked big (Err x) = follow-refuse x
+    update-checked big (Ok record {}) =
         choose (Follows r st) (not (eqb incarnation.0 now.state.incarnation.0)) (λ t. follow-refuse _) (λ t.
         choose (Follows r st) (not (eqb (update_of message).consumer_id now.state.consumer_id)) (λ t. follow-refuse _) (λ t.
         follow-taken big (content_of now.topic (update_of message).assignment)
@@ -155,10 +153,10 @@ module _ (r : SessionRecord) (st : List ℕ) (k : Kept r st) where
         choose (Follows r st) (damaged now) (λ t. follow-refuse _) (λ t.
         update-checked (ltb-false (length st) 6144 small) (first_fault CommandScalableTopicAssignmentUpdate message))))
 
-    response-checked : 6144 ≤ length st → (c : Checked) → Follows r st (response_checked now incarnation message c)
+    response-checked : 6144 ≤ length st → (c : Result ⊤ Refusal) → Follows r st (response_checked now incarnation message c)
     unfolding response_valid
-    response-checked big (checked.Refused x) = follow-refuse x
-    response-checked big checked.Valid =
+    response-checked big (Err x) = follow-refuse x
+    response-checked big (Ok record {}) =
         choose (Follows r st) (not (eqb incarnation.0 now.state.incarnation.0)) (λ t. follow-refuse _) (λ t.
         choose (Follows r st) (response_of message).has_assignment
         (λ t. follow-based big (content_of now.topic (response_of message).assignment)
@@ -235,8 +233,8 @@ pub handed-is : (x : CallAnswer) (out : List ℕ) → FitAnswer x → handed_out
 handed-is (refused x) out f = refl
 handed-is accepted out f = refl
 handed-is unchanged out f = refl
-handed-is (changed d) out f = ap some (delta-back d out f)
-handed-is (replayed index place d) out f = ap some (delta-back d out f)
+handed-is (changed d) out f = ap Some (delta-back d out f)
+handed-is (replayed index place d) out f = ap Some (delta-back d out f)
 
 -- ---- one call
 
@@ -268,7 +266,7 @@ event-is r st c f = λ i.
     record {
       call = c;
       accepted = accepted-is (result_of (view r st) c).reply i;
-      none = none_is (result_of (view r st) c).reply i;
+      None = none_is (result_of (view r st) c).reply i;
       delta = handed-is (result_of (view r st) c).reply (out_of c) f.reply i;
       baseline = (f.session i).baseline;
     }

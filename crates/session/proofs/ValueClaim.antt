@@ -1,11 +1,12 @@
 -- Demand 3 over the session in values, by induction over the list of calls.
 -- Assumes nothing.
+use Rattle.std.specs.Prelude.{Option, Some, None, option_map}
 use Prim.Native.Nat.{ℕ, ◌<◌}
 use mathlib.Core.Path.{◌≡◌, refl, ap, sym, ◌∙◌, subst}
 use mathlib.Core.Bool.{Bool, true, false, cond, not, ◌&&◌, ◌||◌, false≢true}
 use mathlib.Core.List.{List, [], ◌∷◌}
 use mathlib.Core.Logic.{inl, inr}
-use mathlib.Core.Option.{Option, some, none, map, none-ne-some}
+use Rattle.std.proofs.lemmas.Option.{none-some}
 use lib.ListN.{length}
 use lib.Dec.{eqb}
 use Rattle.slice.specs.BoolLaws.{both_true}
@@ -35,19 +36,19 @@ own-baseline s message incarnation =
     (λ t u e. refl)
 
 abbrev Own : Option ConsumerAssignment → Option (List ℕ) → Type 0
-Own baseline message = baseline ≡ map own_in message
+Own baseline message = baseline ≡ option_map own_in message
 
 abbrev OwnIn : Seen → Type 0
 OwnIn o = Own o.baseline o.response
 
 module _ (baseline : Option ConsumerAssignment) (message : Option (List ℕ)) (h : Own baseline message) where
   own-delta : (d : Option AssignmentDelta) → Own (on_delta d (λ d b. b) baseline) (on_delta d (λ d m. m) message)
-  own-delta none = h
-  own-delta (some d) = h
+  own-delta None = h
+  own-delta (Some d) = h
 
   own-response : (accepted : Bool) (b : ConsumerAssignment) (m : List ℕ) → (accepted ≡ true → b ≡ own_in m)
-      → Own (cond accepted (some b) baseline) (cond accepted (some m) message)
-  own-response true b m e = ap some (e refl)
+      → Own (cond accepted (Some b) baseline) (cond accepted (Some m) message)
+  own-response true b m e = ap Some (e refl)
   own-response false b m e = h
 
   own-drain : (own : Bool) (d : Option AssignmentDelta)
@@ -55,7 +56,7 @@ module _ (baseline : Option ConsumerAssignment) (message : Option (List ℕ)) (h
   own-drain true d = own-delta d
   own-drain false d = h
 
-  own-ended : (accepted : Bool) → Own (cond accepted none baseline) (cond accepted none message)
+  own-ended : (accepted : Bool) → Own (cond accepted None baseline) (cond accepted None message)
   own-ended true = refl
   own-ended false = h
 
@@ -79,10 +80,10 @@ values-own reader s calls = own-from reader calls s unseen refl
 
 -- ---- the claim, with no drain owed
 
-held-live : (s : Session) → s.state.registered ≡ true → held_in s ≡ some s.list
+held-live : (s : Session) → s.state.registered ≡ true → held_in s ≡ Some s.list
 held-live s e = rw e
 
-held-idle : (s : Session) → s.state.registered ≡ false → held_in s ≡ none
+held-idle : (s : Session) → s.state.registered ≡ false → held_in s ≡ None
 held-idle s e = rw e
 
 settled : (reader : ℕ) (s : Session) (o : Seen) → Invariant reader false s o → OwnIn o → Claim (held_in s) s.state.epoch_floor o
@@ -97,8 +98,8 @@ settled reader s o (inl h) own =
       highest = h.highest;
     }
   where
-    no : (l : ConsumerAssignment) → held_in s ≡ some l → ⊥
-    no l e = none-ne-some l (sym (held-idle s h.registered) ∙ e)
+    no : (l : ConsumerAssignment) → held_in s ≡ Some l → ⊥
+    no l e = none-some l (sym (held-idle s h.registered) ∙ e)
 settled reader s o (inr h) own =
     record {
       sent = held-live s h.held.live ∙ sym h.held.sent;
@@ -114,15 +115,15 @@ settled reader s o (inr h) own =
             ∙ v.turned
             ∙ is l e,
       );
-      still = λ l e p. v.based ∙ ap some (ap (λ ds. apply_all ds s.baseline) (sym p) ∙ v.turned ∙ is l e);
+      still = λ l e p. v.based ∙ ap Some (ap (λ ds. apply_all ds s.baseline) (sym p) ∙ v.turned ∙ is l e);
       highest = h.held.raised ∙ sym v.top;
     }
   where
     v : Uploaded s.baseline s.list o.uploader o.baseline o.deltas o.highest
     v = h.uploaded
 
-    is : (l : ConsumerAssignment) → held_in s ≡ some l → s.list ≡ l
-    is l e = let p : some s.list ≡ some l = sym (held-live s h.held.live) ∙ e in cc
+    is : (l : ConsumerAssignment) → held_in s ≡ Some l → s.list ≡ l
+    is l e = let p : Some s.list ≡ Some l = sym (held-live s h.held.live) ∙ e in cc
 
 -- ---- over a list of calls
 

@@ -1,7 +1,7 @@
 -- Public: the calls on bytes: what each gives over every record, store, message and output. The contracts of the
 -- programs are these equations.
 -- Assumes nothing.
-use Rattle.std.specs.Prelude.{ℕ, Bool, false, cond, ◌&&◌, List, length, ltb, leb, eqb}
+use Rattle.std.specs.Prelude.{ℕ, Bool, false, cond, ◌&&◌, List, length, ltb, leb, eqb, true, None, Ok, Err}
 use Rattle.topic_types.specs.declared.ControllerIncarnation.{ControllerIncarnation}
 use Rattle.refusal.specs.declared.Refusal.{Refusal}
 use Rattle.refusal.specs.declared.Refusal.TheVariants.{StoreTooShort, InvalidUtf8, IdentityTooLong, MalformedStore}
@@ -11,11 +11,8 @@ use Rattle.utf8.specs.Table.{is_utf8}
 use Rattle.slice_int.specs.Put.{put}
 use Rattle.packed_delta.specs.Delta.{encode_delta, size_delta}
 use Rattle.session.specs.declared.SessionRecord.{SessionRecord}
-use Rattle.session.specs.declared.Floor.TheVariants.{Unset}
 use Rattle.session.specs.declared.Answer.{Answer}
 use Rattle.session.specs.declared.Answer.TheVariants as answer
-use Rattle.session.specs.declared.Match.{Match}
-use Rattle.session.specs.declared.Match.TheVariants as match'
 use Rattle.session.specs.Store.{min_store, identity_slot, slot, write_all}
 use Rattle.session.specs.Identity.{Identity, max_texts, kind_byte, texts_length, encode_identity, identity_topic, subscription_of, consumer_name_of, identity_kind, is_identity}
 use Rattle.session.specs.Session.{at_start, view, CallAnswer, refused, accepted, unchanged, changed, replayed, Result}
@@ -25,20 +22,20 @@ use Rattle.session.specs.Drain.{drain_call}
 
 -- what a call leaves: answer, record, store, output
 pub record CallOutcome : Type 0 where
-  pub answer : Answer
+  pub answer : Result Answer Refusal
   pub next : SessionRecord
   pub store : List ℕ
   pub out : List ℕ
 
-abbrev pub call_outcome : Answer → SessionRecord → (store out : List ℕ) → CallOutcome
+abbrev pub call_outcome : Result Answer Refusal → SessionRecord → (store out : List ℕ) → CallOutcome
 call_outcome answer next store out = record { answer = answer; next = next; store = store; out = out }
 
-abbrev pub answer_of : CallAnswer → Answer
-answer_of (refused x) = answer.Refused x
-answer_of accepted = answer.Accepted
-answer_of unchanged = answer.Unchanged
-answer_of (changed d) = answer.Delta (size_delta d)
-answer_of (replayed index place d) = answer.Replay place (size_delta d)
+abbrev pub answer_of : CallAnswer → Result Answer Refusal
+answer_of (refused x) = Err x
+answer_of accepted = Ok answer.Accepted
+answer_of unchanged = Ok answer.Unchanged
+answer_of (changed d) = Ok (answer.Delta (size_delta d))
+answer_of (replayed index place d) = Ok (answer.Replay place (size_delta d))
 
 -- "An output is written from its first byte, its length is answered, and the bytes behind it stay."
 abbrev pub output_of : CallAnswer → List ℕ → List ℕ
@@ -67,7 +64,7 @@ drain_outcome r store reader out = effect_of (drain_call (view r store) reader (
 
 -- a refused open leaves a record with its numbers, which is no session
 pub record OpenOutcome : Type 0 where
-  pub answer : Answer
+  pub answer : Result Answer Refusal
   pub next : SessionRecord
   pub store : List ℕ
 
@@ -79,13 +76,13 @@ fresh_record consumer incarnation =
       incarnation = incarnation;
       registered = false;
       invalidated = false;
-      epoch_floor = Unset;
+      epoch_floor = None;
       queue_count = 0;
       drain_positions = at_start;
     }
 
 abbrev pub not_opened : Refusal → SessionRecord → List ℕ → OpenOutcome
-not_opened x r store = record { answer = answer.Refused x; next = r; store = store }
+not_opened x r store = record { answer = Err x; next = r; store = store }
 
 abbrev pub unopened : SessionRecord → (store : List ℕ) → Refusal → OpenOutcome
 unopened r store x = not_opened x r store
@@ -99,7 +96,7 @@ open_outcome consumer incarnation i store = do
   refuse_if (unopened fresh store) (ltb (length store) min_store) StoreTooShort  -- 1
   refuse_unless (unopened fresh store) (all_utf8 i) InvalidUtf8  -- 7
   refuse_unless (unopened fresh store) (leb (texts_length i) max_texts) IdentityTooLong  -- 8
-  record { answer = answer.Accepted; next = fresh; store = put store 0 (encode_identity i) }
+  record { answer = (Ok answer.Accepted); next = fresh; store = put store 0 (encode_identity i) }
 
 -- ---- matches_registration: 1, then 22 for the identity slot alone
 
@@ -110,8 +107,8 @@ same_identity l i =
     && (same_bytes (subscription_of l) i.subscription
     && (same_bytes (consumer_name_of l) i.consumer_name && eqb (identity_kind l) (kind_byte i.consumer_type)))
 
-unfoldable pub match_of : List ℕ → Identity → Match
+unfoldable pub match_of : List ℕ → Identity → Result Bool Refusal
 match_of store i = do
-  refuse_if match'.Refused (ltb (length store) min_store) StoreTooShort  -- 1
-  refuse_unless match'.Refused (is_identity (slot store identity_slot)) MalformedStore  -- 22
-  cond (same_identity (slot store identity_slot) i) match'.Same match'.Other
+  refuse_if Err (ltb (length store) min_store) StoreTooShort  -- 1
+  refuse_unless Err (is_identity (slot store identity_slot)) MalformedStore  -- 22
+  cond (same_identity (slot store identity_slot) i) (Ok true) (Ok false)

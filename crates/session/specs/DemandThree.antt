@@ -4,14 +4,11 @@
 -- `DemandThree` is the claim, about any reader and any list of calls from any fresh record and any store; its proof is proofs/Claimed. Each call answers or refuses as 01 sets because
 -- `trace` goes by the very definitions that the programs' contracts cite (specs/Calls, specs/Link).
 -- Assumes nothing.
-use Rattle.std.specs.Prelude.{ℕ, ◌<◌, ◌≡◌, true, false, cond, List, [], ◌∷◌}
-use Rattle.std.proofs.Math.Option.{Option, some, none, map}
+use Rattle.std.specs.Prelude.{ℕ, ◌<◌, ◌≡◌, true, false, cond, List, [], ◌∷◌, Option, Some, None, option_map}
 use Rattle.slice.specs.Bytes.{Bytes}
 use Rattle.packed.specs.Assignment.{ConsumerAssignment}
 use Rattle.packed_delta.specs.Join.{Bracketing, row, joined, apply}
 use Rattle.session.specs.declared.SessionRecord.{SessionRecord}
-use Rattle.session.specs.declared.Floor.{Floor}
-use Rattle.session.specs.declared.Floor.TheVariants.{Unset}
 use Rattle.session.specs.Store.{list_slot, list_in}
 use Rattle.session.specs.Session.{readers, at_start}
 use Rattle.session.specs.Trace.{Call, update, response, drain, begin, invalidate, trace, End, final}
@@ -20,7 +17,7 @@ use Rattle.session.specs.Observers.{own_in, Seen, unseen, watch, all_drained}
 -- "Fresh record: unregistered, no floor, not invalidated, queue 0, drain position 0": of every reader (02 d)
 pub record Fresh (r : SessionRecord) : Type 0 where
   pub unregistered : r.registered ≡ false
-  pub no-floor : r.epoch_floor ≡ Unset
+  pub no-floor : r.epoch_floor ≡ None
   pub not-invalidated : r.invalidated ≡ false
   pub no-queue : r.queue_count ≡ 0
   pub positions : r.drain_positions ≡ at_start
@@ -39,21 +36,21 @@ AllOfBytes (c ∷ cs) = OfBytes c × AllOfBytes cs
 
 -- "Held: the list slot's sheet while registered, else no list."
 abbrev pub held : End → Option ConsumerAssignment
-held e = cond e.state.registered (some (list_in e.store list_slot)) none
+held e = cond e.state.registered (Some (list_in e.store list_slot)) None
 
-pub record Claim (list : Option ConsumerAssignment) (floor : Floor) (o : Seen) : Type 0 where
+pub record Claim (list : Option ConsumerAssignment) (floor : Option ℕ) (o : Seen) : Type 0 where
   -- "Three lists are equal, or there is none of the three"
   pub sent : list ≡ o.sender.list
   pub uploaded : list ≡ o.uploader
   -- "An accepted response gives its baseline, the sheet then in that slot, which is the sheet of the response's own assignment"
-  pub own : o.baseline ≡ map own_in o.response
+  pub own : o.baseline ≡ option_map own_in o.response
   -- "While a list is held, the deltas handed out since its baseline are joined two by two in their order. Every bracketing gives the same delta, and it turns that
   -- baseline into that list"
-  pub same : (l : ConsumerAssignment) → list ≡ some l → (t u : Bracketing) → row t ≡ o.deltas → row u ≡ o.deltas → joined t ≡ joined u
-  pub turns : (l : ConsumerAssignment) → list ≡ some l
-      → (b : ConsumerAssignment) × (o.baseline ≡ some b) × ((t : Bracketing) → row t ≡ o.deltas → apply (joined t) b ≡ l)
+  pub same : (l : ConsumerAssignment) → list ≡ Some l → (t u : Bracketing) → row t ≡ o.deltas → row u ≡ o.deltas → joined t ≡ joined u
+  pub turns : (l : ConsumerAssignment) → list ≡ Some l
+      → (b : ConsumerAssignment) × (o.baseline ≡ Some b) × ((t : Bracketing) → row t ≡ o.deltas → apply (joined t) b ≡ l)
   -- "with no deltas the two are equal"
-  pub still : (l : ConsumerAssignment) → list ≡ some l → o.deltas ≡ [] → o.baseline ≡ some l
+  pub still : (l : ConsumerAssignment) → list ≡ Some l → o.deltas ≡ [] → o.baseline ≡ Some l
   -- "The floor is the highest epoch handed out, or none before the first": to that reader; "bracketing and floor are reckoned from the same deltas"
   pub highest : floor ≡ o.highest
 

@@ -3,13 +3,13 @@
 -- "unregistered, queue and position 0, no store byte touched, floor kept. Begin sets the incarnation and clears invalidated; invalidate sets it." Begin: 25;
 -- "invalidate refuses nothing". The position is every reader's (02 d). Neither looks at the store.
 -- Assumes nothing.
-use Rattle.std.specs.Prelude.{Bool, true, false, ltb}
+use Rattle.std.specs.Prelude.{Bool, true, false, ltb, Ok, Err}
 use Rattle.topic_types.specs.declared.ControllerIncarnation.{ControllerIncarnation}
 use Rattle.refusal.specs.declared.Refusal.{Refusal}
 use Rattle.refusal.specs.declared.Refusal.TheVariants.{NonAdvancingIncarnation}
 use Rattle.refusal.specs.Steps.{◌>>◌, refuse_unless}
 use Rattle.session.specs.declared.SessionRecord.{SessionRecord}
-use Rattle.session.specs.declared.Answer.TheVariants.{Refused, Accepted}
+use Rattle.session.specs.declared.Answer.TheVariants.{Accepted}
 use Rattle.session.specs.declared.Changed.{Changed}
 use Rattle.session.specs.Session.{with_fields, at_start}
 
@@ -19,12 +19,12 @@ unregistered r incarnation invalidated =
 
 -- a refusal leaves the record
 abbrev pub unbegun : SessionRecord → Refusal → Changed
-unbegun r x = record { next = r; answer = Refused x }
+unbegun r x = record { next = r; answer = Err x }
 
 unfoldable pub begin_of : SessionRecord → ControllerIncarnation → Changed
 begin_of r incarnation = do
   refuse_unless (unbegun r) (ltb r.incarnation.0 incarnation.0) (NonAdvancingIncarnation incarnation r.incarnation)  -- 25
-  record { next = unregistered r incarnation false; answer = Accepted }
+  record { next = unregistered r incarnation false; answer = (Ok Accepted) }
 
 unfoldable pub invalidate_of : SessionRecord → Changed
-invalidate_of r = record { next = unregistered r r.incarnation true; answer = Accepted }
+invalidate_of r = record { next = unregistered r r.incarnation true; answer = (Ok Accepted) }

@@ -1,16 +1,13 @@
 -- Public: the sender of demand 3 and the uploader of each reader, exactly as 01 and 02 d have them, and what else is
 -- told from outside. None of them sees the record.
 -- Assumes nothing.
-use Rattle.std.specs.Prelude.{ℕ, Bool, true, false, cond, not, ◌&&◌, ◌||◌, List, [], ◌∷◌, ◌++◌, eqb}
-use Rattle.std.proofs.Math.Option.{Option, some, none, map}
+use Rattle.std.specs.Prelude.{ℕ, Bool, true, false, cond, not, ◌&&◌, ◌||◌, List, [], ◌∷◌, ◌++◌, eqb, Option, Some, None, option_map}
 use Rattle.keyed.specs.Keyed.{or_else, is_some}
 use Rattle.wire_readers.specs.Messages.{update_of, response_of}
 use Rattle.packed.specs.Assignment.{ConsumerAssignment}
 use Rattle.packed_delta.specs.Delta.{AssignmentDelta}
 use Rattle.packed_delta.specs.Join.{apply}
 use Rattle.intake_content.specs.Content.{consumer_assignment}
-use Rattle.session.specs.declared.Floor.{Floor}
-use Rattle.session.specs.declared.Floor.TheVariants.{Unset}
 use Rattle.session.specs.Session.{raise}
 use Rattle.session.specs.Trace.{Call, update, response, drain, begin, invalidate, Event}
 
@@ -29,16 +26,16 @@ pub record Sender : Type 0 where
 
 -- "The sender starts with no list and nothing pending."
 abbrev pub silent : Sender
-silent = record { list = none; pending = none }
+silent = record { list = None; pending = None }
 
 -- "An accepted update's assignment becomes its list if it has one, else the pending one, replacing an earlier."
 abbrev pub send_update : ConsumerAssignment → Sender → Sender
 send_update a s =
-    cond (is_some s.list) (record { list = some a; pending = s.pending }) (record { list = none; pending = some a })
+    cond (is_some s.list) (record { list = Some a; pending = s.pending }) (record { list = None; pending = Some a })
 
 -- "An accepted response makes its list the pending assignment, or with none pending the response's own, and empties pending."
 abbrev pub send_response : ConsumerAssignment → Sender → Sender
-send_response own s = record { list = or_else s.pending (some own); pending = none }
+send_response own s = record { list = or_else s.pending (Some own); pending = None }
 
 -- "Accepted begin or invalidate: no list, nothing pending. All else: no change."
 abbrev pub sent : Call → Sender → Sender
@@ -54,8 +51,8 @@ sender_step e s = cond e.accepted (sent e.call s) s
 -- ---- the uploader: "It sees each call's kind, answer and output and, after an accepted response, the baseline slot."
 
 abbrev pub on_delta : {A : Type 0} → Option AssignmentDelta → (AssignmentDelta → A → A) → A → A
-on_delta none step kept = kept
-on_delta (some d) step kept = step d kept
+on_delta None step kept = kept
+on_delta (Some d) step kept = step d kept
 
 -- "Each reader has an uploader of its own, which applies the deltas of updates and of that reader's drains, never another's" (02 d). What an event does to something that
 -- is kept for a reader: an accepted response starts it anew, accepted begin or invalidate end it, a delta answered by update or by its own drain goes on from it, "all else
@@ -69,30 +66,30 @@ followed reader invalidate e started ended step kept = cond e.accepted ended kep
 
 -- "An accepted response gives its baseline, the sheet then in that slot; accepted begin or invalidate, no list; a delta answered by update or drain is applied"
 abbrev pub uploader_step : (reader : ℕ) → Event → Option ConsumerAssignment → Option ConsumerAssignment
-uploader_step reader e list = followed reader e.call e (some e.baseline) none (λ d l. map (apply d) l) list
+uploader_step reader e list = followed reader e.call e (Some e.baseline) None (λ d l. option_map (apply d) l) list
 
 -- the baseline itself
 abbrev pub baseline_step : (reader : ℕ) → Event → Option ConsumerAssignment → Option ConsumerAssignment
-baseline_step reader e b = followed reader e.call e (some e.baseline) none (λ d b'. b') b
+baseline_step reader e b = followed reader e.call e (Some e.baseline) None (λ d b'. b') b
 
 -- a response's message
 abbrev pub response_in : Call → Option (List ℕ)
-response_in (update message incarnation out) = none
-response_in (response message incarnation) = some message
-response_in (drain reader out) = none
-response_in (begin incarnation) = none
-response_in invalidate = none
+response_in (update message incarnation out) = None
+response_in (response message incarnation) = Some message
+response_in (drain reader out) = None
+response_in (begin incarnation) = None
+response_in invalidate = None
 
 -- the message of the response that gave the baseline
 abbrev pub response_step : (reader : ℕ) → Event → Option (List ℕ) → Option (List ℕ)
-response_step reader e m = followed reader e.call e (response_in e.call) none (λ d m'. m') m
+response_step reader e m = followed reader e.call e (response_in e.call) None (λ d m'. m') m
 
 -- the deltas handed out since the baseline, in their order
 abbrev pub deltas_step : (reader : ℕ) → Event → List AssignmentDelta → List AssignmentDelta
 deltas_step reader e ds = followed reader e.call e [] [] (λ d l. l ++ (d ∷ [])) ds
 
 -- "the highest epoch among baselines and deltas handed out since the first call, none before any"
-abbrev pub highest_step : (reader : ℕ) → Event → Floor → Floor
+abbrev pub highest_step : (reader : ℕ) → Event → Option ℕ → Option ℕ
 highest_step reader e h = followed reader e.call e (raise h e.baseline.layout_epoch) h (λ d f. raise f d.layout_epoch) h
 
 -- ---- all of them over a list of events
@@ -103,11 +100,11 @@ pub record Seen : Type 0 where
   pub baseline : Option ConsumerAssignment
   pub response : Option (List ℕ)
   pub deltas : List AssignmentDelta
-  pub highest : Floor
+  pub highest : Option ℕ
 
 -- "The uploader starts with no list."
 abbrev pub unseen : Seen
-unseen = record { sender = silent; uploader = none; baseline = none; response = none; deltas = []; highest = Unset }
+unseen = record { sender = silent; uploader = None; baseline = None; response = None; deltas = []; highest = None }
 
 abbrev pub see : (reader : ℕ) → Event → Seen → Seen
 see reader e o =

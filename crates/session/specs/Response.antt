@@ -4,16 +4,13 @@
 -- set, the queue stays to be drained from position 0. For a registered session the queue counts as empty, and acceptance empties it."
 -- Refused in order: 1, 22, 3, 4, 7, 6, 23, 16 or 17, 9 to 11, 34, 12 to 15, 26, 27.
 -- Assumes nothing.
-use Rattle.std.specs.Prelude.{ℕ, true, cond, not, List, [], ◌∷◌, eqb, ltb}
-use Rattle.std.proofs.Math.Option.{Option, some, none}
+use Rattle.std.specs.Prelude.{ℕ, true, cond, not, List, [], ◌∷◌, eqb, ltb, Option, Some, None, ℤ}
 use Rattle.topic_types.specs.declared.ControllerIncarnation.{ControllerIncarnation}
 use Rattle.refusal.specs.declared.Refusal.{Refusal}
 use Rattle.refusal.specs.declared.Refusal.TheVariants.{StoreTooShort, MalformedStore, IncarnationMismatch, Broker, Empty, StaleEpoch}
 use Rattle.refusal.specs.Steps.{◌>>◌, ◌>>=◌}
 use Rattle.wire_schema.specs.declared.MessageKind.TheVariants.{CommandScalableTopicSubscribeResponse}
 use Rattle.wire_schema.specs.FirstFault.{first_fault}
-use Rattle.wire_readers.specs.declared.ErrorCode.{ErrorCode}
-use Rattle.wire_readers.specs.declared.ErrorCode.TheVariants.{Given, Absent}
 use Rattle.wire_readers.specs.Messages.{WireResponse, response_of}
 use Rattle.packed.specs.Assignment.{ConsumerAssignment}
 use Rattle.intake_content.specs.Content.{content_of}
@@ -25,9 +22,9 @@ use Rattle.session.specs.Steps.{refuse_if, refuse_unless, refuse_due, refuse_fau
 
 -- 27: the first push of the queue whose epoch lies below that of the list before it, which for the first is the baseline
 unfoldable pub stale_fault : ConsumerAssignment → List ConsumerAssignment → Option Refusal
-stale_fault before [] = none
+stale_fault before [] = None
 stale_fault before (a ∷ queue) =
-    cond (ltb a.layout_epoch before.layout_epoch) (some (StaleEpoch a.layout_epoch before.layout_epoch)) (stale_fault a queue)
+    cond (ltb a.layout_epoch before.layout_epoch) (Some (StaleEpoch a.layout_epoch before.layout_epoch)) (stale_fault a queue)
 
 -- the last list of the replay
 unfoldable pub last_list : ConsumerAssignment → List ConsumerAssignment → ConsumerAssignment
@@ -52,9 +49,9 @@ register s baseline last =
     }
 
 -- 16, or 17
-abbrev pub denied : WireResponse → ErrorCode → Refusal
-denied w (Given code) = Broker code
-denied w Absent = Empty w.request_id
+abbrev pub denied : WireResponse → Option ℤ → Refusal
+denied w (Some code) = Broker code
+denied w None = Empty w.request_id
 
 unfoldable pub response_call : (s : Session) (message : List ℕ) (incarnation : ControllerIncarnation) → Result
 response_call s message incarnation = do

@@ -1,14 +1,13 @@
 -- Public: rows of the readers (02 d), by computing: the order of a drain's refusals, whose position moves, and who sets
 -- all of them to 0.
 -- Assumes nothing.
-use Rattle.std.specs.Prelude.{ℕ, ◌≡◌, refl, true, false, List, [], ◌∷◌, replicate}
+use Rattle.std.specs.Prelude.{ℕ, ◌≡◌, refl, true, false, List, [], ◌∷◌, replicate, Some}
 use Rattle.refusal.specs.declared.Refusal.TheVariants.{OutputTooShort, UnknownReader, MalformedStore}
 use Rattle.packed.specs.Assignment.{ConsumerAssignment, size_segments, size_assignment}
 use Rattle.packed.specs.Equal.{same_segments, same_assignment}
 use Rattle.packed_queue.specs.Entries.{size_entries}
 use Rattle.packed_delta.specs.Change.{without, delta_between}
 use Rattle.session.specs.declared.SessionRecord.{SessionRecord}
-use Rattle.session.specs.declared.Floor.TheVariants.{At}
 use Rattle.session.specs.Store.{min_output}
 use Rattle.session.specs.Session.{Session, unchanged, replayed, Result, any_beyond, damaged, refuse}
 use Rattle.session.specs.Response.{register}
@@ -27,7 +26,7 @@ record_of positions =
       incarnation = record { 0 = 1 };
       registered = true;
       invalidated = false;
-      epoch_floor = At 3;
+      epoch_floor = Some 3;
       queue_count = 3;
       drain_positions = positions;
     }

@@ -1,16 +1,13 @@
 -- Public: a session (01, Session): the record, and what the slots and queue entries in use hold. A call gives a reply,
 -- the next record, and the lists that it writes.
 -- Assumes nothing.
-use Rattle.std.specs.Prelude.{ℕ, zero, suc, Bool, true, false, cond, not, ◌&&◌, ◌||◌, List, [], length, get_or, replicate, ltb}
-use Rattle.std.proofs.Math.Option.{Option, some, none}
+use Rattle.std.specs.Prelude.{ℕ, zero, suc, Bool, true, false, cond, not, ◌&&◌, ◌||◌, List, [], length, get_or, replicate, ltb, Option, Some, None}
 use Rattle.topic_types.specs.declared.ControllerIncarnation.{ControllerIncarnation}
 use Rattle.refusal.specs.declared.Refusal.{Refusal}
 use Rattle.refusal.specs.declared.Refusal.TheVariants.{CrossIncarnationEpochRegression}
 use Rattle.packed.specs.Assignment.{ConsumerAssignment, starts_assignment}
 use Rattle.packed_delta.specs.Delta.{AssignmentDelta}
 use Rattle.session.specs.declared.SessionRecord.{SessionRecord}
-use Rattle.session.specs.declared.Floor.{Floor}
-use Rattle.session.specs.declared.Floor.TheVariants.{Unset, At}
 use Rattle.session.specs.Store.{max_queue, baseline_slot, list_slot, identity_slot, slot, list_in, queue_in, queue_reads, Write}
 use Rattle.session.specs.Identity.{identity_topic, is_identity}
 
@@ -50,7 +47,7 @@ view r store =
 
 -- ---- the record: of its fields the consumer alone never changes
 
-abbrev pub with_fields : SessionRecord → ControllerIncarnation → (registered invalidated : Bool) → Floor → (count : ℕ) → (positions : List ℕ) → SessionRecord
+abbrev pub with_fields : SessionRecord → ControllerIncarnation → (registered invalidated : Bool) → Option ℕ → (count : ℕ) → (positions : List ℕ) → SessionRecord
 with_fields r incarnation registered invalidated floor count positions =
     record {
       consumer_id = r.consumer_id;
@@ -107,16 +104,16 @@ refuse x s = record { reply = refused x; next = s.state; writes = [] }
 
 -- a refusal, or else what follows
 abbrev pub unless : Option Refusal → Session → Result → Result
-unless (some x) s result = refuse x s
-unless none s result = result
+unless (Some x) s result = refuse x s
+unless None s result = result
 
 -- ---- the floor: the highest epoch that was accepted
 
 -- an epoch may not lie below it: 26
-abbrev pub floor_fault : ℕ → Floor → Option Refusal
-floor_fault epoch Unset = none
-floor_fault epoch (At floor) = cond (ltb epoch floor) (some (CrossIncarnationEpochRegression epoch floor)) none
+abbrev pub floor_fault : ℕ → Option ℕ → Option Refusal
+floor_fault epoch None = None
+floor_fault epoch (Some floor) = cond (ltb epoch floor) (Some (CrossIncarnationEpochRegression epoch floor)) None
 
-abbrev pub raise : Floor → ℕ → Floor
-raise Unset epoch = At epoch
-raise (At floor) epoch = cond (ltb floor epoch) (At epoch) (At floor)
+abbrev pub raise : Option ℕ → ℕ → Option ℕ
+raise None epoch = Some epoch
+raise (Some floor) epoch = cond (ltb floor epoch) (Some epoch) (Some floor)

@@ -1,11 +1,8 @@
 -- Public: the words of a session's calls: those of the crate refusal (specs/Steps), where a refusal leaves the session
 -- as it was.
 -- Assumes nothing.
-use Rattle.std.specs.Prelude.{Bool, cond, []}
-use Rattle.std.proofs.Math.Option.{Option}
+use Rattle.std.specs.Prelude.{Bool, cond, [], Option, ⊤, Ok, Err}
 use Rattle.refusal.specs.declared.Refusal.{Refusal}
-use Rattle.wire_schema.specs.declared.Checked.{Checked}
-use Rattle.wire_schema.specs.declared.Checked.TheVariants as checked
 use Rattle.packed.specs.Assignment.{ConsumerAssignment}
 use Rattle.intake_content.specs.Content as content
 use Rattle.session.specs.Session.{Session, unchanged, Result, refuse, unless}
@@ -21,9 +18,9 @@ abbrev pub refuse_due : Session → Option Refusal → Result → Result
 refuse_due s due rest = unless due s rest
 
 -- the first fault of a message
-abbrev pub refuse_fault : Session → Checked → Result → Result
-refuse_fault s (checked.Refused x) rest = refuse x s
-refuse_fault s checked.Valid rest = rest
+abbrev pub refuse_fault : Session → Result ⊤ Refusal → Result → Result
+refuse_fault s (Err x) rest = refuse x s
+refuse_fault s (Ok record {}) rest = rest
 
 -- the list that a message's assignment comes to
 abbrev pub take_content : Session → content.Content → (ConsumerAssignment → Result) → Result

@@ -1,10 +1,9 @@
 -- Internal: the tails of update and response, from a test on, as the contracts of helpers cite them. Whoever reads the claims may skip it.
 -- Assumes nothing.
-use Rattle.std.specs.Prelude.{cond, not, List, ℕ, eqb}
+use Rattle.std.specs.Prelude.{cond, not, List, ℕ, eqb, ⊤}
 use Rattle.topic_types.specs.declared.ControllerIncarnation.{ControllerIncarnation}
 use Rattle.refusal.specs.declared.Refusal.TheVariants.{IncarnationMismatch, ConsumerMismatch}
 use Rattle.refusal.specs.Steps.{◌>>◌, ◌>>=◌}
-use Rattle.wire_schema.specs.declared.Checked.{Checked}
 use Rattle.wire_readers.specs.Messages.{WireUpdate, update_of, WireResponse, response_of}
 use Rattle.packed.specs.Assignment.{ConsumerAssignment}
 use Rattle.intake_content.specs.Content.{Content, content_of}
@@ -12,6 +11,7 @@ use Rattle.session.specs.Session.{Session, Result, floor_fault}
 use Rattle.session.specs.Steps.{refuse_if, refuse_unless, refuse_due, refuse_fault, take_content}
 use Rattle.session.specs.Update.{update_registered, update_unregistered}
 use Rattle.session.specs.Response.{stale_fault, last_list, replayable, register, denied}
+use Rattle.refusal.specs.declared.Refusal.{Refusal}
 
 -- ---- update
 
@@ -26,7 +26,7 @@ update_valid s incarnation u = do
   refuse_if s (not (eqb u.consumer_id s.state.consumer_id)) (ConsumerMismatch u.consumer_id s.state.consumer_id)
   update_content s (content_of s.topic u.assignment)
 
-abbrev pub update_checked : Session → ControllerIncarnation → List ℕ → Checked → Result
+abbrev pub update_checked : Session → ControllerIncarnation → List ℕ → Result ⊤ Refusal → Result
 update_checked s incarnation message c = do
   refuse_fault s c
   update_valid s incarnation (update_of message)
@@ -50,7 +50,7 @@ response_valid s incarnation w = do
   refuse_unless s w.has_assignment (denied w w.error)
   response_content s (content_of s.topic w.assignment)
 
-abbrev pub response_checked : Session → ControllerIncarnation → List ℕ → Checked → Result
+abbrev pub response_checked : Session → ControllerIncarnation → List ℕ → Result ⊤ Refusal → Result
 response_checked s incarnation message c = do
   refuse_fault s c
   response_valid s incarnation (response_of message)

@@ -3,7 +3,7 @@
 -- "unregistered, it joins the queue and answers none. Registered, a list equal in every field answers none; any other list with epoch not below is held, raises the
 -- floor, and answers the delta." Refused in order: 1, 2, 22, 3, 4, 7, 6, 23, 24, 9 to 11, 34, 12 to 15, then 26, 28 or 27.
 -- Assumes nothing.
-use Rattle.std.specs.Prelude.{ℕ, ◌+◌, cond, not, List, [], ◌∷◌, eqb, ltb}
+use Rattle.std.specs.Prelude.{ℕ, ◌+◌, cond, not, List, [], ◌∷◌, eqb, ltb, Option}
 use Rattle.topic_types.specs.declared.ControllerIncarnation.{ControllerIncarnation}
 use Rattle.refusal.specs.declared.Refusal.TheVariants.{StoreTooShort, OutputTooShort, MalformedStore, IncarnationMismatch}
 use Rattle.refusal.specs.declared.Refusal.TheVariants.{ConsumerMismatch, StaleEpoch, PreBaselineBufferFull}
@@ -16,7 +16,6 @@ use Rattle.packed.specs.Equal.{same_assignment}
 use Rattle.packed_delta.specs.Change.{delta_between}
 use Rattle.intake_content.specs.Content.{content_of}
 use Rattle.session.specs.declared.SessionRecord.{SessionRecord}
-use Rattle.session.specs.declared.Floor.{Floor}
 use Rattle.packed_queue.specs.Entries.{size_entry}
 use Rattle.session.specs.Store.{min_store, min_output, max_queue, list_slot, queue_end, to_slot, push}
 use Rattle.session.specs.Session as session
@@ -27,7 +26,7 @@ abbrev pub with_queue_count : SessionRecord → ℕ → SessionRecord
 with_queue_count r n =
     with_fields r r.incarnation r.registered r.invalidated r.epoch_floor n r.drain_positions
 
-abbrev pub with_floor : SessionRecord → Floor → SessionRecord
+abbrev pub with_floor : SessionRecord → Option ℕ → SessionRecord
 with_floor r floor =
     with_fields r r.incarnation r.registered r.invalidated floor r.queue_count r.drain_positions
 

@@ -9,13 +9,6 @@ use topic_types::ControllerIncarnation;
 // How many readers take the replays, each by its own drain position.
 pub const READERS: usize = 8;
 
-// The highest epoch that was accepted, kept over every link to the controller.
-#[derive(Clone, Copy)]
-pub enum Floor {
-    Unset,
-    At(u64),
-}
-
 // The session's own record.
 #[derive(Clone, Copy)]
 pub struct SessionRecord {
@@ -23,7 +16,7 @@ pub struct SessionRecord {
     pub incarnation: ControllerIncarnation,
     pub registered: bool,
     pub invalidated: bool,
-    pub epoch_floor: Floor,
+    pub epoch_floor: Option<u64>,
     // How many pushes the queue holds, and how many of them each reader has drained.
     pub queue_count: usize,
     pub drain_positions: [usize; READERS],
@@ -32,8 +25,6 @@ pub struct SessionRecord {
 // What a call answers.
 #[derive(Clone, Copy)]
 pub enum Answer {
-    // Record, store and output are as they were.
-    Refused(Refusal),
     // A response, begin or invalidate.
     Accepted,
     // No change: an update or a drain that answers none.
@@ -48,13 +39,5 @@ pub enum Answer {
 #[derive(Clone, Copy)]
 pub struct Changed {
     pub next: SessionRecord,
-    pub answer: Answer,
-}
-
-// What `matches_registration` answers.
-#[derive(Clone, Copy)]
-pub enum Match {
-    Same,
-    Other,
-    Refused(Refusal),
+    pub answer: Result<Answer, Refusal>,
 }

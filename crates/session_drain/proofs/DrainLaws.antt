@@ -3,6 +3,7 @@
 -- In order: entries of the queue where they lie (`part_lies` to `reaches-next`); the walk over them (`walk_begins` to `goes_on`);
 -- what was found (`found_none` to `placed`); the cases of the call (`told` to `replayed`).
 -- Assumes nothing.
+use Rattle.std.specs.Prelude.{Ok, Err}
 use Prim.Native.Nat.{ℕ, zero, suc, ◌+◌, ◌-◌, ◌≤◌, ◌<◌}
 use native.Mathlib.Nat.{add-zero, zero-add, not-suc-le-zero, add-sub_cancel_left}
 use native.Mathlib.Numerals.{add-one}
@@ -24,7 +25,7 @@ use Rattle.packed_delta.specs.Delta.{AssignmentDelta, encode_delta, size_delta}
 use Rattle.packed_delta.specs.Change.{delta_between}
 use Rattle.session.specs.declared.SessionRecord.{SessionRecord}
 use Rattle.session.specs.declared.Changed.{Changed}
-use Rattle.session.specs.declared.Answer.TheVariants.{Refused, Unchanged, Replay}
+use Rattle.session.specs.declared.Answer.TheVariants.{Unchanged, Replay}
 use Rattle.session.specs.Store.{slot, list_in, queue_in, queue_end}
 use Rattle.session.specs.Session.{position_of, view, damaged}
 use Rattle.session.specs.Drain.{Found, end, entry, next_change, with_position, entry_place, drained, drain_call}
@@ -188,22 +189,22 @@ pub told : (r : SessionRecord) (st : List ℕ) (reader : ℕ) (out : List ℕ) {
 told r st reader out e h = rw e h
 
 module _ (r : SessionRecord) (st : List ℕ) (reader : ℕ) (out : List ℕ) where
-  pub store-short : length st < 6144 → call_outcome (Refused StoreTooShort) r st out ≡ drain_outcome r st reader out
+  pub store-short : length st < 6144 → call_outcome (Err StoreTooShort) r st out ≡ drain_outcome r st reader out
   unfolding drain_outcome drain_call view
   store-short h = rw (lt-ltb (length st) 6144 h)
 
   module _ (h : 6144 ≤ length st) where
-    pub output-short : length out < 3210 → call_outcome (Refused OutputTooShort) r st out ≡ drain_outcome r st reader out
+    pub output-short : length out < 3210 → call_outcome (Err OutputTooShort) r st out ≡ drain_outcome r st reader out
     unfolding drain_outcome drain_call view
     output-short k = rw (le-ltb (length st) 6144 h, lt-ltb (length out) 3210 k)
 
     module _ (k : 3210 ≤ length out) where
-      pub reader-unknown : 8 ≤ reader → call_outcome (Refused UnknownReader) r st out ≡ drain_outcome r st reader out
+      pub reader-unknown : 8 ≤ reader → call_outcome (Err UnknownReader) r st out ≡ drain_outcome r st reader out
       unfolding drain_outcome drain_call view
       reader-unknown l = rw (le-ltb (length st) 6144 h, le-ltb (length out) 3210 k, le-leb 8 reader l)
 
       pub store-bad : reader < 8 → (x : Bool) → x ≡ not (damaged (view r st)) → not x ≡ true
-          → call_outcome (Refused MalformedStore) r st out ≡ drain_outcome r st reader out
+          → call_outcome (Err MalformedStore) r st out ≡ drain_outcome r st reader out
       unfolding drain_outcome drain_call view
       store-bad l x e f =
           rw (
@@ -225,7 +226,7 @@ pub record Taken (r : SessionRecord) (st : List ℕ) (reader : ℕ) (out : List 
   pub sound : not (damaged (view r st)) ≡ true
 
 module _ (r : SessionRecord) (st : List ℕ) (reader : ℕ) (out : List ℕ) (t : Taken r st reader out) where
-  pub unregistered : not r.registered ≡ true → call_outcome Unchanged r st out ≡ drain_outcome r st reader out
+  pub unregistered : not r.registered ≡ true → call_outcome (Ok Unchanged) r st out ≡ drain_outcome r st reader out
   unfolding drain_outcome drain_call view
   unregistered g =
       rw (
@@ -260,7 +261,7 @@ module _ (r : SessionRecord) (st : List ℕ) (reader : ℕ) (out : List ℕ) (t 
 
     -- the walk stopped at entry i
     module _ (i : ℕ) (q : next_of r st reader ≡ found_at st r.queue_count i) where
-      pub none_left : i ≡ r.queue_count → call_outcome Unchanged (with_position r reader r.queue_count) st out ≡ drain_outcome r st reader out
+      pub none_left : i ≡ r.queue_count → call_outcome (Ok Unchanged) (with_position r reader r.queue_count) st out ≡ drain_outcome r st reader out
       unfolding view drained
       none_left p = found end (q ∙ found_none st r.queue_count i p)
 
@@ -268,7 +269,7 @@ module _ (r : SessionRecord) (st : List ℕ) (reader : ℕ) (out : List ℕ) (t 
           → (a b : ConsumerAssignment) → a ≡ list_before st i → b ≡ entry_in st i
           → (len : ℕ) → len ≡ size_delta (delta_between a b) → (new : List ℕ) → new ≡ put out 0 (encode_delta (delta_between a b))
           → (next : SessionRecord) → next ≡ with_position r reader (i + 1)
-          → call_outcome (Replay place len) next st new ≡ drain_outcome r st reader out
+          → call_outcome (Ok (Replay place len)) next st new ≡ drain_outcome r st reader out
       unfolding view drained
       replayed p place ep a b ea eb len el new en next ex =
           rw (el, en, ex, ea, eb, add-one i, ep ∙ sym (placed st r.queue_count i p)) (found (entry i (change_to st i)) (q ∙ found_some st r.queue_count i p))

@@ -119,6 +119,6 @@ pub fn drained(r: SessionRecord, store: &[u8], reader: usize, out: &mut [u8]) ->
     let next = session_record::with_position(r, reader, found.i + 1);
     Changed {
         next,
-        answer: Answer::Replay(place, len),
+        answer: Ok(Answer::Replay(place, len)),
     }
 }

@@ -3,6 +3,7 @@
 -- In order: the topic as a part of the store (`topic-end`, `topic-text`); what stands in the buffer behind an intake (`intake-answers`); a
 -- message of two fields, of which the second holds an assignment (`ordered-taken`).
 -- Assumes nothing.
+use Rattle.std.specs.Prelude.{Option, Some, Result, Ok}
 use Prim.Native.Nat.{ℕ, ◌+◌, ◌-◌, ◌≤◌, ◌<◌}
 use native.Mathlib.Nat.{add-sub_cancel_left}
 use native.Mathlib.Omega.{arith}
@@ -24,7 +25,6 @@ use Rattle.wire.specs.declared.WireType.TheVariants as type
 use Rattle.wire.specs.Fields.{number, bytes, field, fields_of}
 use Rattle.wire.proofs.FieldsLaws.{fields-nil}
 use Rattle.wire_schema.specs.declared.MessageKind.TheVariants.{ScalableConsumerAssignment}
-use Rattle.wire_schema.specs.declared.Checked.TheVariants.{Valid}
 use Rattle.wire_schema.specs.FirstFault.{first_fault, Sound}
 use Rattle.wire_schema.proofs.SoundLaws.{update-row, response-row}
 use Rattle.wire_ordered.specs.Ordered.{NumberIs, PartField}
@@ -36,16 +36,13 @@ use Rattle.packed.proofs.RoundLaws.{FitAssignment, length-encode_assignment, rea
 use Rattle.intake_content.specs.Content.{Content, refused, taken, content_of}
 use Rattle.intake_content.proofs.WideLaws.{Wide, update-wide, response-wide}
 use Rattle.intake_content.proofs.ContentLaws.{content-fits}
-use Rattle.intake.specs.declared.Intake.{Intake}
-use Rattle.intake.specs.declared.Intake.TheVariants as intake
 use Rattle.intake.specs.Intake.{IntakeIs}
-use Rattle.intake_ordered.specs.declared.OrderedIntake.{OrderedIntake}
-use Rattle.intake_ordered.specs.declared.OrderedIntake.TheVariants.{Taken}
 use Rattle.intake_ordered.specs.Taken.{OrderedTaken, OrderedIs}
 use Rattle.session.specs.Store.{slot}
 use Rattle.session.specs.Identity.{identity_topic, is_identity}
 use Rattle.packed_queue.proofs.EntryLaws.{size_ok}
 use Rattle.session_intake.specs.Taken.{AssignmentField, message_with, content_in, TopicEnd, Answers, OrderedMessageTaken}
+use Rattle.refusal.specs.declared.Refusal.{Refusal}
 
 -- ---- the topic
 
@@ -85,7 +82,7 @@ module _ (st : List ℕ) (h : is_identity (slot st 0) ≡ true) where
 
 -- a packed assignment put at its front
 put-answers : (a : ConsumerAssignment) (b b' : List ℕ) (n : ℕ) → length b ≡ 2048 → FitAssignment a → ok_assignment a ≡ true
-    → n ≡ size_assignment a → b' ≡ put b 0 (encode_assignment a) → Answers (intake.Taken n) b' (taken a)
+    → n ≡ size_assignment a → b' ≡ put b 0 (encode_assignment a) → Answers (Ok n) b' (taken a)
 unfolding put
 put-answers a b b' n l f o e w =
     let z : length (encode_assignment a) ≡ size_assignment a = length-encode_assignment a in
@@ -119,7 +116,7 @@ module _ (m : List ℕ) {head at from to : ℕ} (i : NumberIs 1 m 0 head at) (h 
       let z : fields_of (drop to m) ≡ [] = fields-nil (drop to m) (omega (arith, length-drop to m)) in
       i.fields ∙ rw (p.fields, z)
 
-  message-valid : (n : ℕ) → AssignmentField n → PartField n m at from to → first_fault (message_with n) m ≡ Valid
+  message-valid : (n : ℕ) → AssignmentField n → PartField n m at from to → first_fault (message_with n) m ≡ Ok record {}
   message-valid n (inl e) p =
       let s = take (to - from) (drop from m) in
       rw e (update-row m head s (v 3) (message-row 2 (subst (λ (k : ℕ). PartField k m at from to) e p)))
@@ -130,7 +127,7 @@ module _ (m : List ℕ) {head at from to : ℕ} (i : NumberIs 1 m 0 head at) (h 
 -- ---- what the functions answer
 
 module _ (st m b b' : List ℕ) (n end : ℕ) (o : AssignmentField n) (e : TopicEnd st end) (l : length b ≡ 2048) (h : Bytes m) where
-  pub intake-answers : (x : Intake)
+  pub intake-answers : (x : Result ℕ Refusal)
       → IntakeIs b x b' (content_of (take (end - 7) (drop 7 st)) (wire.read_assignment (merged_fields n (fields_of m))))
       → Answers x b' (content_in st n m)
   intake-answers x i = go (content_in st n m) refl (rw (← e.is) i)
@@ -142,7 +139,7 @@ module _ (st m b b' : List ℕ) (n end : ℕ) (o : AssignmentField n) (e : Topic
           rw q.0 (put-answers a b b' (size_assignment a) l f.0 f.1 refl q.1)
 
   pub ordered-taken : (head at from to epoch size : ℕ) → NumberIs 1 m 0 head at → PartField n m at from to → length m ≤ to
-      → (x : OrderedIntake) → x ≡ Taken epoch size → OrderedIs (take (end - 7) (drop 7 st)) (take (to - from) (drop from m)) b x b'
+      → (x : Option (ℕ × ℕ)) → x ≡ Some (epoch, size) → OrderedIs (take (end - 7) (drop 7 st)) (take (to - from) (drop from m)) b x b'
       → OrderedMessageTaken st m n head size b'
   ordered-taken head at from to epoch size i p g x y q =
       let t : OrderedTaken (take (end - 7) (drop 7 st)) (take (to - from) (drop from m)) b epoch size b' = rw y at q in

@@ -12,19 +12,8 @@ ghost use Rattle.session.specs.Store.{min_store, slot};
 ghost use Rattle.session.specs.Identity.{is_identity};
 ghost use Rattle.session_intake.specs.Taken.{AssignmentField, content_in, TopicEnd, Answers, OrderedMessageIs};
 
-use intake::Intake;
-use intake_ordered::OrderedIntake;
+use refusal::Refusal;
 use session_store::IDENTITY_HEAD;
-use wire_ordered::{NumberAt, Part};
-
-// What is told of a message.
-#[derive(Clone, Copy)]
-pub enum OrderedMessage {
-    // It is valid, and nothing refuses its assignment: the number of its field 1, and the packed assignment's size.
-    Taken(u64, usize),
-    // Nothing.
-    Other,
-}
 
 // Where the topic ends, which starts at the place 7 of the store.
 fn topic_end(store: &[u8]) -> usize
@@ -35,29 +24,35 @@ fn topic_end(store: &[u8]) -> usize
 }
 
 // A message of field 1, a number, and field n, its assignment, and nothing else. What the buffer holds where nothing is told is free.
-pub fn take_ordered_message(store: &[u8], m: &[u8], n: u8, b: &mut [u8]) -> OrderedMessage
+pub fn take_ordered_message(store: &[u8], m: &[u8], n: u8, b: &mut [u8]) -> Option<(u64, usize)>
     requires min_store_in_bounds { (min_store ≤ length store.now) × (is_identity (slot store.now 0) ≡ true) }
     requires assignment_field { AssignmentField n × (length b.old ≡ slot_size) }
     ensures { OrderedMessageIs store.now m.now n result b.new }
 {
-    let NumberAt::Found(head, at) = wire_ordered::number_at(1, m, 0) else {
-        return OrderedMessage::Other;
+    let Some((head, at)) = wire_ordered::number_at(1, m, 0) else {
+        return None;
     };
-    let Part::Found(from, to) = wire_ordered::part_at(n, m, at) else {
-        return OrderedMessage::Other;
+    let Some((from, to)) = wire_ordered::part_at(n, m, at) else {
+        return None;
     };
     if to < m.len() {
-        return OrderedMessage::Other;
+        return None;
     }
     let end = topic_end(store);
     match intake_ordered::take_ordered(&m[from..to], &store[IDENTITY_HEAD..end], b) {
-        OrderedIntake::Taken(_, size) => OrderedMessage::Taken(head, size),
-        OrderedIntake::Other => OrderedMessage::Other,
+        Some((_, size)) => Some((head, size)),
+        None => None,
     }
 }
 
 // The assignment in field n of any message, whose epoch is given. What a refusal leaves in the buffer is free.
-pub fn take_assignment(store: &[u8], m: &[u8], n: u64, epoch: u64, b: &mut [u8]) -> Intake
+pub fn take_assignment(
+    store: &[u8],
+    m: &[u8],
+    n: u64,
+    epoch: u64,
+    b: &mut [u8],
+) -> Result<usize, Refusal>
     requires min_store_in_bounds { (min_store ≤ length store.now) × (is_identity (slot store.now 0) ≡ true) }
     requires assignment_field { AssignmentField n × (length b.old ≡ slot_size) }
     requires epoch_value { epoch ≡ (read_assignment (merged_fields n (fields_of m.now))).layout_epoch }

@@ -2,12 +2,12 @@
 -- claim is false of each. Messages and store are bytes; the assignments differ in the epoch alone. What they come to is computed in values, and
 -- said of the runs on bytes by `same`.
 -- Assumes nothing.
+use Rattle.std.specs.Prelude.{Option, Some, None}
 use Prim.Native.Nat.{ℕ}
 use native.Mathlib.Omega.{arith}
 use mathlib.Core.Path.{◌≡◌, refl, ap, sym, ◌∙◌}
 use mathlib.Core.Bool.{true}
 use mathlib.Core.List.{List, [], ◌∷◌}
-use mathlib.Core.Option.{Option, some, none}
 use lib.ListN.{replicate}
 use lib.Pow.{are_bytes}
 use Rattle.topic_types.specs.declared.ControllerIncarnation.{ControllerIncarnation}
@@ -28,8 +28,6 @@ use Rattle.packed_queue.specs.Entries.{size_entries, decode_entries, start_entri
 use Rattle.packed_delta.specs.Change.{without, delta_between}
 use Rattle.packed_delta.specs.Join.{strike, apply}
 use Rattle.intake_content.specs.Content.{first_refusal, in_id_order, consumer_assignment, content_of}
-use Rattle.session.specs.declared.Floor.{Floor}
-use Rattle.session.specs.declared.Floor.TheVariants.{Unset, At}
 use Rattle.session.specs.declared.SessionRecord.{SessionRecord}
 use Rattle.session.specs.Store.{slot, list_in, queue_in, queue_reads}
 use Rattle.session.specs.Identity.{identity_topic, subscription_of, consumer_name_of, is_identity}
@@ -123,14 +121,14 @@ another-bytes : AllOfBytes by_another
 another-bytes = (push-bytes 2 refl, (answer-bytes 1 refl, (tt, (tt, tt))))
 
 record Computed : Type 0 where
-  floor : (value_final opened unread).state.epoch_floor ≡ At 2
-  highest : (watch 0 unseen (value_trace opened unread)).highest ≡ At 1
-  list : held_in (value_final opened between) ≡ some (at 3)
-  uploader : (watch 0 unseen (value_trace opened between)).uploader ≡ some (at 2)
+  floor : (value_final opened unread).state.epoch_floor ≡ Some 2
+  highest : (watch 0 unseen (value_trace opened unread)).highest ≡ Some 1
+  list : held_in (value_final opened between) ≡ Some (at 3)
+  uploader : (watch 0 unseen (value_trace opened between)).uploader ≡ Some (at 2)
   drained : all_drained 0 (value_trace opened in_place) ≡ true
-  last : held_in (value_final opened in_place) ≡ some (at 3)
-  replayed : held_in (value_final opened by_another) ≡ some (at 2)
-  other : (watch 0 unseen (value_trace opened by_another)).uploader ≡ some (at 1)
+  last : held_in (value_final opened in_place) ≡ Some (at 3)
+  replayed : held_in (value_final opened by_another) ≡ Some (at 2)
+  other : (watch 0 unseen (value_trace opened by_another)).uploader ≡ Some (at 1)
   drained-by-one : all_drained 1 (value_trace opened by_another) ≡ true
 
 computed : Computed
@@ -151,27 +149,27 @@ computed =
       drained-by-one = refl;
     }
 
-abbrev floor_epoch : Floor → ℕ
-floor_epoch Unset = 0
-floor_epoch (At epoch) = epoch
+abbrev floor_epoch : Option ℕ → ℕ
+floor_epoch None = 0
+floor_epoch (Some epoch) = epoch
 
 abbrev list_epoch : Option ConsumerAssignment → ℕ
-list_epoch none = 0
-list_epoch (some a) = a.layout_epoch
+list_epoch None = 0
+list_epoch (Some a) = a.layout_epoch
 
 -- the floor is 2, and the highest epoch handed out is 1
 pub floor-above : ClaimOf unread → ⊥
 floor-above c =
-    let p : (end_of unread).state.epoch_floor ≡ At 2 = floor-is unread unread-bytes ∙ computed.floor in
-    let q : (watch 0 unseen (events_of unread)).highest ≡ At 1 = ap (λ (o : Seen). o.highest) (seen-is unread unread-bytes) ∙ computed.highest in
+    let p : (end_of unread).state.epoch_floor ≡ Some 2 = floor-is unread unread-bytes ∙ computed.floor in
+    let q : (watch 0 unseen (events_of unread)).highest ≡ Some 1 = ap (λ (o : Seen). o.highest) (seen-is unread unread-bytes) ∙ computed.highest in
     let e : ◌≡◌ {A = ℕ} 2 1 = ap floor_epoch (sym p ∙ c.highest ∙ q) in
     omega arith
 
 -- epoch 3 is held, and the uploader has epoch 2
 pub lists-apart : ClaimOf between → ⊥
 lists-apart c =
-    let p : held (end_of between) ≡ some (at 3) = held-is between between-bytes ∙ computed.list in
-    let q : (watch 0 unseen (events_of between)).uploader ≡ some (at 2) =
+    let p : held (end_of between) ≡ Some (at 3) = held-is between between-bytes ∙ computed.list in
+    let q : (watch 0 unseen (events_of between)).uploader ≡ Some (at 2) =
     ap (λ (o : Seen). o.uploader) (seen-is between between-bytes) ∙ computed.uploader in
     let e : ◌≡◌ {A = ℕ} 3 2 = ap list_epoch (sym p ∙ c.uploaded ∙ q) in
     omega arith
@@ -182,12 +180,12 @@ other-reader = (ap (all_drained 1) (events-are by_another another-bytes) ∙ com
   where
     apart : ClaimOf by_another → ⊥
     apart c =
-        let p : held (end_of by_another) ≡ some (at 2) = held-is by_another another-bytes ∙ computed.replayed in
-        let q : (watch 0 unseen (events_of by_another)).uploader ≡ some (at 1) =
+        let p : held (end_of by_another) ≡ Some (at 2) = held-is by_another another-bytes ∙ computed.replayed in
+        let q : (watch 0 unseen (events_of by_another)).uploader ≡ Some (at 1) =
         ap (λ (o : Seen). o.uploader) (seen-is by_another another-bytes) ∙ computed.other in
         let e : ◌≡◌ {A = ℕ} 2 1 = ap list_epoch (sym p ∙ c.uploaded ∙ q) in
         omega arith
 
 -- with the drains in their place the condition is met, and a list is held
-pub drained-between : (all_drained 0 (events_of in_place) ≡ true) × (held (end_of in_place) ≡ some (at 3))
+pub drained-between : (all_drained 0 (events_of in_place) ≡ true) × (held (end_of in_place) ≡ Some (at 3))
 drained-between = (ap (all_drained 0) (events-are in_place place-bytes) ∙ computed.drained, held-is in_place place-bytes ∙ computed.last)

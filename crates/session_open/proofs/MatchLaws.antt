@@ -3,6 +3,7 @@
 -- In order: the texts and the kind, each of which differs or leaves the answer to the next (`topic-other` to `kind-decides`); the cases of
 -- `match_of` (`match-short` to `match-other`).
 -- Assumes nothing.
+use Rattle.std.specs.Prelude.{Ok, Err}
 use Prim.Native.Nat.{ℕ, ◌+◌, ◌-◌, ◌≤◌, ◌<◌}
 use mathlib.Core.Path.{◌≡◌, sym, ap, ◌∙◌}
 use mathlib.Core.Bool.{Bool, true, false, not}
@@ -12,7 +13,6 @@ use lib.Dec.{eqb}
 use borrow.Author.Tests.{le-ltb, lt-ltb, not-true, not-false}
 use Rattle.refusal.specs.declared.Refusal.TheVariants.{StoreTooShort, MalformedStore}
 use Rattle.slice.specs.Same.{same_bytes}
-use Rattle.session.specs.declared.Match.TheVariants.{Same, Other, Refused}
 use Rattle.session.specs.Store.{slot}
 use Rattle.session.specs.Identity.{Identity, kind_byte, identity_topic, subscription_of, consumer_name_of, is_identity}
 use Rattle.session.specs.Calls.{same_identity, match_of}
@@ -49,20 +49,20 @@ module _ (l : List ℕ) (a b c : ℕ) (q : Lengths l a b c) (i : Identity) (x : 
 -- ---- the cases
 
 module _ (st : List ℕ) (i : Identity) where
-  pub match-short : length st < 6144 → Refused StoreTooShort ≡ match_of st i
+  pub match-short : length st < 6144 → Err StoreTooShort ≡ match_of st i
   unfolding match_of
   match-short h = simp (lt-ltb (length st) 6144 h)
 
   module _ (h : 6144 ≤ length st) (x : Bool) (ex : x ≡ is_identity (slot st 0)) where
-    pub match-damaged : not x ≡ true → Refused MalformedStore ≡ match_of st i
+    pub match-damaged : not x ≡ true → Err MalformedStore ≡ match_of st i
     unfolding match_of
     match-damaged f = simp (le-ltb (length st) 6144 h, ← ex, not-true x f)
 
     module _ (f : not x ≡ false) (y : Bool) (ey : y ≡ same_identity (slot st 0) i) where
-      pub match-same : y ≡ true → Same ≡ match_of st i
+      pub match-same : y ≡ true → (Ok true) ≡ match_of st i
       unfolding match_of
       match-same g = simp (le-ltb (length st) 6144 h, ← ex, not-false x f, sym ey ∙ g)
 
-      pub match-other : y ≡ false → Other ≡ match_of st i
+      pub match-other : y ≡ false → (Ok false) ≡ match_of st i
       unfolding match_of
       match-other g = simp (le-ltb (length st) 6144 h, ← ex, not-false x f, sym ey ∙ g)

@@ -3,6 +3,7 @@
 -- In order: the lengths of the texts together (`texts-over` to `texts-room`); an identity written from its end to its front (`Writes`,
 -- `written`); the cases of `open_outcome` (`open-short` to `open_done`).
 -- Assumes nothing.
+use Rattle.std.specs.Prelude.{Ok}
 use Prim.Native.Nat.{ℕ, ◌+◌, ◌-◌, ◌≤◌, ◌<◌}
 use native.Mathlib.Omega.{arith}
 use mathlib.Core.Path.{◌≡◌, refl, sym, ap, ◌∙◌}
@@ -104,7 +105,7 @@ module _ (consumer : ℕ) (incarnation : ControllerIncarnation) (i : Identity) (
   abbrev pub fitted : OpenOutcome
   fitted =
       cond (leb (texts_length i) 2041)
-      (record { answer = Accepted; next = fresh_record consumer incarnation; store = put st 0 (encode_identity i) })
+      (record { answer = (Ok Accepted); next = fresh_record consumer incarnation; store = put st 0 (encode_identity i) })
       (not_opened IdentityTooLong (fresh_record consumer incarnation) st)
 
   pub open-short : length st < 6144 → not_opened StoreTooShort r st ≡ open_outcome consumer incarnation i st
@@ -135,5 +136,5 @@ module _ (consumer : ℕ) (incarnation : ControllerIncarnation) (i : Identity) (
     open-long m = sym (e ∙ simp (← et, not-true t m, er))
 
     pub open_done : not t ≡ false → (q : List ℕ) → q ≡ put st 0 (encode_identity i)
-        → ◌≡◌ {A = OpenOutcome} (record { answer = Accepted; next = r; store = q }) (open_outcome consumer incarnation i st)
+        → ◌≡◌ {A = OpenOutcome} (record { answer = (Ok Accepted); next = r; store = q }) (open_outcome consumer incarnation i st)
     open_done m q eq = sym (e ∙ simp (← et, not-false t m, er, eq))

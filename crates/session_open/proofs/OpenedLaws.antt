@@ -3,6 +3,7 @@
 -- In order: the same texts and kind are the same identity (`same-own`, `same-only`); what an open comes to (`comes`); of an accepted one the
 -- identity slot (`held`), the bytes behind it (`stays`), the answers of `match_of` (`match-told`) and the session on it (`topic-seen`, `not-damaged`).
 -- Assumes nothing.
+use Rattle.std.specs.Prelude.{Ok}
 use Prim.Native.Nat.{ℕ, ◌+◌, ◌-◌, ◌≤◌}
 use native.Mathlib.Omega.{arith}
 use mathlib.Core.Path.{◌≡◌, refl, sym, ap, ◌∙◌, subst}
@@ -23,7 +24,6 @@ use Rattle.slice_int.specs.Put.{put}
 use Rattle.slice_int.proofs.PutLaws.{length-put, drop-put}
 use Rattle.session.specs.declared.Answer.TheVariants as answer
 use Rattle.packed_queue.specs.Entries.{start_entries}
-use Rattle.session.specs.declared.Match.TheVariants.{Same, Other}
 use Rattle.session.specs.Store.{slot, queue_reads}
 use Rattle.session.specs.Identity.{Identity, kind_byte, texts_length, encode_identity, identity_topic, subscription_of, consumer_name_of, identity_kind, is_identity}
 use Rattle.session.specs.Session.{in_use, view, any_beyond, damaged}
@@ -64,11 +64,11 @@ same-only i j e =
     alike _ _ _ _ _ _ _ _ (same-eq _ _ a.0) (same-eq _ _ b.0) (same-eq _ _ c.0)
     (kind-only i.consumer_type j.consumer_type (eqb-true _ _ c.1))
 
-told_same : (t : Bool) → told t ≡ Same → t ≡ true
+told_same : (t : Bool) → told t ≡ Ok true → t ≡ true
 told_same true e = refl
 told_same false e = let z : ◌≡◌ {A = ℕ} 0 1 = cc in absurd (omega arith)
 
-answered : (t : Bool) → cond t Same Other ≡ told t
+answered : (t : Bool) → cond t (Ok true) (Ok false) ≡ told t
 answered true = refl
 answered false = refl
 
@@ -77,7 +77,7 @@ answered false = refl
 module _ (consumer : ℕ) (incarnation : ControllerIncarnation) (i : Identity) (st : List ℕ) where
   -- what an accepted open gives
   abbrev done : OpenOutcome
-  done = record { answer = answer.Accepted; next = fresh_record consumer incarnation; store = put st 0 (encode_identity i) }
+  done = record { answer = (Ok answer.Accepted); next = fresh_record consumer incarnation; store = put st 0 (encode_identity i) }
 
   data Comes (o : OpenOutcome) : Type 0 where
     accepted : 6144 ≤ length st → all_utf8 i ≡ true → texts_length i ≤ 2041 → o ≡ done → Comes o

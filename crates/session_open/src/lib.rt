@@ -9,7 +9,7 @@ ghost use Rattle.session.specs.Identity.{max_texts, kind_byte, encode_identity, 
 ghost use Rattle.session.specs.Calls.{fresh_record, open_outcome, same_identity, match_of};
 
 use refusal::Refusal;
-use session::{Answer, Changed, Floor, Match, READERS, SessionRecord};
+use session::{Answer, Changed, READERS, SessionRecord};
 use session_store::{IDENTITY_HEAD, KIND, MAX_TEXTS, MIN_STORE, NAME_LENGTH, SUBSCRIPTION_LENGTH};
 use topic_types::{ControllerIncarnation, ScalableConsumerType};
 
@@ -68,7 +68,7 @@ pub fn fresh(consumer_id: u64, incarnation: ControllerIncarnation) -> SessionRec
         incarnation,
         registered: false,
         invalidated: false,
-        epoch_floor: Floor::Unset,
+        epoch_floor: None,
         queue_count: 0,
         drain_positions: [0; READERS],
     }
@@ -106,7 +106,7 @@ pub fn open(
     write_identity(topic, subscription, name, kind, store);
     Changed {
         next,
-        answer: Answer::Accepted,
+        answer: Ok(Answer::Accepted),
     }
 }
 
@@ -144,18 +144,18 @@ pub fn matches_registration(
     subscription: &[u8],
     name: &[u8],
     kind: ScalableConsumerType,
-) -> Match
+) -> Result<bool, Refusal>
     ensures { result ≡ match_of store.now (record { topic = topic.now; subscription = subscription.now; consumer_name = name.now; consumer_type = kind }) }
 {
     if store.len() < MIN_STORE {
-        return Match::Refused(Refusal::StoreTooShort);
+        return Err(Refusal::StoreTooShort);
     }
     if !session_store::is_identity(&store[0..packed::SLOT]) {
-        return Match::Refused(Refusal::MalformedStore);
+        return Err(Refusal::MalformedStore);
     }
     if same_identity(&store[0..packed::SLOT], topic, subscription, name, kind) {
-        Match::Same
+        Ok(true)
     } else {
-        Match::Other
+        Ok(false)
     }
 }

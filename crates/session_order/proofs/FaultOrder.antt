@@ -5,6 +5,7 @@
 -- (`ok-reordered`) and in those of a message with an assignment in it (`ok-rearranged`); the required fields of both
 -- (`whole-reordered`, `whole-update`, `whole-response`).
 -- Assumes nothing.
+use Rattle.std.specs.Prelude.{⊤, Result, Ok, Err}
 use Prim.Native.Nat.{ℕ}
 use mathlib.Core.Path.{◌≡◌, refl, sym, ap, ap₂, ◌∙◌}
 use mathlib.Core.Bool.{Bool, true, false, cond, not, ◌&&◌, ◌||◌, and_assoc, and_comm, and-false}
@@ -19,8 +20,6 @@ use Rattle.wire_schema.specs.declared.MessageKind.TheVariants.{CommandScalableTo
 use Rattle.wire_schema.specs.declared.MessageKind.TheVariants.{ScalableConsumerAssignment, ScalableAssignedSegment}
 use Rattle.wire_schema.specs.declared.ValueKind.{ValueKind}
 use Rattle.wire_schema.specs.declared.ValueKind.TheVariants as value
-use Rattle.wire_schema.specs.declared.Checked.{Checked}
-use Rattle.wire_schema.specs.declared.Checked.TheVariants.{Valid, Refused}
 use Rattle.wire_schema.specs.Schema.{value_for, levels}
 use Rattle.wire_schema.specs.Required.{all_complete, complete_within, is_complete}
 use Rattle.wire_schema.specs.FirstFault.{first, check_field, check_fields, fault_within, missing_field, first_fault}
@@ -29,26 +28,27 @@ use Rattle.keyed.specs.Shuffled.{Shuffled, nil, cons, swap, trans}
 use Rattle.session_order.specs.SegmentOrder.{segment, Reordered, Rearranged, SameUpdate, SameResponse}
 use Rattle.session_order.proofs.RowLaws.{numbers-reordered, numbers-rearranged, parts-reordered}
 use Rattle.session_order.proofs.RowLaws.{present-rearranged, merged-rearranged}
+use Rattle.refusal.specs.declared.Refusal.{Refusal}
 
 -- there is no fault
-abbrev pub ok : Checked → Bool
-ok Valid = true
-ok (Refused x) = false
+abbrev pub ok : Result ⊤ Refusal → Bool
+ok (Ok record {}) = true
+ok (Err x) = false
 
-ok-first : (c d : Checked) → ok (first c d) ≡ (ok c && ok d)
-ok-first Valid d = refl
-ok-first (Refused x) d = refl
+ok-first : (c d : Result ⊤ Refusal) → ok (first c d) ≡ (ok c && ok d)
+ok-first (Ok record {}) d = refl
+ok-first (Err x) d = refl
 
 and-turn : (a b c : Bool) → (a && (b && c)) ≡ (b && (a && c))
 and-turn a b c = sym (and_assoc a b c) ∙ ap (λ (t : Bool). t && c) (and_comm a b) ∙ and_assoc b a c
 
-module _ (inner : MessageKind → List ℕ → Checked) where
+module _ (inner : MessageKind → List ℕ → Result ⊤ Refusal) where
   -- one more field in front
   ok-cons : (k : MessageKind) (x : Field) (fs gs : List Field) → ok (check_fields inner k fs) ≡ ok (check_fields inner k gs)
       → ok (check_fields inner k (x ∷ fs)) ≡ ok (check_fields inner k (x ∷ gs))
   ok-cons k bad_key fs gs h = refl
   ok-cons k (field f w c) fs gs h =
-      let y : Checked = check_field inner (value_for k f) w c in
+      let y : (Result ⊤ Refusal) = check_field inner (value_for k f) w c in
       ok-first y (check_fields inner k fs)
       ∙ ap (λ (b : Bool). ok y && b) h
       ∙ sym (ok-first y (check_fields inner k gs))
@@ -63,12 +63,12 @@ module _ (inner : MessageKind → List ℕ → Checked) where
       → ok (check_fields inner A (segment p ∷ x ∷ fs)) ≡ ok (check_fields inner A (x ∷ segment p ∷ fs))
   unfolding value_for
   ok-later p bad_key fs =
-      let g : Checked = inner ScalableAssignedSegment p in
+      let g : (Result ⊤ Refusal) = inner ScalableAssignedSegment p in
       ok-first g (check_fields inner A (bad_key ∷ fs)) ∙ and-false (ok g)
   ok-later p (field f w c) fs =
-      let y : Checked = check_field inner (value_for A f) w c in
-      let z : Checked = check_fields inner A fs in
-      let g : Checked = inner ScalableAssignedSegment p in
+      let y : (Result ⊤ Refusal) = check_field inner (value_for A f) w c in
+      let z : (Result ⊤ Refusal) = check_fields inner A fs in
+      let g : (Result ⊤ Refusal) = inner ScalableAssignedSegment p in
       ok-first g (first y z)
       ∙ ap (λ (b : Bool). ok g && b) (ok-first y z)
       ∙ and-turn (ok g) (ok y) (ok z)
@@ -141,7 +141,7 @@ module _ (k : MessageKind) (m n : List ℕ) (r : ok (fault_within (levels k) k m
   unfolding first_fault
   ok-both =
       ok-first (fault_within (levels k) k m) (missing_field k (fields_of m))
-      ∙ ap₂ ◌&&◌ r (ap (λ (b : Bool). ok (cond b Valid (Refused MissingField))) w)
+      ∙ ap₂ ◌&&◌ r (ap (λ (b : Bool). ok (cond b (Ok record {}) (Err MissingField))) w)
       ∙ sym (ok-first (fault_within (levels k) k n) (missing_field k (fields_of n)))
 
 pub ok-update : (m n : List ℕ) → SameUpdate m n

@@ -9,7 +9,7 @@ ghost use Rattle.session.specs.declared.Answer.TheVariants.{Refused, Unchanged};
 ghost use Rattle.session_record.specs.Floors.{below_floor, floor_value};
 
 use refusal::Refusal;
-use session::{Answer, Changed, Floor, SessionRecord};
+use session::{Answer, Changed, SessionRecord};
 
 // A refusal: the record stays.
 pub fn refuse(r: SessionRecord, x: Refusal) -> Changed
@@ -17,7 +17,7 @@ pub fn refuse(r: SessionRecord, x: Refusal) -> Changed
 {
     Changed {
         next: r,
-        answer: Answer::Refused(x),
+        answer: Err(x),
     }
 }
 
@@ -27,43 +27,37 @@ pub fn unchanged(r: SessionRecord) -> Changed
 {
     Changed {
         next: r,
-        answer: Answer::Unchanged,
+        answer: Ok(Answer::Unchanged),
     }
 }
 
 // The epoch lies below the floor.
-pub fn below_floor(floor: Floor, epoch: u64) -> bool
+pub fn below_floor(floor: Option<u64>, epoch: u64) -> bool
     ensures { result ≡ below_floor epoch floor }
 {
     match floor {
-        Floor::Unset => false,
-        Floor::At(v) => epoch < v,
+        None => false,
+        Some(v) => epoch < v,
     }
 }
 
 // The floor, 0 where there is none.
-pub fn floor_value(floor: Floor) -> u64
+pub fn floor_value(floor: Option<u64>) -> u64
     ensures { result ≡ floor_value floor }
 {
     match floor {
-        Floor::Unset => 0,
-        Floor::At(v) => v,
+        None => 0,
+        Some(v) => v,
     }
 }
 
 // The floor raised to an epoch that is above it.
-pub fn raised(floor: Floor, epoch: u64) -> Floor
+pub fn raised(floor: Option<u64>, epoch: u64) -> Option<u64>
     ensures { result ≡ raise floor epoch }
 {
     match floor {
-        Floor::Unset => Floor::At(epoch),
-        Floor::At(v) => {
-            if v < epoch {
-                Floor::At(epoch)
-            } else {
-                Floor::At(v)
-            }
-        }
+        None => Some(epoch),
+        Some(v) => { if v < epoch { Some(epoch) } else { Some(v) } }
     }
 }
 
@@ -84,7 +78,7 @@ pub fn with_queue_count(r: SessionRecord, n: usize) -> SessionRecord
     }
 }
 
-pub fn with_floor(r: SessionRecord, epoch_floor: Floor) -> SessionRecord
+pub fn with_floor(r: SessionRecord, epoch_floor: Option<u64>) -> SessionRecord
     ensures { result ≡ with_floor r epoch_floor }
 {
     let incarnation = r.incarnation;

@@ -4,11 +4,11 @@
 -- assignment, 26 and 27 (`assignment-below` to `assignment-on`); content (`content-refused`, `content-taken`); a message that is valid
 -- (`valid-mismatch`, `valid-says`); the call (`message-bad` to `call-out`).
 -- Assumes nothing.
+use Rattle.std.specs.Prelude.{Option, None, ℤ, Some, Ok, Err}
 use Prim.Native.Nat.{ℕ, ◌*◌, ◌≤◌, ◌<◌}
 use mathlib.Core.Path.{◌≡◌, refl, sym, ap, ap₂, ◌∙◌}
 use mathlib.Core.Bool.{Bool, true, false, not, cond}
 use mathlib.Core.List.{List}
-use mathlib.Core.Option.{Option, none}
 use lib.ListN.{length}
 use borrow.Author.Tests.{le-ltb, lt-ltb, eq-eqb, ne_eqb, not-true, not-false}
 use Rattle.topic_types.specs.declared.ControllerIncarnation.{ControllerIncarnation}
@@ -16,10 +16,7 @@ use Rattle.refusal.specs.declared.Refusal.{Refusal}
 use Rattle.refusal.specs.declared.Refusal.TheVariants.{StoreTooShort, MalformedStore, IncarnationMismatch}
 use Rattle.refusal.specs.declared.Refusal.TheVariants.{CrossIncarnationEpochRegression, StaleEpoch}
 use Rattle.wire_schema.specs.declared.MessageKind.TheVariants.{CommandScalableTopicSubscribeResponse}
-use Rattle.wire_schema.specs.declared.Checked.TheVariants as checked
 use Rattle.wire_schema.specs.FirstFault.{first_fault}
-use Rattle.wire_readers.specs.declared.ErrorCode.{ErrorCode}
-use Rattle.wire_readers.specs.declared.ErrorCode.TheVariants.{Given, Absent}
 use Rattle.wire_readers.specs.declared.ResponseHead.{ResponseHead}
 use Rattle.wire.specs.Fields.{Field, fields_of}
 use Rattle.wire_values.specs.Values.{parts_of, present, merged_fields}
@@ -38,13 +35,9 @@ use Rattle.session.specs.Session.{view, damaged, Result, refuse, unless, floor_f
 use Rattle.session.specs.Response.{stale_fault, last_list, replayable, denied, response_call}
 use Rattle.session.specs.Tails.{response_assignment, response_content, response_valid, response_checked}
 use Rattle.session.specs.Calls.{call_outcome, effect_of, response_outcome}
-use Rattle.intake.specs.declared.Intake.{Intake}
-use Rattle.intake.specs.declared.Intake.TheVariants as intake
 use Rattle.session_intake.specs.Taken.{content_in, Answers, OrderedMessageTaken}
 use Rattle.session_record.specs.Floors.{below_floor, floor_value}
 use Rattle.session_record.proofs.FloorLaws.{floor-below, floor-met}
-use Rattle.session_response.specs.declared.Stale.{Stale}
-use Rattle.session_response.specs.declared.Stale.TheVariants as stale
 use Rattle.session_response.specs.Replay.{stale_of, stale_refusal, LastIs, denied_by, content_of_response, registered_by, registered}
 use Rattle.session_response.proofs.ReplayLaws.{stale-fault, replayed-is}
 
@@ -61,14 +54,14 @@ module _ (st m : List ℕ) where
   unfolding response_of
   assignment-says e = rw e refl
 
-  module _ (h : ResponseHead) (p : ResponseIs m h) (x : Intake) (b : List ℕ) where
+  module _ (h : ResponseHead) (p : ResponseIs m h) (x : Result ℕ Refusal) (b : List ℕ) where
     pub assignment-answers : h.has_assignment ≡ true → Answers x b (content_in st 4 m)
         → Answers x b (content_of_response (identity_topic (slot st 0)) (response_of m))
     assignment-answers e a = rw (assignment-says (sym p.has-assignment ∙ e)) a
 
   pub denial-answers : (h : ResponseHead) → ResponseIs m h → h.has_assignment ≡ false
       → (b : List ℕ) (y : Refusal) → y ≡ denied_by h.error h.request_id
-      → Answers (intake.Refused y) b (content_of_response (identity_topic (slot st 0)) (response_of m))
+      → Answers (Err y) b (content_of_response (identity_topic (slot st 0)) (response_of m))
   denial-answers h p e b y g =
       record {
         is = rw (sym p.has-assignment ∙ e) (ap refused (sym (g ∙ ap₂ denied_by p.error p.id)));
@@ -84,7 +77,7 @@ module _ (st m : List ℕ) where
 module _ (r : SessionRecord) (st : List ℕ) where
   -- ---- a result on bytes
 
-  pub refused-out : (c : Changed) (x : Refusal) (q : Result) → c ≡ record { next = r; answer = answer.Refused x } → q ≡ refuse x (view r st)
+  pub refused-out : (c : Changed) (x : Refusal) (q : Result) → c ≡ record { next = r; answer = Err x } → q ≡ refuse x (view r st)
       → (out : List ℕ) → call_outcome c.answer c.next st out ≡ effect_of q st out
   unfolding view
   refused-out c x q e f out = ap (λ (d : Changed). call_outcome d.answer d.next st out) e ∙ sym (ap (λ (p : Result). effect_of p st out) f)
@@ -99,7 +92,7 @@ module _ (r : SessionRecord) (st : List ℕ) where
       → count ≡ cond r.registered 0 r.queue_count → LastIs st b count size last → epoch ≡ (decode_assignment last).layout_epoch
       → st₁ ≡ put st (2048 * 1) (encode_assignment (decode_assignment b)) → st₂ ≡ put st₁ (2048 * 2) (encode_assignment (decode_assignment last))
       → next ≡ registered_by r epoch count
-      → (out : List ℕ) → call_outcome answer.Accepted next st₂ out ≡ effect_of (registered (view r st) (decode_assignment b)) st out
+      → (out : List ℕ) → call_outcome (Ok answer.Accepted) next st₂ out ≡ effect_of (registered (view r st) (decode_assignment b)) st out
   unfolding view write_one
   registered-out next st₁ st₂ b last epoch count size e l f g h i out =
       let q : replayable (view r st) ≡ queue_in st count = replayed-is r st count e in
@@ -110,7 +103,7 @@ module _ (r : SessionRecord) (st : List ℕ) where
   -- ---- an assignment: 26, then 27
 
   -- the queue's epochs are all that is left to decide
-  abbrev pub Decided : ConsumerAssignment → Stale → Type 0
+  abbrev pub Decided : ConsumerAssignment → Result ℕ (ℕ × ℕ) → Type 0
   Decided a s = response_assignment (view r st) a ≡ unless (stale_refusal s) (view r st) (registered (view r st) a)
 
   module _ (a : ConsumerAssignment) (epoch : ℕ) (e : epoch ≡ a.layout_epoch) (t : Bool) (f : t ≡ below_floor epoch r.epoch_floor) where
@@ -120,7 +113,7 @@ module _ (r : SessionRecord) (st : List ℕ) where
     assignment-below g v h = rw (← e, floor-below epoch r.epoch_floor (sym f ∙ g), ← h) refl
 
     module _ (g : t ≡ false) (n : ℕ) (i : n ≡ cond r.registered 0 r.queue_count) where
-      pub queue-decides : (s : Stale) → s ≡ stale_of 6144 6144 epoch (queue_in st n) → Decided a s
+      pub queue-decides : (s : Result ℕ (ℕ × ℕ)) → s ≡ stale_of 6144 6144 epoch (queue_in st n) → Decided a s
       unfolding response_assignment view
       queue-decides s h =
           ap (λ (x : Option Refusal). unless x (view r st) (unless (stale_fault a (replayable (view r st))) (view r st) on)) no-fault
@@ -129,18 +122,18 @@ module _ (r : SessionRecord) (st : List ℕ) where
           on : Result
           on = registered (view r st) a
 
-          no-fault : floor_fault a.layout_epoch r.epoch_floor ≡ none
+          no-fault : floor_fault a.layout_epoch r.epoch_floor ≡ None
           no-fault = ap (λ (x : ℕ). floor_fault x r.epoch_floor) (sym e) ∙ floor-met epoch r.epoch_floor (sym f ∙ g)
 
           fault : stale_fault a (replayable (view r st)) ≡ stale_refusal s
           fault = stale-fault 6144 6144 a (replayable (view r st)) ∙ ap stale_refusal (ap₂ (stale_of 6144 6144) (sym e) (replayed-is r st n i) ∙ sym h)
 
-  module _ (a : ConsumerAssignment) (s : Stale) (d : Decided a s) where
-    pub assignment-stale : (got prev : ℕ) → s ≡ stale.At got prev → response_assignment (view r st) a ≡ refuse (StaleEpoch got prev) (view r st)
-    assignment-stale got prev k = d ∙ ap (λ (x : Stale). unless (stale_refusal x) (view r st) (registered (view r st) a)) k
+  module _ (a : ConsumerAssignment) (s : Result ℕ (ℕ × ℕ)) (d : Decided a s) where
+    pub assignment-stale : (got prev : ℕ) → s ≡ Err (got, prev) → response_assignment (view r st) a ≡ refuse (StaleEpoch got prev) (view r st)
+    assignment-stale got prev k = d ∙ ap (λ (x : Result ℕ (ℕ × ℕ)). unless (stale_refusal x) (view r st) (registered (view r st) a)) k
 
-    pub assignment-on : (at : ℕ) → s ≡ stale.Nowhere at → response_assignment (view r st) a ≡ registered (view r st) a
-    assignment-on at k = d ∙ ap (λ (x : Stale). unless (stale_refusal x) (view r st) (registered (view r st) a)) k
+    pub assignment-on : (at : ℕ) → s ≡ Ok at → response_assignment (view r st) a ≡ registered (view r st) a
+    assignment-on at k = d ∙ ap (λ (x : Result ℕ (ℕ × ℕ)). unless (stale_refusal x) (view r st) (registered (view r st) a)) k
 
   -- ---- content
 
@@ -165,12 +158,12 @@ module _ (r : SessionRecord) (st : List ℕ) where
     unfolding response_valid response_content view
     valid-says e = rw (eq-eqb i.0 r.incarnation.0 e) (go w.has_assignment w.error)
       where
-        go : (t : Bool) (c : ErrorCode)
+        go : (t : Bool) (c : Option ℤ)
             → cond t (response_content (view r st) (content_of (identity_topic (slot st 0)) w.assignment)) (refuse (denied w c) (view r st))
             ≡ response_content (view r st) (cond t (content_of (identity_topic (slot st 0)) w.assignment) (refused (denied_by c w.request_id)))
         go true c = refl
-        go false (Given code) = refl
-        go false Absent = refl
+        go false (Some code) = refl
+        go false None = refl
 
   -- ---- the call: 1, 22, 3 to 7
 
@@ -179,10 +172,10 @@ module _ (r : SessionRecord) (st : List ℕ) where
     abbrev pub Checks : Result → Type 0
     Checks q = response_checked (view r st) i m (first_fault CommandScalableTopicSubscribeResponse m) ≡ q
 
-    pub message-bad : (z : Refusal) → first_fault CommandScalableTopicSubscribeResponse m ≡ checked.Refused z → Checks (refuse z (view r st))
+    pub message-bad : (z : Refusal) → first_fault CommandScalableTopicSubscribeResponse m ≡ Err z → Checks (refuse z (view r st))
     message-bad z e = ap (response_checked (view r st) i m) e
 
-    pub message-valid : first_fault CommandScalableTopicSubscribeResponse m ≡ checked.Valid
+    pub message-valid : first_fault CommandScalableTopicSubscribeResponse m ≡ Ok record {}
         → Checks (response_valid (view r st) i (response_of m))
     message-valid e = ap (response_checked (view r st) i m) e
 

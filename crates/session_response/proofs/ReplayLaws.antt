@@ -3,6 +3,7 @@
 -- In order: epochs (`buffer-epoch`, `entry-epoch`); the queue's epochs from one on (`Epochs`: `epochs-start`, `stale-end`, `stale-here`, `stale-next`), and the fault
 -- that they are (`stale-fault`); where the last entry begins (`last_begins`); the last list (`last_none`, `last_some`); the queue that is replayed (`replayed-is`, `replayed-reads`).
 -- Assumes nothing.
+use Rattle.std.specs.Prelude.{Ok, Err}
 use Prim.Native.Nat.{ℕ, zero, suc, ◌+◌, ◌-◌, ◌≤◌, ◌<◌}
 use native.Mathlib.Nat.{add-sub_cancel_left}
 use native.Mathlib.Omega.{arith}
@@ -28,7 +29,6 @@ use Rattle.session.specs.Response.{stale_fault, last_list, replayable}
 use Rattle.session_store.specs.Scratch.{Scratch}
 use Rattle.session_store.specs.Places.{Lies, entry_in}
 use Rattle.session_store.proofs.StoreLaws.{queue-starts}
-use Rattle.session_response.specs.declared.Stale.TheVariants.{Nowhere, At}
 use Rattle.session_response.specs.Replay.{stale_of, stale_refusal, LastBegins, LastIs}
 
 -- ---- epochs
@@ -63,7 +63,7 @@ unfolding queue_reads queue_in
 epochs-start st epoch n big h = record { inside = big; reads = h; decide = refl }
 
 module _ (st : List ℕ) (epoch n prev last at left : ℕ) (w : Epochs st epoch n prev last at left) where
-  pub stale-end : left ≤ 0 → Nowhere last ≡ stale_of 6144 6144 epoch (queue_in st n)
+  pub stale-end : left ≤ 0 → Ok last ≡ stale_of 6144 6144 epoch (queue_in st n)
   unfolding stale_of decode_entries
   stale-end h = let e : left ≡ 0 = omega arith in sym (w.decide ∙ ap (λ m. stale_of last at prev (decode_entries m (drop at st))) e)
 
@@ -99,7 +99,7 @@ module _ (st : List ℕ) (epoch n prev last at left : ℕ) (w : Epochs st epoch 
 
       module _ (got : ℕ) (f : got ≡ be_at 8 st (at + 2)) where
         step : stale_of last at prev (decode_entries left (drop at st))
-            ≡ cond (ltb got prev) (At got prev) (stale_of at (at + 2 + size) got (decode_entries (left - 1) (drop (at + 2 + size) st)))
+            ≡ cond (ltb got prev) (Err (got, prev)) (stale_of at (at + 2 + size) got (decode_entries (left - 1) (drop (at + 2 + size) st)))
         unfolding stale_of decode_entries
         step =
             let e : left ≡ suc (left - 1) = omega arith in
@@ -107,10 +107,10 @@ module _ (st : List ℕ) (epoch n prev last at left : ℕ) (w : Epochs st epoch 
             let g : a.layout_epoch ≡ got = sym (entry-epoch st at got first f) in
             let p : at + size_entry a ≡ at + 2 + size = omega (arith, size_is, sheet-size (drop at st) first) in
             ap (λ m. stale_of last at prev (decode_entries m (drop at st))) e
-            ∙ ap (λ x. cond (ltb x prev) (At x prev) (stale_of at (at + size_entry a) x (decode_entries (left - 1) (drop (entry_end (drop at st)) (drop at st))))) g
-            ∙ ap₂ (λ x y. cond (ltb got prev) (At got prev) (stale_of at x got (decode_entries (left - 1) y))) p next
+            ∙ ap (λ x. cond (ltb x prev) (Err (x, prev)) (stale_of at (at + size_entry a) x (decode_entries (left - 1) (drop (entry_end (drop at st)) (drop at st))))) g
+            ∙ ap₂ (λ x y. cond (ltb got prev) (Err (got, prev)) (stale_of at x got (decode_entries (left - 1) y))) p next
 
-        pub stale-here : got < prev → At got prev ≡ stale_of 6144 6144 epoch (queue_in st n)
+        pub stale-here : got < prev → Err (got, prev) ≡ stale_of 6144 6144 epoch (queue_in st n)
         stale-here l = sym (w.decide ∙ step ∙ rw (lt-ltb got prev l) refl)
 
         pub stale-next : prev ≤ got → Epochs st epoch n got at (at + 2 + size) (left - 1)
@@ -140,16 +140,16 @@ abbrev last_place : ℕ → ℕ → List ConsumerAssignment → ℕ
 last_place last at [] = last
 last_place last at (a ∷ q) = last_place at (at + size_entry a) q
 
-place-told : (last at prev : ℕ) (q : List ConsumerAssignment) (x : ℕ) → Nowhere x ≡ stale_of last at prev q → x ≡ last_place last at q
+place-told : (last at prev : ℕ) (q : List ConsumerAssignment) (x : ℕ) → Ok x ≡ stale_of last at prev q → x ≡ last_place last at q
 unfolding stale_of
 place-told last at prev [] x e = cc
 place-told last at prev (a ∷ q) x e = go (ltb a.layout_epoch prev) refl (place-told at (at + size_entry a) a.layout_epoch q x)
   where
     go : (t : Bool) → ltb a.layout_epoch prev ≡ t
-        → (Nowhere x ≡ stale_of at (at + size_entry a) a.layout_epoch q → x ≡ last_place at (at + size_entry a) q)
+        → (Ok x ≡ stale_of at (at + size_entry a) a.layout_epoch q → x ≡ last_place at (at + size_entry a) q)
         → x ≡ last_place at (at + size_entry a) q
     go true h k =
-        let f : Nowhere x ≡ At a.layout_epoch prev = e ∙ rw h refl in
+        let f : Ok x ≡ Err (a.layout_epoch, prev) = e ∙ rw h refl in
         let z : ◌≡◌ {A = ℕ} 0 1 = cc in
         absurd (omega arith)
     go false h k = k (e ∙ rw h refl)
@@ -161,7 +161,7 @@ place_is (suc n) last at l =
     let m = drop (entry_end l) l in
     place_is n at (at + size_entry (decode_assignment (sheet_in l))) m ∙ omega arith
 
-pub last_begins : (st : List ℕ) (epoch n x : ℕ) → Nowhere x ≡ stale_of 6144 6144 epoch (queue_in st n) → LastBegins st n x
+pub last_begins : (st : List ℕ) (epoch n x : ℕ) → Ok x ≡ stale_of 6144 6144 epoch (queue_in st n) → LastBegins st n x
 unfolding queue_in
 last_begins st epoch n x e h =
     let k : n ≡ suc (n - 1) = omega arith in

@@ -2,12 +2,9 @@
 --
 -- What the functions of src/ answer: the epochs of the queue, and the replay's last list.
 -- Assumes nothing.
-use Rattle.std.specs.Prelude.{ℕ, ◌+◌, ◌-◌, ◌<◌, ◌≡◌, true, cond, List, [], ◌∷◌, ltb}
-use Rattle.std.proofs.Math.Option.{Option, some, none}
+use Rattle.std.specs.Prelude.{ℕ, ◌+◌, ◌-◌, ◌<◌, ◌≡◌, true, cond, List, [], ◌∷◌, ltb, Option, Some, None, ℤ, Ok, Err}
 use Rattle.refusal.specs.declared.Refusal.{Refusal}
 use Rattle.refusal.specs.declared.Refusal.TheVariants.{Broker, Empty, StaleEpoch}
-use Rattle.wire_readers.specs.declared.ErrorCode.{ErrorCode}
-use Rattle.wire_readers.specs.declared.ErrorCode.TheVariants.{Given, Absent}
 use Rattle.wire_readers.specs.Messages.{WireResponse}
 use Rattle.packed.specs.Assignment.{ConsumerAssignment, decode_assignment}
 use Rattle.packed_queue.specs.Entries.{size_entry}
@@ -17,17 +14,15 @@ use Rattle.session.specs.declared.SessionRecord.{SessionRecord}
 use Rattle.session.specs.Session.{Session, Result, at_start, raise}
 use Rattle.session.specs.Response.{last_list, replayable, register}
 use Rattle.session_store.specs.Scratch.{Scratch}
-use Rattle.session_response.specs.declared.Stale.{Stale}
-use Rattle.session_response.specs.declared.Stale.TheVariants.{Nowhere, At}
 
 -- the first epoch of the queue that lies below the one before it; or else where the last entry begins: the queue begins at a byte place, and the entry before it at `last`
-unfoldable pub stale_of : (last at prev : ℕ) → List ConsumerAssignment → Stale
-stale_of last at prev [] = Nowhere last
-stale_of last at prev (a ∷ queue) = cond (ltb a.layout_epoch prev) (At a.layout_epoch prev) (stale_of at (at + size_entry a) a.layout_epoch queue)
+unfoldable pub stale_of : (last at prev : ℕ) → List ConsumerAssignment → Result ℕ (ℕ × ℕ)
+stale_of last at prev [] = Ok last
+stale_of last at prev (a ∷ queue) = cond (ltb a.layout_epoch prev) (Err (a.layout_epoch, prev)) (stale_of at (at + size_entry a) a.layout_epoch queue)
 
-abbrev pub stale_refusal : Stale → Option Refusal
-stale_refusal (Nowhere at) = none
-stale_refusal (At got prev) = some (StaleEpoch got prev)
+abbrev pub stale_refusal : Result ℕ (ℕ × ℕ) → Option Refusal
+stale_refusal (Ok at) = None
+stale_refusal (Err (got, prev)) = Some (StaleEpoch got prev)
 
 -- the last of n queue entries begins at a byte place
 abbrev pub LastBegins : (store : List ℕ) (n at : ℕ) → Type 0
@@ -40,9 +35,9 @@ pub record LastIs (store b : List ℕ) (n size : ℕ) (last : List ℕ) : Type 0
 
 -- ---- the parts of specs/Response that a function each gives
 
-abbrev pub denied_by : ErrorCode → ℕ → Refusal
-denied_by (Given code) request = Broker code
-denied_by Absent request = Empty request
+abbrev pub denied_by : Option ℤ → ℕ → Refusal
+denied_by (Some code) request = Broker code
+denied_by None request = Empty request
 
 -- its assignment's content, or else 16 or 17
 abbrev pub content_of_response : List ℕ → WireResponse → Content

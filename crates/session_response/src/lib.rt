@@ -17,26 +17,16 @@ ghost use Rattle.session_store.specs.Scratch.{Scratch};
 ghost use Rattle.session_intake.specs.Taken.{content_from, Ready, Answers};
 ghost use Rattle.session_response.specs.Replay.{stale_of, LastBegins, LastIs, denied_by, content_of_response, registered_by, registered};
 
-use intake::Intake;
 use packed::SLOT;
 use packed_queue::LENGTH;
 use refusal::Refusal;
 use session::{Answer, Changed, READERS, SessionRecord};
-use session_intake::OrderedMessage;
 use session_store::{BASELINE, LIST, MIN_STORE};
 use topic_types::ControllerIncarnation;
-use wire_messages::{Checked, MessageKind};
-use wire_readers::ErrorCode;
-
-// An epoch of the queue that lies below the one before it, both; or else where the last entry begins.
-#[derive(Clone, Copy)]
-enum Stale {
-    Nowhere(usize),
-    At(u64, u64),
-}
+use wire_messages::MessageKind;
 
 // The first of n queue entries whose epoch lies below the one before it, which for the first is a given one.
-fn first_stale(store: &[u8], epoch: u64, n: usize) -> Stale
+fn first_stale(store: &[u8], epoch: u64, n: usize) -> Result<usize, (u64, u64)>
     requires { (min_store ≤ length store.now) × (queue_reads store.now n ≡ true) }
     ensures { result ≡ stale_of min_store min_store epoch (queue_in store.now n) }
 {
@@ -49,14 +39,14 @@ fn first_stale(store: &[u8], epoch: u64, n: usize) -> Stale
         let place = at + LENGTH;
         let got = slice_int::read_u64(store, place);
         if got < prev {
-            return Stale::At(got, prev);
+            return Err((got, prev));
         }
         prev = got;
         last = at;
         at = place + size;
         left = left - 1;
     }
-    Stale::Nowhere(last)
+    Ok(last)
 }
 
 // Copies the last list of the replay of n queue entries, whose last begins at a byte place, and answers its size. One list at least is replayed, over that in b.
@@ -112,7 +102,7 @@ fn register_alone(r: SessionRecord, store: &mut [u8], b: &[u8], size: usize) -> 
     let next = registered_with(r, epoch, 0);
     Changed {
         next,
-        answer: Answer::Accepted,
+        answer: Ok(Answer::Accepted),
     }
 }
 
@@ -143,7 +133,7 @@ fn register(
     let next = registered_with(r, epoch, count);
     Changed {
         next,
-        answer: Answer::Accepted,
+        answer: Ok(Answer::Accepted),
     }
 }
 
@@ -168,23 +158,23 @@ fn assigned(r: SessionRecord, store: &mut [u8], b: &[u8], size: usize) -> Change
     }
     let count = replay_count(r);
     match first_stale(store, epoch, count) {
-        Stale::At(got, prev) => session_record::refuse(r, Refusal::StaleEpoch { got, prev }),
-        Stale::Nowhere(at) => register(r, store, b, size, count, at),
+        Err((got, prev)) => session_record::refuse(r, Refusal::StaleEpoch { got, prev }),
+        Ok(at) => register(r, store, b, size, count, at),
     }
 }
 
 // The refusal of a response without an assignment: 16, or 17.
-fn denial(error: ErrorCode, request_id: u64) -> Refusal
+fn denial(error: Option<i32>, request_id: u64) -> Refusal
     ensures { result ≡ denied_by error request_id }
 {
     match error {
-        ErrorCode::Given(code) => Refusal::Broker { code },
-        ErrorCode::Absent => Refusal::Empty { request_id },
+        Some(code) => Refusal::Broker { code },
+        None => Refusal::Empty { request_id },
     }
 }
 
 // What a response comes to: its assignment, taken into the buffer or refused, or else 16 or 17.
-fn take_response(store: &[u8], message: &[u8], b: &mut [u8]) -> Intake
+fn take_response(store: &[u8], message: &[u8], b: &mut [u8]) -> Result<usize, Refusal>
     requires min_store_in_bounds { (min_store ≤ length store.now) × (is_identity (slot store.now 0) ≡ true) }
     requires b_len { length b.old ≡ packed-form.slot_size }
     ensures { Answers result b.new (content_of_response (identity_topic (slot store.now 0)) (response_of message.now)) }
@@ -195,7 +185,7 @@ fn take_response(store: &[u8], message: &[u8], b: &mut [u8]) -> Intake
         return session_intake::take_assignment(store, message, 4, epoch, b);
     }
     let error = head.error;
-    Intake::Refused(denial(error, head.request_id))
+    Err(denial(error, head.request_id))
 }
 
 // A valid response, whose assignment is in the buffer, or that is refused. Refused in order: 23, 16 or 17 or 9 to 11, 34, 12 to 15, 26, 27.
@@ -203,7 +193,7 @@ fn answered(
     r: SessionRecord,
     store: &mut [u8],
     incarnation: ControllerIncarnation,
-    intake: Intake,
+    intake: Result<usize, Refusal>,
     b: &[u8],
 ) -> Changed
     requires min_store_in_bounds { (min_store ≤ length store.old) × (damaged (view r store.old) ≡ false) }
@@ -223,8 +213,8 @@ fn answered(
         );
     }
     match intake {
-        Intake::Refused(x) => session_record::refuse(r, x),
-        Intake::Taken(size) => assigned(r, store, b, size),
+        Err(x) => session_record::refuse(r, x),
+        Ok(size) => assigned(r, store, b, size),
     }
 }
 
@@ -242,8 +232,8 @@ fn scanned(
         ≡ effect_of (response_checked (view r store.old) incarnation message.now (first_fault MessageKind.CommandScalableTopicSubscribeResponse message.now)) store.old out }
 {
     match wire_messages::first_fault(MessageKind::CommandScalableTopicSubscribeResponse, message) {
-        Checked::Refused(x) => session_record::refuse(r, x),
-        Checked::Valid => {
+        Err(x) => session_record::refuse(r, x),
+        Ok(()) => {
             let expected = r.incarnation;
             if incarnation.0 != expected.0 {
                 return session_record::refuse(
@@ -278,10 +268,8 @@ pub fn responded(
     }
     let mut b = [0u8; SLOT];
     match session_intake::take_ordered_message(store, message, 4, &mut b) {
-        OrderedMessage::Taken(_, size) => {
-            answered(r, store, incarnation, Intake::Taken(size), &b)
-        }
-        OrderedMessage::Other => scanned(r, store, message, incarnation, &mut b),
+        Some((_, size)) => { answered(r, store, incarnation, Ok(size), &b) }
+        None => scanned(r, store, message, incarnation, &mut b),
     }
 }
 

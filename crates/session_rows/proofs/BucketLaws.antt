@@ -1,12 +1,12 @@
 -- Row H's buckets: a segment with n buckets of one value each is taken where it fits a slot, else refused for its size, without comparing
 -- them two by two, because they rise. The rest of the run is computed.
 -- Assumes nothing.
+use Rattle.std.specs.Prelude.{None, Ok}
 use Prim.Native.Nat.{ℕ, zero, suc, ◌+◌, ◌≤◌, ◌<◌}
 use native.Mathlib.Omega.{arith}
 use mathlib.Core.Path.{◌≡◌, refl, sym, ap, ◌∙◌, subst}
 use mathlib.Core.Bool.{true}
 use mathlib.Core.List.{List, [], ◌∷◌, map}
-use mathlib.Core.Option.{none}
 use lib.IntN.{pos}
 use borrow.Author.Tests.{le-leb, le-ltb}
 use Rattle.topic_types.specs.declared.SegmentId.{SegmentId}
@@ -26,7 +26,6 @@ use Rattle.wire.specs.Field.{key_read, number_body, part_of}
 use Rattle.wire.specs.Fields.{fields_of}
 use Rattle.wire_writer.specs.Encode.{varint_bytes, number_field, part_head, part_field}
 use Rattle.wire_schema.specs.declared.MessageKind.TheVariants.{CommandScalableTopicAssignmentUpdate}
-use Rattle.wire_schema.specs.declared.Checked.TheVariants.{Valid}
 use Rattle.wire_schema.specs.Schema.{value_for}
 use Rattle.wire_schema.specs.Required.{is_complete}
 use Rattle.wire_schema.specs.FirstFault.{first_fault}
@@ -77,14 +76,14 @@ points-rise zero v = refl
 points-rise (suc n) v = simp (le-leb v v (omega arith)) (points-rise n (suc v))
 
 -- each lies in the key space
-points-pass : (id : SegmentId) (i n v : ℕ) → v + n ≤ suc max_hash → bucket_fault id i (wire_points n v) ≡ none
+points-pass : (id : SegmentId) (i n v : ℕ) → v + n ≤ suc max_hash → bucket_fault id i (wire_points n v) ≡ None
 unfolding bucket_fault new_key_range
 points-pass id i zero v h = refl
 points-pass id i (suc n) v h =
     simp (le-ltb max_hash v (omega arith), le-ltb v v (omega arith)) (points-pass id (i + 1) n (suc v) (omega arith))
 
 -- and in the segment's range
-points-inside : (i n v : ℕ) → v + n ≤ 0x8000 → first_outside (key_range 0 0x7fff) i (points n v) ≡ none
+points-inside : (i n v : ℕ) → v + n ≤ 0x8000 → first_outside (key_range 0 0x7fff) i (points n v) ≡ None
 unfolding first_outside
 points-inside i zero v h = refl
 points-inside i (suc n) v h =
@@ -97,7 +96,7 @@ module _ (n : ℕ) (h : n ≤ 0x8000) where
   abbrev whole : WireAssignment
   whole = record { layout_epoch = 3; segments = segment ∷ [] }
 
-  segment-passes : segment_fault parent segment ≡ none
+  segment-passes : segment_fault parent segment ≡ None
   unfolding new_key_range same_bytes starts_with class_of before_slash behind_slash clean has_three_parts front_clean is_path is_parent
   segment-passes =
       passes parent segment
@@ -110,7 +109,7 @@ module _ (n : ℕ) (h : n ≤ 0x8000) where
         topic = same_refl segment.segment_topic;
       })
 
-  no-refusal : first_refusal parent [] (segment ∷ []) ≡ none
+  no-refusal : first_refusal parent [] (segment ∷ []) ≡ None
   unfolding first_refusal
   no-refusal = refusal-next parent [] segment [] segment-passes refl
 
@@ -132,7 +131,7 @@ module _ (n : ℕ) (h : n ≤ 0x8000) where
 abbrev over : Session
 over = view registered.next registered.store
 
-push-by : (m : List ℕ) (w : WireAssignment) (c : Content) → first_fault CommandScalableTopicAssignmentUpdate m ≡ Valid
+push-by : (m : List ℕ) (w : WireAssignment) (c : Content) → first_fault CommandScalableTopicAssignmentUpdate m ≡ Ok record {}
     → update_of m ≡ record { consumer_id = 7; assignment = w } → content_of parent w ≡ c
     → step_of registered.next registered.store (pushed m) ≡ effect_of (update_content over c) registered.store (zeros min_output)
 unfolding be_from be be_at bytes_of put table fits sequence_in sequence_of text_after is_utf8 encode_range encode_ranges encode_segment

@@ -1,6 +1,7 @@
 -- Row I: 1,024 pushes of row A's message from a fresh record on a store with room for them, by induction over the pushes. It is shown of the
 -- session in values, where nothing is computed twice, and carried to bytes by the crate session's `same`.
 -- Assumes nothing.
+use Rattle.std.specs.Prelude.{None, Ok, Err}
 use Prim.Native.Nat.{ℕ, zero, suc, ◌+◌, ◌*◌, ◌≤◌, ◌<◌}
 use native.Mathlib.Omega.{arith}
 use mathlib.Core.Path.{◌≡◌, refl, ap, ap₂, sym, ◌∙◌, subst}
@@ -33,8 +34,7 @@ use Rattle.intake_content.specs.Content.{assigned_segment, in_id_order, consumer
 use Rattle.intake_content.specs.Rows.{parent}
 use Rattle.refusal.specs.declared.Refusal.TheVariants.{PreBaselineBufferFull}
 use Rattle.session.specs.declared.SessionRecord.{SessionRecord}
-use Rattle.session.specs.declared.Floor.TheVariants.{Unset}
-use Rattle.session.specs.declared.Answer.TheVariants.{Refused, Accepted}
+use Rattle.session.specs.declared.Answer.TheVariants.{Accepted}
 use Rattle.session.specs.Store.{min_output, slot, list_in, queue_in, queue_reads}
 use Rattle.session.specs.Identity.{encode_identity, identity_topic, subscription_of, consumer_name_of, is_identity}
 use Rattle.session.specs.Session.{Session, Result, in_use, view, any_beyond, damaged, refuse}
@@ -71,7 +71,7 @@ module _ (baseline list : ConsumerAssignment) where
   abbrev queuing : ℕ → List ConsumerAssignment → Session
   queuing n q =
       record {
-        state = record_of false Unset n;
+        state = record_of false None n;
         size = roomy;
         sound = true;
         topic = parent;
@@ -130,7 +130,7 @@ module _ (baseline list : ConsumerAssignment) where
   full-value q = push-is 1024 q (omega arith)
 
   full_at : (r : SessionRecord) (st : List ℕ) (q : List ConsumerAssignment) → view r st ≡ queuing 1024 q
-      → step_of r st (pushed message_a) ≡ call_outcome (Refused (PreBaselineBufferFull 1024)) r st (zeros min_output)
+      → step_of r st (pushed message_a) ≡ call_outcome (Err (PreBaselineBufferFull 1024)) r st (zeros min_output)
   unfolding update_outcome view
   full_at r st q e =
       ap (λ x. effect_of x st (zeros min_output))
@@ -157,13 +157,13 @@ module _ (r : SessionRecord) (st : List ℕ) (f : Fresh r) (baseline list : Cons
         let p : 0 + k ≡ k = omega arith in
         run.ends ∙ ap (λ s. value_final s (replicate k (pushed message_a))) starts ∙ there.ends ∙ ap (λ n. queuing baseline list n (grown [] k)) p
 
-    count-on : (final r st (replicate k (pushed message_a))).state ≡ record_of false Unset k
+    count-on : (final r st (replicate k (pushed message_a))).state ≡ record_of false None k
     unfolding view
     count-on = ap (λ (s : Session). s.state) ends_on
 
     full-on : k ≡ 1024
         → step_of (final r st (replicate k (pushed message_a))).state (final r st (replicate k (pushed message_a))).store (pushed message_a)
-        ≡ call_outcome (Refused (PreBaselineBufferFull 1024)) (final r st (replicate k (pushed message_a))).state
+        ≡ call_outcome (Err (PreBaselineBufferFull 1024)) (final r st (replicate k (pushed message_a))).state
         (final r st (replicate k (pushed message_a))).store (zeros min_output)
     full-on e =
         full_at baseline list _ _ (grown [] k) (ends_on ∙ ap (λ n. queuing baseline list n (grown [] k)) e)
@@ -173,21 +173,21 @@ module _ (r : SessionRecord) (st : List ℕ) (f : Fresh r) (baseline list : Cons
 abbrev written : List ℕ
 written = put (zeros roomy) 0 (encode_identity identity)
 
-opens : opened roomy ≡ record { answer = Accepted; next = record_of false Unset 0; store = written }
+opens : opened roomy ≡ record { answer = (Ok Accepted); next = record_of false None 0; store = written }
 unfolding table fits sequence_in sequence_of text_after is_utf8 open_outcome
 opens = refl
 
-fresh : Fresh (record_of false Unset 0)
+fresh : Fresh (record_of false None 0)
 fresh = record { unregistered = refl; no-floor = refl; not-invalidated = refl; no-queue = refl; positions = refl }
 
-begins : view (record_of false Unset 0) written ≡ queuing (list_in written 1) (list_in written 2) 0 []
+begins : view (record_of false None 0) written ≡ queuing (list_in written 1) (list_in written 2) 0 []
 unfolding be_from be be_at bytes_of put table fits sequence_in sequence_of text_after is_utf8 decode_entries start_entries slot queue_in queue_reads
     encode_identity identity_topic subscription_of consumer_name_of is_identity in_use view
 begins = refl
 
 -- what holds behind every open that comes to that holds behind this one
 abbrev Opened : (OpenOutcome → Type 0) → Type 0
-Opened P = P (record { answer = Accepted; next = record_of false Unset 0; store = written }) → P (opened roomy)
+Opened P = P (record { answer = (Ok Accepted); next = record_of false None 0; store = written }) → P (opened roomy)
 
 behind : (P : OpenOutcome → Type 0) → Opened P
 behind P h = subst P (sym opens) h
@@ -195,19 +195,19 @@ behind P h = subst P (sym opens) h
 pub queued : map (λ (e : Event). e.none) (trace (opened roomy).next (opened roomy).store pushes) ≡ replicate 1024 true
 queued =
     behind (λ o. map (λ (e : Event). e.none) (trace o.next o.store pushes) ≡ replicate 1024 true)
-    (queued-on (record_of false Unset 0) written fresh (list_in written 1) (list_in written 2) begins 1024 (omega arith))
+    (queued-on (record_of false None 0) written fresh (list_in written 1) (list_in written 2) begins 1024 (omega arith))
 
-pub count : behind_pushes.state ≡ record_of false Unset 1024
+pub count : behind_pushes.state ≡ record_of false None 1024
 count =
-    behind (λ o. (final o.next o.store pushes).state ≡ record_of false Unset 1024)
-    (count-on (record_of false Unset 0) written fresh (list_in written 1) (list_in written 2) begins 1024 (omega arith))
+    behind (λ o. (final o.next o.store pushes).state ≡ record_of false None 1024)
+    (count-on (record_of false None 0) written fresh (list_in written 1) (list_in written 2) begins 1024 (omega arith))
 
 pub full : step_of behind_pushes.state behind_pushes.store (pushed message_a)
-    ≡ call_outcome (Refused (PreBaselineBufferFull 1024)) behind_pushes.state behind_pushes.store (zeros min_output)
+    ≡ call_outcome (Err (PreBaselineBufferFull 1024)) behind_pushes.state behind_pushes.store (zeros min_output)
 full =
     behind
     (λ o.
     step_of (final o.next o.store pushes).state (final o.next o.store pushes).store (pushed message_a)
-    ≡ call_outcome (Refused (PreBaselineBufferFull 1024)) (final o.next o.store pushes).state (final o.next o.store pushes).store
+    ≡ call_outcome (Err (PreBaselineBufferFull 1024)) (final o.next o.store pushes).state (final o.next o.store pushes).store
     (zeros min_output))
-    (full-on (record_of false Unset 0) written fresh (list_in written 1) (list_in written 2) begins 1024 (omega arith) refl)
+    (full-on (record_of false None 0) written fresh (list_in written 1) (list_in written 2) begins 1024 (omega arith) refl)

@@ -1,11 +1,11 @@
 -- A run by its calls: each is computed from what the one before it leaves, written out, and from nothing further back.
 -- Assumes nothing.
+use Rattle.std.specs.Prelude.{None, Ok}
 use Prim.Native.Nat.{ℕ}
 use mathlib.Core.Path.{◌≡◌, refl, ap, sym, ◌∙◌, subst}
 use mathlib.Core.Bool.{false}
 use mathlib.Core.List.{List, [], ◌∷◌}
 use Rattle.session.specs.declared.SessionRecord.{SessionRecord}
-use Rattle.session.specs.declared.Floor.TheVariants.{Unset}
 use Rattle.session.specs.declared.Answer.TheVariants.{Accepted}
 use Rattle.session.specs.Calls.{CallOutcome, OpenOutcome}
 use Rattle.session.specs.Trace.{Call, step_of}
@@ -27,8 +27,8 @@ leave r st (c ∷ cs) (x ∷ xs) h =
 
 -- behind an open
 abbrev pub opened_on : List ℕ → OpenOutcome
-opened_on store = record { answer = Accepted; next = record_of false Unset 0; store = store }
+opened_on store = record { answer = (Ok Accepted); next = record_of false None 0; store = store }
 
-pub run_is : (n : ℕ) (st : List ℕ) → opened n ≡ opened_on st → (cs : List Call) (xs : List CallOutcome) → Leave (record_of false Unset 0) st cs xs
+pub run_is : (n : ℕ) (st : List ℕ) → opened n ≡ opened_on st → (cs : List Call) (xs : List CallOutcome) → Leave (record_of false None 0) st cs xs
     → run_on n cs ≡ xs
-run_is n st e cs xs h = subst (λ (p : OpenOutcome). outcomes p.next p.store cs ≡ xs) (sym e) (leave (record_of false Unset 0) st cs xs h)
+run_is n st e cs xs h = subst (λ (p : OpenOutcome). outcomes p.next p.store cs ≡ xs) (sym e) (leave (record_of false None 0) st cs xs h)

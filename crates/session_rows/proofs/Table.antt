@@ -1,6 +1,7 @@
 -- The worked rows, proved: by computation, a run call by call (proofs/RunLaws); row I by induction over the pushes (proofs/FullLaws), the
 -- overlap of row H's buckets by a law (proofs/BucketLaws).
 -- Assumes nothing.
+use Rattle.std.specs.Prelude.{None}
 use Prim.Native.Nat.{ℕ}
 use mathlib.Core.Path.{◌≡◌, refl}
 use mathlib.Core.Bool.{false}
@@ -37,7 +38,6 @@ use Rattle.packed_delta.specs.Delta.{encode_ids, encode_delta, size_delta}
 use Rattle.packed_delta.specs.Change.{has_same, without, delta_between}
 use Rattle.intake_content.specs.Content.{bucket_fault, first_outside, name_fault, segment_fault, first_refusal}
 use Rattle.intake_content.specs.Content.{assigned_segment, in_id_order, consumer_assignment, content_of}
-use Rattle.session.specs.declared.Floor.TheVariants.{Unset}
 use Rattle.session.specs.Store.{min_store, slot, list_in, queue_in, queue_reads, write_one}
 use Rattle.session.specs.Identity.{encode_identity, identity_topic, subscription_of, consumer_name_of, is_identity}
 use Rattle.session.specs.Session.{in_use, view, any_beyond, damaged}
@@ -72,9 +72,9 @@ rows =
     let opens : opened min_store ≡ opened_on (store_of [] []) = refl in
     let wide : opened 6196 ≡ opened_on (store_of [] [] ++ zeros 52) = refl in
     let short : opened 6195 ≡ opened_on (store_of [] [] ++ zeros 51) = refl in
-    let registers : step_of (record_of false Unset 0) (store_of [] []) (responded 2) ≡ registered = refl in
+    let registers : step_of (record_of false None 0) (store_of [] []) (responded 2) ≡ registered = refl in
     let held : step_of registered.next registered.store (pushed message_a) ≡ holds_a = refl in
-    let joined : step_of (record_of false Unset 0) (store_of [] [] ++ zeros 52) (pushed message_a) ≡ joins 1 (entry_at 3 ++ zeros 26) = refl in
+    let joined : step_of (record_of false None 0) (store_of [] [] ++ zeros 52) (pushed message_a) ≡ joins 1 (entry_at 3 ++ zeros 26) = refl in
     let over : (m : List ℕ) (x : CallOutcome) → step_of registered.next registered.store (pushed m) ≡ x → over_two m ≡ registered ∷ x ∷ [] =
     λ m x e. run_is min_store (store_of [] []) opens (responded 2 ∷ pushed m ∷ []) (registered ∷ x ∷ []) (registers, (e, tt)) in
     record {

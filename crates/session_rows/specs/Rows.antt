@@ -3,8 +3,7 @@
 -- a store of zeros, then messages of bytes, with the answer, the record and every byte of store and output that each
 -- call leaves. Its proof is proofs/Table.
 -- Assumes nothing.
-use Rattle.std.specs.Prelude.{ℕ, ◌≡◌, Bool, true, false, List, [], ◌∷◌, ◌++◌, map, take, replicate}
-use Rattle.std.proofs.Math.Option.{none, some}
+use Rattle.std.specs.Prelude.{ℕ, ◌≡◌, Bool, true, false, List, [], ◌∷◌, ◌++◌, map, take, replicate, None, Some, Option, Ok, Err}
 use Rattle.topic_types.specs.declared.ControllerIncarnation.{ControllerIncarnation}
 use Rattle.topic_types.specs.declared.ScalableConsumerType.TheVariants.{Stream}
 use Rattle.topic_types.specs.KeyRanges.{key_range}
@@ -13,7 +12,6 @@ use Rattle.refusal.specs.declared.Refusal.TheVariants.{OverlappingBucketRanges, 
 use Rattle.refusal.specs.declared.Refusal.TheVariants.{StaleEpoch, PreBaselineBufferFull}
 use Rattle.name_parents.specs.Parents.{topic_scheme, is_parent, path_of}
 use Rattle.wire_schema.specs.declared.MessageKind.TheVariants.{CommandScalableTopicAssignmentUpdate}
-use Rattle.wire_schema.specs.declared.Checked.TheVariants.{Valid}
 use Rattle.wire_schema.specs.FirstFault.{first_fault}
 use Rattle.wire_readers.specs.Messages.{WireSegment, update_of}
 use Rattle.writer_message.specs.Message.{assignment_message, update_message}
@@ -25,9 +23,7 @@ use Rattle.packed_delta.specs.Rows.{empty, one_half}
 use Rattle.intake_content.specs.Content.{taken, refused, name_fault, content_of}
 use Rattle.intake_content.specs.Rows.{parent, name, wire_half}
 use Rattle.session.specs.declared.SessionRecord.{SessionRecord}
-use Rattle.session.specs.declared.Floor.{Floor}
-use Rattle.session.specs.declared.Floor.TheVariants.{Unset, At}
-use Rattle.session.specs.declared.Answer.TheVariants.{Refused, Accepted, Unchanged, Delta, Replay}
+use Rattle.session.specs.declared.Answer.TheVariants.{Accepted, Unchanged, Delta, Replay}
 use Rattle.session.specs.Store.{min_store, min_output}
 use Rattle.session.specs.Identity.{Identity}
 use Rattle.session.specs.Session.{Session, at_start, refuse, floor_fault}
@@ -98,7 +94,7 @@ run_on n calls = outcomes (opened n).next (opened n).store calls
 -- ---- what they leave
 
 -- consumer 7's record: registered or not, its floor, how many pushes are queued
-abbrev pub record_of : Bool → Floor → ℕ → SessionRecord
+abbrev pub record_of : Bool → Option ℕ → ℕ → SessionRecord
 record_of registered floor count =
     record {
       consumer_id = 7;
@@ -147,49 +143,49 @@ epoch_alone epoch = output (epoch_bytes epoch ++ (0 ∷ 0 ∷ 0 ∷ 0 ∷ []))
 
 -- a response of epoch 2 without segments is accepted
 abbrev pub registered : CallOutcome
-registered = call_outcome Accepted (record_of true (At 2) 0) (store_of (empty_at 2) (empty_at 2)) []
+registered = call_outcome (Ok Accepted) (record_of true (Some 2) 0) (store_of (empty_at 2) (empty_at 2)) []
 
 -- over it: a push that is held, with its delta in the output; a push that is refused, and nothing changes
 abbrev pub holds : ConsumerAssignment → CallOutcome
 holds a =
     let d : AssignmentDelta = delta_between empty a in
-    call_outcome (Delta (size_delta d)) (record_of true (At a.layout_epoch) 0) (store_of (empty_at 2) (encode_assignment a)) (output (encode_delta d))
+    call_outcome (Ok (Delta (size_delta d))) (record_of true (Some a.layout_epoch) 0) (store_of (empty_at 2) (encode_assignment a)) (output (encode_delta d))
 
 abbrev pub refuses : Refusal → CallOutcome
-refuses x = call_outcome (Refused x) (record_of true (At 2) 0) (store_of (empty_at 2) (empty_at 2)) (zeros min_output)
+refuses x = call_outcome (Err x) (record_of true (Some 2) 0) (store_of (empty_at 2) (empty_at 2)) (zeros min_output)
 
 -- rows C to F, byte by byte: row A's push is held; again; the same segments at epoch 4; row A's at epoch 2
 abbrev pub holds_a : CallOutcome
-holds_a = call_outcome (Delta 26) (record_of true (At 3) 0) (store_of (empty_at 2) (sheet_at 3)) (gains_half 3)
+holds_a = call_outcome (Ok (Delta 26)) (record_of true (Some 3) 0) (store_of (empty_at 2) (sheet_at 3)) (gains_half 3)
 
 abbrev pub still_a : CallOutcome
-still_a = call_outcome Unchanged (record_of true (At 3) 0) (store_of (empty_at 2) (sheet_at 3)) (zeros min_output)
+still_a = call_outcome (Ok Unchanged) (record_of true (Some 3) 0) (store_of (empty_at 2) (sheet_at 3)) (zeros min_output)
 
 abbrev pub holds_next : CallOutcome
-holds_next = call_outcome (Delta 12) (record_of true (At 4) 0) (store_of (empty_at 2) (sheet_at 4)) (epoch_alone 4)
+holds_next = call_outcome (Ok (Delta 12)) (record_of true (Some 4) 0) (store_of (empty_at 2) (sheet_at 4)) (epoch_alone 4)
 
 abbrev pub stale_a : CallOutcome
-stale_a = call_outcome (Refused (StaleEpoch 2 3)) (record_of true (At 3) 0) (store_of (empty_at 2) (sheet_at 3)) (zeros min_output)
+stale_a = call_outcome (Err (StaleEpoch 2 3)) (record_of true (Some 3) 0) (store_of (empty_at 2) (sheet_at 3)) (zeros min_output)
 
 abbrev pub over_two : List ℕ → List CallOutcome
 over_two message = run_on min_store (responded 2 ∷ pushed message ∷ [])
 
 -- a push joins the queue: how many are then queued, and the bytes of the queue's area
 abbrev pub joins : ℕ → List ℕ → CallOutcome
-joins count area = call_outcome Unchanged (record_of false Unset count) (store_of [] [] ++ area) (zeros min_output)
+joins count area = call_outcome (Ok Unchanged) (record_of false None count) (store_of [] [] ++ area) (zeros min_output)
 
 -- a push is refused for want of room behind one
 abbrev pub no_room : List ℕ → CallOutcome
-no_room area = call_outcome (Refused (PreBaselineBufferFull 1)) (record_of false Unset 1) (store_of [] [] ++ area) (zeros min_output)
+no_room area = call_outcome (Err (PreBaselineBufferFull 1)) (record_of false None 1) (store_of [] [] ++ area) (zeros min_output)
 
 -- a drain of reader 0 hands out the entry behind which its position then is
 abbrev pub replays : (place size position : ℕ) → (out : List ℕ) → CallOutcome
 replays place size position out =
-    call_outcome (Replay place size) (with_position (record_of true (At 4) 2) 0 position) (store_of (empty_at 2) (sheet_at 4) ++ (entry_at 3 ++ entry_at 4)) out
+    call_outcome (Ok (Replay place size)) (with_position (record_of true (Some 4) 2) 0 position) (store_of (empty_at 2) (sheet_at 4) ++ (entry_at 3 ++ entry_at 4)) out
 
 -- the response before
 abbrev pub replayed : CallOutcome
-replayed = call_outcome Accepted (record_of true (At 4) 2) (store_of (empty_at 2) (sheet_at 4) ++ (entry_at 3 ++ entry_at 4)) []
+replayed = call_outcome (Ok Accepted) (record_of true (Some 4) 2) (store_of (empty_at 2) (sheet_at 4) ++ (entry_at 3 ++ entry_at 4)) []
 
 -- 1,024 pushes of row A's message, each 26 bytes in the queue, and a store with room for just those
 abbrev pub pushes : List Call
@@ -219,7 +215,7 @@ marked_namespace = topic_scheme ++ (0x74 ∷ 0x2f ∷ 0x6e ∷ 0x23 ∷ 0x2f ∷
 
 pub record Rows : Type 0 where
   -- A: the message is valid, and says consumer 7, epoch 3, one segment
-  pub a-valid : first_fault CommandScalableTopicAssignmentUpdate message_a ≡ Valid
+  pub a-valid : first_fault CommandScalableTopicAssignmentUpdate message_a ≡ Ok record {}
   pub a_read : update_of message_a
       ≡ record { consumer_id = 7; assignment = record { layout_epoch = 3; segments = wire_half 0 name [] ∷ [] } }
   -- B: under the parent topic://a/b/c it is taken, as a packed assignment of these bytes
@@ -227,7 +223,7 @@ pub record Rows : Type 0 where
   pub b-bytes : encode_assignment (one_half 3)
       ≡ 0 ∷ 0 ∷ 0 ∷ 0 ∷ 0 ∷ 0 ∷ 0 ∷ 3 ∷ 0 ∷ 1 ∷ 0 ∷ 0 ∷ 0 ∷ 0 ∷ 0 ∷ 0 ∷ 0 ∷ 0 ∷ 0 ∷ 0 ∷ 0x7f ∷ 0xff ∷ 0 ∷ 0 ∷ []
   -- open on the least store, of zeros
-  pub opens : opened min_store ≡ record { answer = Accepted; next = record_of false Unset 0; store = store_of [] [] }
+  pub opens : opened min_store ≡ record { answer = (Ok Accepted); next = record_of false None 0; store = store_of [] [] }
   -- C: row A's message over an empty baseline of epoch 2: the delta in the output has lost 0 and gained 1. D: again, and it answers none and
   -- writes nothing. E: epoch 4 with the same segments, and both counts are 0
   pub c-d-e : run_on min_store (responded 2 ∷ pushed message_a ∷ pushed message_a ∷ pushed (message_at 4) ∷ [])
@@ -245,21 +241,21 @@ pub record Rows : Type 0 where
   pub h-buckets-more : over_two (written (bucketed 507)) ≡ registered ∷ refuses AssignmentTooLong ∷ []
   -- I: each of 1,024 pushes joins the queue and answers none; one more is 28, and nothing changes
   pub i-queued : map (λ (e : Event). e.none) (trace (opened roomy).next (opened roomy).store pushes) ≡ replicate 1024 true
-  pub i-count : behind_pushes.state ≡ record_of false Unset 1024
+  pub i-count : behind_pushes.state ≡ record_of false None 1024
   pub i-full : step_of behind_pushes.state behind_pushes.store (pushed message_a)
-      ≡ call_outcome (Refused (PreBaselineBufferFull 1024)) behind_pushes.state behind_pushes.store (zeros min_output)
+      ≡ call_outcome (Err (PreBaselineBufferFull 1024)) behind_pushes.state behind_pushes.store (zeros min_output)
   -- and any assignment that the floor lets pass, in any session as full, in values
   pub i-any : (s : Session) (a : ConsumerAssignment) → s.state.queue_count ≡ 1024
-      → floor_fault a.layout_epoch s.state.epoch_floor ≡ none → update_unregistered s a ≡ refuse (PreBaselineBufferFull 1024) s
+      → floor_fault a.layout_epoch s.state.epoch_floor ≡ None → update_unregistered s a ≡ refuse (PreBaselineBufferFull 1024) s
   -- J: the parent topic://t/n//m is valid; topic://t//m is not, and is 12, for any segment, and so for row A's assignment
   pub j-valid : is_parent slash_in_name ≡ true
   pub j-not-valid : is_parent no_namespace ≡ false
-  pub j-any : (w : WireSegment) → name_fault no_namespace w ≡ some InvalidParent
+  pub j-any : (w : WireSegment) → name_fault no_namespace w ≡ Some InvalidParent
   pub j-refused : content_of no_namespace (update_of message_a).assignment ≡ refused InvalidParent
   -- 02 h: "`topic://t?/n/m` becomes 12", for any segment, and so for row A's assignment; a mark in the namespace as well
   pub marked-tenant : is_parent marked_tenant ≡ false
   pub marked-namespace : is_parent marked_namespace ≡ false
-  pub marked-any : (w : WireSegment) → name_fault marked_tenant w ≡ some InvalidParent
+  pub marked-any : (w : WireSegment) → name_fault marked_tenant w ≡ Some InvalidParent
   pub marked_refused : content_of marked_tenant (update_of message_a).assignment ≡ refused InvalidParent
   -- 02 j: row A's message twice, in a store with room for 52 bytes of queue, and with a byte less
   pub close-fits : run_on 6196 (pushed message_a ∷ pushed message_a ∷ []) ≡ joins 1 (entry_at 3 ++ zeros 26) ∷ joins 2 (entry_at 3 ++ entry_at 3) ∷ []

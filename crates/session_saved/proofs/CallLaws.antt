@@ -3,6 +3,7 @@
 -- In order: the test of a form (`saved-short` to `sum-decides`); save (`save-short` to `save-sound`, `no_room`, `all-written`); restore
 -- (`part-damaged` to `part-put`, `no-form`, `form-taken`).
 -- Assumes nothing.
+use Rattle.std.specs.Prelude.{Ok, Err}
 use Prim.Native.Nat.{ℕ, ◌+◌, ◌-◌, ◌≤◌, ◌<◌}
 use native.Mathlib.Omega.{arith}
 use mathlib.Core.Path.{◌≡◌, sym, ap, ap₂, ◌∙◌}
@@ -18,10 +19,9 @@ use Rattle.slice_int.specs.Be.{be_at}
 use Rattle.slice_int.specs.Put.{put}
 use Rattle.crc32.specs.Crc.{crc32}
 use Rattle.output.specs.Output.{outcome, refuse, written}
-use Rattle.output.specs.declared.WriteAnswer.TheVariants.{Written}
 use Rattle.session.specs.declared.SessionRecord.{SessionRecord}
 use Rattle.session.specs.declared.Changed.{Changed}
-use Rattle.session.specs.declared.Answer.TheVariants.{Refused, Accepted}
+use Rattle.session.specs.declared.Answer.TheVariants.{Accepted}
 use Rattle.session.specs.Session.{view, damaged}
 use Rattle.session.specs.Calls.{OpenOutcome}
 use Rattle.session_store.specs.Places.{QueueEnds}
@@ -92,7 +92,7 @@ module _ (r : SessionRecord) (st out : List ℕ) where
     no_room h = simp (lt-leb (length (encode_saved r st)) (length out) (omega (arith, size_is)))
 
     pub all-written : end + 111 ≤ length out → (p : List ℕ) → p ≡ put out 0 (encode_saved r st)
-        → outcome (Written (end + 111)) p ≡ written (encode_saved r st) out
+        → outcome (Ok (end + 111)) p ≡ written (encode_saved r st) out
     unfolding written
     all-written h p e =
         simp (size_is, le-leb (end + 111) (length out) h, ← e)
@@ -104,7 +104,7 @@ abbrev pub left : Changed → List ℕ → OpenOutcome
 left x st = record { answer = x.answer; next = x.next; store = st }
 
 abbrev pub refused_with : Refusal → Changed
-refused_with x = record { next = no_session; answer = Refused x }
+refused_with x = record { next = no_session; answer = Err x }
 
 module _ (r : SessionRecord) (part st : List ℕ) (x : Bool) (ex : x ≡ not (damaged (view r part))) where
   pub part-damaged : not x ≡ true → (c : Changed) → c ≡ refused_with MalformedStore → left c st ≡ restore_part r part st
@@ -125,7 +125,7 @@ module _ (r : SessionRecord) (part st : List ℕ) (x : Bool) (ex : x ≡ not (da
     part-short h c e = rw e (simp (valid, lt-ltb (length st) (length part) h))
 
     pub part-put : length part ≤ length st → (p : List ℕ) → p ≡ put st 0 part
-        → left (record { next = r; answer = Accepted }) p ≡ restore_part r part st
+        → left (record { next = r; answer = (Ok Accepted) }) p ≡ restore_part r part st
     unfolding restore_part
     part-put h p e = rw e (simp (valid, le-ltb (length st) (length part) h))
 

@@ -1,5 +1,6 @@
 -- The claim of specs/Restores (`save-restores`): a session that was saved is the session that is restored.
 -- Assumes nothing.
+use Rattle.std.specs.Prelude.{Ok}
 use Prim.Native.Nat.{ℕ, ◌+◌, ◌-◌, ◌≤◌}
 use native.Mathlib.Omega.{arith}
 use mathlib.Core.Path.{◌≡◌, refl, sym, ap, ap₂, ◌∙◌, subst}
@@ -14,7 +15,6 @@ use Rattle.slice_int.specs.Put.{put}
 use Rattle.slice_int.proofs.PutLaws.{length-put, take_put, drop-put}
 use Rattle.packed.specs.Assignment.{ConsumerAssignment}
 use Rattle.output.specs.Output.{written}
-use Rattle.output.specs.declared.WriteAnswer.TheVariants.{Written}
 use Rattle.session.specs.declared.SessionRecord.{SessionRecord}
 use Rattle.session.specs.declared.Answer.TheVariants.{Accepted}
 use Rattle.session.specs.Session.{Session, view, damaged}
@@ -38,7 +38,7 @@ module _ (r : SessionRecord) (st out : List ℕ) (n : ℕ) where
     pub size : n ≡ length (encode_saved r st)
     pub front : take n (save_outcome r st out).out ≡ encode_saved r st
 
-  saves : (save_outcome r st out).answer ≡ Written n → Saves
+  saves : (save_outcome r st out).answer ≡ Ok n → Saves
   unfolding save_outcome written
   saves e = go (ltb (length st) 6144) refl (damaged (view r st)) refl (leb (length f) (length out)) refl
     where
@@ -92,7 +92,7 @@ module _ (r : SessionRecord) (st t : List ℕ) (fit : Fits r) (bytes : Bytes st)
   alike : take (length part) st ≡ take (length part) back
   alike = part-front ∙ sym (take_put t 0 part (omega arith))
 
-  comes : restore_outcome (encode_saved r st) t ≡ record { answer = Accepted; next = r; store = back }
+  comes : restore_outcome (encode_saved r st) t ≡ record { answer = (Ok Accepted); next = r; store = back }
   unfolding restore_outcome restore_part
   comes =
       simp (
@@ -103,7 +103,7 @@ module _ (r : SessionRecord) (st t : List ℕ) (fit : Fits r) (bytes : Bytes st)
         le-ltb (length t) (length part) room,
       )
 
-  left : Restored r st t (length part) (record { answer = Accepted; next = r; store = back })
+  left : Restored r st t (length part) (record { answer = (Ok Accepted); next = r; store = back })
   unfolding view
   left =
       let s = same-session r st valid back (length part) q alike in

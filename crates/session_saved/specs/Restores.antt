@@ -1,8 +1,7 @@
 -- Public: a session that was saved is the session that is restored (`SaveRestores`, proved in proofs/RestoreLaws).
 -- Assumes nothing.
-use Rattle.std.specs.Prelude.{ℕ, ◌-◌, ◌^◌, ◌≤◌, ◌<◌, ◌≡◌, false, List, length, take, drop}
+use Rattle.std.specs.Prelude.{ℕ, ◌-◌, ◌^◌, ◌≤◌, ◌<◌, ◌≡◌, false, List, length, take, drop, Ok}
 use Rattle.slice.specs.Bytes.{Bytes}
-use Rattle.output.specs.declared.WriteAnswer.TheVariants.{Written}
 use Rattle.session.specs.declared.SessionRecord.{SessionRecord}
 use Rattle.session.specs.declared.Answer.TheVariants.{Accepted}
 use Rattle.session.specs.Session.{Session, readers, view, damaged}
@@ -29,7 +28,7 @@ pub record SameSession (s t : Session) : Type 0 where
 
 -- what a restore into the store t leaves of the session of r and store, whose part has n bytes
 pub record Restored (r : SessionRecord) (store t : List ℕ) (n : ℕ) (o : OpenOutcome) : Type 0 where
-  pub answer : o.answer ≡ Accepted
+  pub answer : o.answer ≡ Ok Accepted
   pub next : o.next ≡ r
   pub same : SameSession (view r o.store) (view r store)
   pub undamaged : damaged (view r o.store) ≡ false
@@ -42,6 +41,6 @@ pub record Restored (r : SessionRecord) (store t : List ℕ) (n : ℕ) (o : Open
 -- whatever the save's output held behind the form, and whatever stood in the store that is lent to restore
 abbrev pub SaveRestores : Type 0
 SaveRestores =
-    (r : SessionRecord) (store out t : List ℕ) (n : ℕ) → Fits r → Bytes store → (save_outcome r store out).answer ≡ Written n
+    (r : SessionRecord) (store out t : List ℕ) (n : ℕ) → Fits r → Bytes store → (save_outcome r store out).answer ≡ Ok n
     → n - frame ≤ length t
     → Restored r store t (n - frame) (restore_outcome (take n (save_outcome r store out).out) t)

@@ -1,6 +1,6 @@
 -- Public: the calls `save` and `restore`, over any bytes. The contracts of the programs are these equations.
 -- Assumes nothing.
-use Rattle.std.specs.Prelude.{ℕ, not, List, length, ltb}
+use Rattle.std.specs.Prelude.{ℕ, not, List, length, ltb, Ok}
 use Rattle.refusal.specs.declared.Refusal.TheVariants.{StoreTooShort, MalformedStore, MalformedSave}
 use Rattle.refusal.specs.Steps.{◌>>◌, refuse_if}
 use Rattle.slice_int.specs.Put.{put}
@@ -32,7 +32,7 @@ unfoldable pub restore_part : (r : SessionRecord) (part store : List ℕ) → Op
 restore_part r part store = do
   refuse_if (unopened no_session store) (damaged (view r part)) MalformedStore  -- 22
   refuse_if (unopened no_session store) (ltb (length store) (length part)) StoreTooShort  -- 1
-  record { answer = Accepted; next = r; store = put store 0 part }
+  record { answer = (Ok Accepted); next = r; store = put store 0 part }
 
 unfoldable pub restore_outcome : (bytes store : List ℕ) → OpenOutcome
 restore_outcome bytes store = do

@@ -12,10 +12,9 @@ ghost use Rattle.session_saved.specs.Form.{encode_positions, encode_record, enco
 ghost use Rattle.session_saved.specs.Saved.{no_session, save_outcome, restore_part, restore_outcome};
 
 use export_record::Record;
-use output::WriteAnswer;
 use refusal::Refusal;
 use session::{Answer, Changed, READERS, SessionRecord};
-use session_store::{MIN_STORE, Tested};
+use session_store::MIN_STORE;
 use topic_types::ControllerIncarnation;
 
 // "CUD1", the first 4 bytes.
@@ -58,14 +57,14 @@ fn write_record(r: Record, out: &mut [u8])
 }
 
 // Writes the session of a store that is sound, whose queue ends at a place: 21 where the output does not hold it.
-fn write_saved(r: SessionRecord, store: &[u8], end: usize, out: &mut [u8]) -> WriteAnswer
+fn write_saved(r: SessionRecord, store: &[u8], end: usize, out: &mut [u8]) -> Result<usize, Refusal>
     requires queue_ends { QueueEnds store.now r.queue_count end }
     requires end_bound { end ≤ 2105344 }
     ensures { outcome result out.new ≡ written (encode_saved r store.now) out.old }
 {
     let size = end + FRAME;
     if out.len() < size {
-        return WriteAnswer::Refused(Refusal::ResultTooLong);
+        return Err(Refusal::ResultTooLong);
     }
     slice_int::put_bytes(out, HEAD, &store[..end]);
     write_record(export_record::export_record(r), out);
@@ -73,20 +72,20 @@ fn write_saved(r: SessionRecord, store: &[u8], end: usize, out: &mut [u8]) -> Wr
     slice_int::write_u32(out, 0, MARK);
     let sum = crc32::crc32(&out[..size - SUM]);
     slice_int::write_u32(out, size - SUM, sum);
-    WriteAnswer::Written(size)
+    Ok(size)
 }
 
 // Writes a session to the front of the output. Tested in order: the store's length (1), what is in use of it (22), the output's room (21). A refusal
 // leaves the output as it was.
-pub fn save(r: SessionRecord, store: &[u8], out: &mut [u8]) -> WriteAnswer
+pub fn save(r: SessionRecord, store: &[u8], out: &mut [u8]) -> Result<usize, Refusal>
     ensures { outcome result out.new ≡ save_outcome r store.now out.old }
 {
     if store.len() < MIN_STORE {
-        return WriteAnswer::Refused(Refusal::StoreTooShort);
+        return Err(Refusal::StoreTooShort);
     }
     match session_store::test_store(r, store) {
-        Tested::Sound(end) => write_saved(r, store, end, out),
-        Tested::Damaged => WriteAnswer::Refused(Refusal::MalformedStore),
+        Some(end) => write_saved(r, store, end, out),
+        None => Err(Refusal::MalformedStore),
     }
 }
 
@@ -163,7 +162,7 @@ fn put_part(next: SessionRecord, part: &[u8], store: &mut [u8]) -> Changed
     slice_int::put_bytes(store, 0, part);
     Changed {
         next,
-        answer: Answer::Accepted,
+        answer: Ok(Answer::Accepted),
     }
 }
 

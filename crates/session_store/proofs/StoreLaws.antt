@@ -4,6 +4,7 @@
 -- (`queue-ends`); the cases of the test of a store (`count-bad` to `queue-ended`); what holds of a store that is sound (`count_most` to `queue-starts`); an entry of the
 -- queue where it lies (`front_reads` to `entry_next`); a packed assignment at the front of a buffer (`scratch-fits` to `scratch-entry`).
 -- Assumes nothing.
+use Rattle.std.specs.Prelude.{Some, None}
 use Prim.Native.Nat.{ℕ, ◌+◌, ◌-◌, ◌*◌, ◌≤◌, ◌<◌}
 use native.Mathlib.Nat.{add-sub_cancel_left}
 use native.Mathlib.Omega.{arith}
@@ -19,7 +20,6 @@ use Rattle.slice.proofs.PartLaws.{Bytes, rest}
 use Rattle.slice_int.specs.Be.{be_at, bytes_of}
 use Rattle.packed.specs.Assignment.{num, encode_assignment, decode_assignment, size_assignment, ok_assignment, starts_assignment, is_assignment}
 use Rattle.packed.proofs.RoundLaws.{write-assignment}
-use Rattle.packed_queue.specs.declared.Entries.TheVariants.{End, Malformed as Malformed'}
 use Rattle.packed_queue.specs.Entries.{encode_entry, sheet_in, entry_end, entries_end, starts_entry, start_entries}
 use Rattle.packed_queue.specs.Answers.{entries_read}
 use Rattle.packed_queue.proofs.EntryLaws.{size_ok}
@@ -112,12 +112,12 @@ module _ (r : SessionRecord) (st : List ℕ) where
             unfolding in_use
             queue-decides = slots-decide ∙ simp (← ex, not-false x f, ← ey, not-false y g)
 
-            pub queue-bad : Malformed' ≡ entries_read r.queue_count (take (length st - 6144) (drop 6144 st)) → damaged (view r st) ≡ true
+            pub queue-bad : None ≡ entries_read r.queue_count (take (length st - 6144) (drop 6144 st)) → damaged (view r st) ≡ true
             unfolding queue_reads
             queue-bad e =
                 queue-decides ∙ ap not (read-not r.queue_count (drop 6144 st) (e ∙ ap (entries_read r.queue_count) (part-queue st)))
 
-            module _ (size : ℕ) (e : End size ≡ entries_read r.queue_count (take (length st - 6144) (drop 6144 st))) where
+            module _ (size : ℕ) (e : Some size ≡ entries_read r.queue_count (take (length st - 6144) (drop 6144 st))) where
               told : (queue_reads st r.queue_count ≡ true) × (size ≡ entries_end r.queue_count (drop 6144 st))
               unfolding queue_reads
               told = read-there r.queue_count (drop 6144 st) size (e ∙ ap (entries_read r.queue_count) (part-queue st))

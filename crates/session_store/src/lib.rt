@@ -14,7 +14,7 @@ ghost use Rattle.session_store.specs.Scratch.{Scratch};
 ghost use Rattle.session_store.specs.Tests.{StoreTested};
 
 use packed::SLOT;
-use packed_queue::{Entries, LENGTH};
+use packed_queue::LENGTH;
 use session::{READERS, SessionRecord};
 
 // The least store: three slots.
@@ -39,14 +39,6 @@ pub const LIST: usize = 2;
 
 // The most pushes that a queue holds.
 pub const MAX_QUEUE: usize = 1024;
-
-// What the test of a store answers.
-#[derive(Clone, Copy)]
-pub enum Tested {
-    // Nothing in use is malformed, and the queue ends at this byte place.
-    Sound(usize),
-    Damaged,
-}
 
 // The slot s holds an identity.
 pub fn is_identity(s: &[u8]) -> bool
@@ -113,28 +105,28 @@ fn any_beyond(r: SessionRecord) -> bool
 }
 
 // Tests that no slot or entry in use is malformed, and no count is beyond what it counts. The counts come first: a damaged one could be any number.
-pub fn test_store(r: SessionRecord, store: &[u8]) -> Tested
+pub fn test_store(r: SessionRecord, store: &[u8]) -> Option<usize>
     requires { min_store ≤ length store.now }
     ensures { StoreTested r store.now result }
 {
     if MAX_QUEUE < r.queue_count {
-        return Tested::Damaged;
+        return None;
     }
     if any_beyond(r) {
-        return Tested::Damaged;
+        return None;
     }
     if !is_identity(&store[0..SLOT]) {
-        return Tested::Damaged;
+        return None;
     }
     if !lists_start(r.registered, store) {
-        return Tested::Damaged;
+        return None;
     }
     match packed_queue::read_entries(&store[MIN_STORE..], r.queue_count) {
-        Entries::End(size) => {
+        Some(size) => {
             let end = MIN_STORE + size;
-            Tested::Sound(end)
+            Some(end)
         }
-        Entries::Malformed => Tested::Damaged,
+        None => None,
     }
 }
 
@@ -144,8 +136,8 @@ pub fn is_sound(r: SessionRecord, store: &[u8]) -> bool
     ensures { result ≡ not (damaged (view r store.now)) }
 {
     match test_store(r, store) {
-        Tested::Sound(_) => true,
-        Tested::Damaged => false,
+        Some(_) => true,
+        None => false,
     }
 }
 

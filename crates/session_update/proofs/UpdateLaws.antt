@@ -5,6 +5,7 @@
 -- `list_held`); what the assignment comes to (`content-refuses` to `content-joins`); link and consumer
 -- (`address-link` to `let-in`); the message (`update-epoch` to `message-valid`); the call (`store-short` to `call-sound`).
 -- Assumes nothing.
+use Rattle.std.specs.Prelude.{⊤, Option, Ok, Err}
 use Prim.Native.Nat.{ℕ, ◌+◌, ◌-◌, ◌≤◌, ◌<◌}
 use native.Mathlib.Omega.{arith}
 use mathlib.Core.Path.{◌≡◌, refl, sym, ap, ◌∙◌}
@@ -17,7 +18,6 @@ use borrow.Author.Tests.{lt-ltb, le-ltb, eq-eqb, ne_eqb}
 use Rattle.topic_types.specs.declared.ControllerIncarnation.{ControllerIncarnation}
 use Rattle.refusal.specs.declared.Refusal.{Refusal}
 use Rattle.refusal.specs.declared.Refusal.TheVariants as refusal
-use Rattle.wire_schema.specs.declared.Checked.TheVariants as checked
 use Rattle.wire_schema.specs.declared.MessageKind.TheVariants.{CommandScalableTopicAssignmentUpdate}
 use Rattle.wire_schema.specs.FirstFault.{first_fault}
 use Rattle.wire.specs.Fields.{fields_of}
@@ -34,8 +34,7 @@ use Rattle.packed_delta.specs.Change.{delta_between}
 use Rattle.intake_content.specs.Content.{Content, refused, taken, content_of}
 use Rattle.session.specs.declared.SessionRecord.{SessionRecord}
 use Rattle.session.specs.declared.Changed.{Changed}
-use Rattle.session.specs.declared.Floor.{Floor}
-use Rattle.session.specs.declared.Answer.TheVariants.{Refused, Unchanged, Delta}
+use Rattle.session.specs.declared.Answer.TheVariants.{Unchanged, Delta}
 use Rattle.session.specs.Store.{slot, list_in, queue_in, queue_end, write_one}
 use Rattle.session.specs.Identity.{identity_topic, is_identity}
 use Rattle.session.specs.Session.{view, damaged, raise, Result, refuse}
@@ -47,8 +46,6 @@ use Rattle.session_record.proofs.FloorLaws.{floor-below, floor-met}
 use Rattle.session_store.proofs.StoreLaws.{slot_at, count_most, lists-start}
 use Rattle.session_store.proofs.StoreLaws as store
 use Rattle.session_intake.specs.Taken.{content_in, OrderedMessageTaken}
-use Rattle.session_update.specs.declared.Address.{Address}
-use Rattle.session_update.specs.declared.Address.TheVariants as address
 use Rattle.session_update.specs.Address.{address_of, by_address}
 
 -- what is answered, with the record, is the call_outcome
@@ -93,19 +90,19 @@ module _ (r : SessionRecord) (st out : List ℕ) (a : ConsumerAssignment) (epoch
   floor-test = ap (λ (n : ℕ). below_floor n r.epoch_floor) (sym e) ∙ sym f
 
   pub epoch-low : t ≡ true → (v : ℕ) → v ≡ floor_value r.epoch_floor
-      → call_outcome (Refused (refusal.CrossIncarnationEpochRegression epoch v)) r st out ≡ effect_of (update_unregistered (view r st) a) st out
+      → call_outcome (Err (refusal.CrossIncarnationEpochRegression epoch v)) r st out ≡ effect_of (update_unregistered (view r st) a) st out
   unfolding update_unregistered view
   epoch-low h v g = rw (e, g, floor-below a.layout_epoch r.epoch_floor (floor-test ∙ h))
 
   module _ (h : t ≡ false) where
     pub queue-full : r.queue_count ≡ 1024
-        → call_outcome (Refused (refusal.PreBaselineBufferFull 1024)) r st out ≡ effect_of (update_unregistered (view r st) a) st out
+        → call_outcome (Err (refusal.PreBaselineBufferFull 1024)) r st out ≡ effect_of (update_unregistered (view r st) a) st out
     unfolding update_unregistered view
     queue-full q = rw (floor-met a.layout_epoch r.epoch_floor (floor-test ∙ h), eq-eqb r.queue_count 1024 q)
 
     module _ (q : r.queue_count ≡ 1024 → ⊥) (end : ℕ) (d : end ≡ queue_end (queue_in st r.queue_count)) (n : ℕ) (z : n ≡ size_assignment a) where
       pub no_room : end ≤ length st → length st - end < 2 + n
-          → call_outcome (Refused (refusal.PreBaselineBufferFull r.queue_count)) r st out ≡ effect_of (update_unregistered (view r st) a) st out
+          → call_outcome (Err (refusal.PreBaselineBufferFull r.queue_count)) r st out ≡ effect_of (update_unregistered (view r st) a) st out
       unfolding update_unregistered view
       no_room l k =
           rw (
@@ -116,7 +113,7 @@ module _ (r : SessionRecord) (st out : List ℕ) (a : ConsumerAssignment) (epoch
 
       pub queue-joined : end + (2 + n) ≤ length st → (new : List ℕ) → new ≡ put st end (encode_entry a)
           → (next : SessionRecord) → next ≡ with_queue_count r (r.queue_count + 1)
-          → call_outcome Unchanged next new out ≡ effect_of (update_unregistered (view r st) a) st out
+          → call_outcome (Ok Unchanged) next new out ≡ effect_of (update_unregistered (view r st) a) st out
       unfolding update_unregistered view write_one
       queue-joined l new p next x =
           rw (
@@ -135,20 +132,20 @@ module _ (r : SessionRecord) (st out : List ℕ) (a l : ConsumerAssignment) (p :
   same_test : same_assignment (list_in st 2) a ≡ t
   same_test = ap (λ (b : ConsumerAssignment). same_assignment b a) (sym p) ∙ sym f
 
-  pub list_same : t ≡ true → call_outcome Unchanged r st out ≡ effect_of (update_registered (view r st) a) st out
+  pub list_same : t ≡ true → call_outcome (Ok Unchanged) r st out ≡ effect_of (update_registered (view r st) a) st out
   unfolding update_registered view
   list_same h = rw (same_test ∙ h)
 
   module _ (h : t ≡ false) (epoch prev : ℕ) (e : epoch ≡ a.layout_epoch) (g : prev ≡ (list_in st 2).layout_epoch) where
     pub epoch-stale : epoch < prev
-        → call_outcome (Refused (refusal.StaleEpoch epoch prev)) r st out ≡ effect_of (update_registered (view r st) a) st out
+        → call_outcome (Err (refusal.StaleEpoch epoch prev)) r st out ≡ effect_of (update_registered (view r st) a) st out
     unfolding update_registered view
     epoch-stale q = rw (same_test ∙ h, e, g, lt-ltb a.layout_epoch (list_in st 2).layout_epoch (omega arith))
 
     pub list_held : prev ≤ epoch → (len : ℕ) → len ≡ size_delta (delta_between l a)
         → (delta : List ℕ) → delta ≡ put out 0 (encode_delta (delta_between l a)) → (new : List ℕ) → new ≡ put st 4096 (encode_assignment a)
-        → (floor : Floor) → floor ≡ raise r.epoch_floor epoch → (next : SessionRecord) → next ≡ with_floor r floor
-        → call_outcome (Delta len) next new delta ≡ effect_of (update_registered (view r st) a) st out
+        → (floor : Option ℕ) → floor ≡ raise r.epoch_floor epoch → (next : SessionRecord) → next ≡ with_floor r floor
+        → call_outcome (Ok (Delta len)) next new delta ≡ effect_of (update_registered (view r st) a) st out
     unfolding update_registered view write_one
     list_held q len el delta ed new en floor ef next ex =
         rw (same_test ∙ h, le-ltb a.layout_epoch (list_in st 2).layout_epoch (omega arith), el, ed, en, ex, ef, e, p)
@@ -156,7 +153,7 @@ module _ (r : SessionRecord) (st out : List ℕ) (a l : ConsumerAssignment) (p :
 -- ---- what the assignment comes to
 
 module _ (r : SessionRecord) (st out : List ℕ) (c : Content) where
-  pub content-refuses : (x : Refusal) → c ≡ refused x → call_outcome (Refused x) r st out ≡ effect_of (update_content (view r st) c) st out
+  pub content-refuses : (x : Refusal) → c ≡ refused x → call_outcome (Err x) r st out ≡ effect_of (update_content (view r st) c) st out
   unfolding update_content view
   content-refuses x e = rw e
 
@@ -175,25 +172,25 @@ module _ (r : SessionRecord) (st out : List ℕ) (c : Content) where
 
 module _ (r : SessionRecord) (incarnation : ControllerIncarnation) (id : ℕ) where
   pub address-link : (incarnation.0 ≡ r.incarnation.0 → ⊥)
-      → address.Refused (refusal.IncarnationMismatch incarnation r.incarnation) ≡ address_of r incarnation id
+      → Err (refusal.IncarnationMismatch incarnation r.incarnation) ≡ address_of r incarnation id
   address-link h = rw (ne_eqb incarnation.0 r.incarnation.0 h)
 
   module _ (h : incarnation.0 ≡ r.incarnation.0) where
     pub address-consumer : (id ≡ r.consumer_id → ⊥)
-        → address.Refused (refusal.ConsumerMismatch id r.consumer_id) ≡ address_of r incarnation id
+        → Err (refusal.ConsumerMismatch id r.consumer_id) ≡ address_of r incarnation id
     address-consumer k = rw (eq-eqb incarnation.0 r.incarnation.0 h, ne_eqb id r.consumer_id k)
 
-    pub address-here : id ≡ r.consumer_id → address.Here ≡ address_of r incarnation id
+    pub address-here : id ≡ r.consumer_id → (Ok record {}) ≡ address_of r incarnation id
     address-here k = rw (eq-eqb incarnation.0 r.incarnation.0 h, eq-eqb id r.consumer_id k)
 
-module _ (r : SessionRecord) (st out : List ℕ) (incarnation : ControllerIncarnation) (u : WireUpdate) (a : Address)
+module _ (r : SessionRecord) (st out : List ℕ) (incarnation : ControllerIncarnation) (u : WireUpdate) (a : Result ⊤ Refusal)
     (e : a ≡ address_of r incarnation u.consumer_id) where
   -- the cascade by its first two tests
   valid-by : update_valid (view r st) incarnation u ≡ by_address a (view r st) (content_of (identity_topic (slot st 0)) u.assignment)
   unfolding update_valid view
   valid-by =
       go (eqb incarnation.0 r.incarnation.0) (eqb u.consumer_id r.consumer_id)
-      ∙ sym (ap (λ (x : Address). by_address x (view r st) (content_of (identity_topic (slot st 0)) u.assignment)) e)
+      ∙ sym (ap (λ (x : Result ⊤ Refusal). by_address x (view r st) (content_of (identity_topic (slot st 0)) u.assignment)) e)
     where
       link : Refusal
       link = refusal.IncarnationMismatch incarnation r.incarnation
@@ -206,24 +203,24 @@ module _ (r : SessionRecord) (st out : List ℕ) (incarnation : ControllerIncarn
 
       go : (s t : Bool)
           → cond (not s) (refuse link (view r st)) (cond (not t) (refuse consumer (view r st)) (update_content (view r st) content))
-          ≡ by_address (cond (not s) (address.Refused link) (cond (not t) (address.Refused consumer) address.Here)) (view r st) content
+          ≡ by_address (cond (not s) (Err link) (cond (not t) (Err consumer) (Ok record {}))) (view r st) content
       go true true = refl
       go true false = refl
       go false t = refl
 
-  pub turned-away : (x : Refusal) → a ≡ address.Refused x
-      → call_outcome (Refused x) r st out ≡ effect_of (update_valid (view r st) incarnation u) st out
+  pub turned-away : (x : Refusal) → a ≡ Err x
+      → call_outcome (Err x) r st out ≡ effect_of (update_valid (view r st) incarnation u) st out
   unfolding view
   turned-away x h =
       sym (ap (λ (q : Result). effect_of q st out)
-      (valid-by ∙ ap (λ (y : Address). by_address y (view r st) (content_of (identity_topic (slot st 0)) u.assignment)) h))
+      (valid-by ∙ ap (λ (y : Result ⊤ Refusal). by_address y (view r st) (content_of (identity_topic (slot st 0)) u.assignment)) h))
 
-  pub let-in : a ≡ address.Here → {z : CallOutcome}
+  pub let-in : a ≡ Ok record {} → {z : CallOutcome}
       → z ≡ effect_of (update_content (view r st) (content_of (identity_topic (slot st 0)) u.assignment)) st out
       → z ≡ effect_of (update_valid (view r st) incarnation u) st out
   let-in h w =
       w ∙ sym (ap (λ (q : Result). effect_of q st out)
-      (valid-by ∙ ap (λ (y : Address). by_address y (view r st) (content_of (identity_topic (slot st 0)) u.assignment)) h))
+      (valid-by ∙ ap (λ (y : Result ⊤ Refusal). by_address y (view r st) (content_of (identity_topic (slot st 0)) u.assignment)) h))
 
 -- ---- the message
 
@@ -248,28 +245,28 @@ module _ (r : SessionRecord) (st m : List ℕ) (incarnation : ControllerIncarnat
   abbrev pub Scanned : CallOutcome → Type 0
   Scanned z = z ≡ effect_of (update_checked (view r st) incarnation m (first_fault CommandScalableTopicAssignmentUpdate m)) st out
 
-  pub message-bad : (y : Refusal) → first_fault CommandScalableTopicAssignmentUpdate m ≡ checked.Refused y → Scanned (call_outcome (Refused y) r st out)
+  pub message-bad : (y : Refusal) → first_fault CommandScalableTopicAssignmentUpdate m ≡ Err y → Scanned (call_outcome (Err y) r st out)
   unfolding view
   message-bad y g = rw g
 
-  pub message-valid : first_fault CommandScalableTopicAssignmentUpdate m ≡ checked.Valid
+  pub message-valid : first_fault CommandScalableTopicAssignmentUpdate m ≡ Ok record {}
       → {z : CallOutcome} → z ≡ effect_of (update_valid (view r st) incarnation (update_of m)) st out → Scanned z
   message-valid g w = w ∙ rw g
 
 -- ---- the call
 
 module _ (r : SessionRecord) (st m : List ℕ) (incarnation : ControllerIncarnation) (out : List ℕ) where
-  pub store-short : length st < 6144 → call_outcome (Refused refusal.StoreTooShort) r st out ≡ update_outcome r st m incarnation out
+  pub store-short : length st < 6144 → call_outcome (Err refusal.StoreTooShort) r st out ≡ update_outcome r st m incarnation out
   unfolding update_outcome update_call view
   store-short h = rw (lt-ltb (length st) 6144 h)
 
   module _ (h : 6144 ≤ length st) where
-    pub output-short : length out < 3210 → call_outcome (Refused refusal.OutputTooShort) r st out ≡ update_outcome r st m incarnation out
+    pub output-short : length out < 3210 → call_outcome (Err refusal.OutputTooShort) r st out ≡ update_outcome r st m incarnation out
     unfolding update_outcome update_call view
     output-short k = rw (le-ltb (length st) 6144 h, lt-ltb (length out) 3210 k)
 
     module _ (k : 3210 ≤ length out) where
-      pub store-bad : damaged (view r st) ≡ true → call_outcome (Refused refusal.MalformedStore) r st out ≡ update_outcome r st m incarnation out
+      pub store-bad : damaged (view r st) ≡ true → call_outcome (Err refusal.MalformedStore) r st out ≡ update_outcome r st m incarnation out
       unfolding update_outcome update_call view
       store-bad d = rw (le-ltb (length st) 6144 h, le-ltb (length out) 3210 k, d)
 

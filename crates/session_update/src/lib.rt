@@ -22,15 +22,13 @@ ghost use Rattle.session_store.specs.Tests.{StoreTested};
 ghost use Rattle.session_intake.specs.Taken.{content_from, Ready};
 ghost use Rattle.session_update.specs.Address.{address_of};
 
-use intake::Intake;
 use packed::SLOT;
 use packed_queue::LENGTH;
 use refusal::Refusal;
 use session::{Answer, Changed, SessionRecord};
-use session_intake::OrderedMessage;
-use session_store::{LIST, MAX_QUEUE, Tested};
+use session_store::{LIST, MAX_QUEUE};
 use topic_types::ControllerIncarnation;
-use wire_messages::{Checked, MessageKind};
+use wire_messages::MessageKind;
 
 // The place of the store's list slot.
 const LIST_PLACE: usize = SLOT * LIST;
@@ -90,37 +88,32 @@ fn held(r: SessionRecord, store: &mut [u8], b: &[u8], n: usize, out: &mut [u8]) 
     let next = session_record::with_floor(r, raised);
     Changed {
         next,
-        answer: Answer::Delta(len),
+        answer: Ok(Answer::Delta(len)),
     }
 }
 
-// Whom an update is for.
-#[derive(Clone, Copy)]
-enum Address {
-    // This session.
-    Here,
-    // Another link (23) or another consumer (24).
-    Refused(Refusal),
-}
-
 // Link and consumer of a valid update: 23, then 24.
-fn address_of(r: SessionRecord, consumer_id: u64, incarnation: ControllerIncarnation) -> Address
+fn address_of(
+    r: SessionRecord,
+    consumer_id: u64,
+    incarnation: ControllerIncarnation,
+) -> Result<(), Refusal>
     ensures { result ≡ address_of r incarnation consumer_id }
 {
     let expected = r.incarnation;
     if incarnation.0 != expected.0 {
-        return Address::Refused(Refusal::IncarnationMismatch {
+        return Err(Refusal::IncarnationMismatch {
             got: incarnation,
             expected,
         });
     }
     if consumer_id != r.consumer_id {
-        return Address::Refused(Refusal::ConsumerMismatch {
+        return Err(Refusal::ConsumerMismatch {
             got: consumer_id,
             expected: r.consumer_id,
         });
     }
-    Address::Here
+    Ok(())
 }
 
 // An update for this session, whose assignment the intake took into the buffer, or refused (9 to 11, 34, 12 to 15); then 26, 28 or 27.
@@ -128,19 +121,19 @@ fn received(
     r: SessionRecord,
     store: &mut [u8],
     end: usize,
-    intake: Intake,
+    intake: Result<usize, Refusal>,
     b: &[u8],
     out: &mut [u8],
 ) -> Changed
     requires min_store_in_bounds { (min_store ≤ length store.old) × (min_output ≤ length out.old) }
-    requires store_tested { StoreTested r store.old (Tested.Sound end) }
+    requires store_tested { StoreTested r store.old (Some end) }
     requires ready { Ready intake b.now }
     ensures { call_outcome result.answer result.next store.new out.new
         ≡ effect_of (update_content (view r store.old) (content_from intake b.now)) store.old out.old }
 {
     match intake {
-        Intake::Refused(x) => session_record::refuse(r, x),
-        Intake::Taken(n) => {
+        Err(x) => session_record::refuse(r, x),
+        Ok(n) => {
             if r.registered {
                 return held(r, store, b, n, out);
             }
@@ -161,7 +154,7 @@ fn addressed(
     out: &mut [u8],
 ) -> Changed
     requires min_store_in_bounds { (min_store ≤ length store.old) × (min_output ≤ length out.old) }
-    requires store_tested { StoreTested r store.old (Tested.Sound end) }
+    requires store_tested { StoreTested r store.old (Some end) }
     requires scratch { Scratch b.now n }
     ensures { (u : WireUpdate) → consumer_id ≡ u.consumer_id
         → content_of (identity_topic (slot store.old 0)) u.assignment ≡ taken (packed-form.decode_assignment b.now)
@@ -169,8 +162,8 @@ fn addressed(
         ≡ effect_of (update_valid (view r store.old) incarnation u) store.old out.old }
 {
     match address_of(r, consumer_id, incarnation) {
-        Address::Refused(x) => session_record::refuse(r, x),
-        Address::Here => received(r, store, end, Intake::Taken(n), b, out),
+        Err(x) => session_record::refuse(r, x),
+        Ok(()) => received(r, store, end, Ok(n), b, out),
     }
 }
 
@@ -185,18 +178,18 @@ fn scanned(
     out: &mut [u8],
 ) -> Changed
     requires min_store_in_bounds { (min_store ≤ length store.old) × (min_output ≤ length out.old) }
-    requires store_tested { StoreTested r store.old (Tested.Sound end) }
+    requires store_tested { StoreTested r store.old (Some end) }
     requires b_len { length b.old ≡ slot_size }
     ensures { call_outcome result.answer result.next store.new out.new
         ≡ effect_of (update_checked (view r store.old) incarnation message.now (first_fault MessageKind.CommandScalableTopicAssignmentUpdate message.now)) store.old out.old }
 {
     match wire_messages::first_fault(MessageKind::CommandScalableTopicAssignmentUpdate, message) {
-        Checked::Refused(x) => session_record::refuse(r, x),
-        Checked::Valid => {
+        Err(x) => session_record::refuse(r, x),
+        Ok(()) => {
             let head = wire_readers::read_update(message);
             match address_of(r, head.consumer_id, incarnation) {
-                Address::Refused(x) => session_record::refuse(r, x),
-                Address::Here => {
+                Err(x) => session_record::refuse(r, x),
+                Ok(()) => {
                     let intake = session_intake::take_assignment(
                         store,
                         message,
@@ -228,12 +221,12 @@ pub fn updated(
     if out.len() < packed_diff::LONGEST {
         return session_record::refuse(r, Refusal::OutputTooShort);
     }
-    let Tested::Sound(end) = session_store::test_store(r, store) else {
+    let Some(end) = session_store::test_store(r, store) else {
         return session_record::refuse(r, Refusal::MalformedStore);
     };
     let mut b = [0u8; SLOT];
     match session_intake::take_ordered_message(store, message, 2, &mut b) {
-        OrderedMessage::Taken(id, n) => { addressed(r, store, end, id, incarnation, &b, n, out) }
-        OrderedMessage::Other => scanned(r, store, end, message, incarnation, &mut b, out),
+        Some((id, n)) => { addressed(r, store, end, id, incarnation, &b, n, out) }
+        None => scanned(r, store, end, message, incarnation, &mut b, out),
     }
 }

@@ -3,12 +3,12 @@
 -- In order: the queue of a sound session in a store of bytes (`queue-row`, `queued`); a list in its slot (`held-list` to `baseline-kept`); the
 -- calls up to the assignment (`update-is`, `response-is`), and what they leave (`registered-holds` to `alone-holds`); the theorem.
 -- Assumes nothing.
+use Rattle.std.specs.Prelude.{Some, None, Ok}
 use Prim.Native.Nat.{ℕ, zero, suc, ◌+◌, ◌≤◌, ◌<◌, ◌^◌}
 use native.Mathlib.Omega.{arith}
 use mathlib.Core.Path.{◌≡◌, refl, sym, ap, ◌∙◌, subst}
 use mathlib.Core.Bool.{Bool, true, false, cond, ◌&&◌}
 use mathlib.Core.List.{List, [], ◌∷◌, ◌++◌, append_assoc}
-use mathlib.Core.Option.{some, none}
 use lib.ListN.{length, take, drop, length-drop, take-append-drop}
 use lib.Seq.{length-take-le, take-add}
 use lib.Dec.{eqb, ltb, leb}
@@ -177,21 +177,21 @@ module _ (parent message : List ℕ) (a : ConsumerAssignment) (reads : Reads par
 
   -- behind the update
   registered-holds : (out : List ℕ) → r.registered ≡ true → (list_in store list_slot).layout_epoch ≤ a.layout_epoch
-      → let x = effect_of (update_content now (taken a)) store out in (x.answer ≡ answer_to (list_in store list_slot) a) × (held_after x ≡ some a)
+      → let x = effect_of (update_content now (taken a)) store out in (x.answer ≡ answer_to (list_in store list_slot) a) × (held_after x ≡ Some a)
   unfolding update_content update_registered view
   registered-holds out t h = go (same_assignment (list_in store list_slot) a) refl
     where
       go : (b : Bool) → same_assignment (list_in store list_slot) a ≡ b
-          → let x = effect_of (update_content now (taken a)) store out in (x.answer ≡ answer_to (list_in store list_slot) a) × (held_after x ≡ some a)
-      go true e = rw (t, e) (refl, ap some (assignment-eq (list_in store list_slot) a e))
+          → let x = effect_of (update_content now (taken a)) store out in (x.answer ≡ answer_to (list_in store list_slot) a) × (held_after x ≡ Some a)
+      go true e = rw (t, e) (refl, ap Some (assignment-eq (list_in store list_slot) a e))
       go false e =
-          rw (t, e, le-ltb a.layout_epoch (list_in store list_slot).layout_epoch h) (refl, ap some (held-list a store packable ready.large))
+          rw (t, e, le-ltb a.layout_epoch (list_in store list_slot).layout_epoch h) (refl, ap Some (held-list a store packable ready.large))
 
   -- behind the push
-  unregistered-holds : (out : List ℕ) → r.registered ≡ false → floor_fault a.layout_epoch r.epoch_floor ≡ none
+  unregistered-holds : (out : List ℕ) → r.registered ≡ false → floor_fault a.layout_epoch r.epoch_floor ≡ None
       → r.queue_count < max_queue → queue_end (queue_in store r.queue_count) + size_entry a ≤ length store
       → let x = effect_of (update_content now (taken a)) store out in
-      (x.answer ≡ Unchanged) × (queue_in x.store x.next.queue_count ≡ queue_in store r.queue_count ++ (a ∷ []))
+      (x.answer ≡ Ok Unchanged) × (queue_in x.store x.next.queue_count ≡ queue_in store r.queue_count ++ (a ∷ []))
   unfolding update_content update_unregistered view
   unregistered-holds out t f few room =
       let n : ℕ = r.queue_count in
@@ -208,7 +208,7 @@ module _ (parent message : List ℕ) (a : ConsumerAssignment) (reads : Reads par
   abbrev based : List ℕ
   based = write_one (to_slot baseline_slot a) store
 
-  registers : floor_fault a.layout_epoch r.epoch_floor ≡ none → stale_fault a (replayable now) ≡ none
+  registers : floor_fault a.layout_epoch r.epoch_floor ≡ None → stale_fault a (replayable now) ≡ None
       → response_assignment now a ≡ register now a last
   unfolding response_assignment view
   registers f s = rw (f, s)
@@ -225,33 +225,33 @@ module _ (parent message : List ℕ) (a : ConsumerAssignment) (reads : Reads par
   update-holds : (out : List ℕ) → min_output ≤ length out → r.consumer_id < 2 ^ 64 → r.registered ≡ true
       → (list_in store list_slot).layout_epoch ≤ a.layout_epoch
       → let x = update_outcome r store (update_message r.consumer_id message) incarnation out in
-      (x.answer ≡ answer_to (list_in store list_slot) a) × (held_after x ≡ some a)
+      (x.answer ≡ answer_to (list_in store list_slot) a) × (held_after x ≡ Some a)
   unfolding update_outcome
   update-holds out enough consumer t h = rw (update-is (length out) enough consumer) (registered-holds out t h)
 
   push-holds : (out : List ℕ) → min_output ≤ length out → r.consumer_id < 2 ^ 64 → r.registered ≡ false
-      → floor_fault a.layout_epoch r.epoch_floor ≡ none → r.queue_count < max_queue
+      → floor_fault a.layout_epoch r.epoch_floor ≡ None → r.queue_count < max_queue
       → queue_end (queue_in store r.queue_count) + size_entry a ≤ length store
       → let x = update_outcome r store (update_message r.consumer_id message) incarnation out in
-      (x.answer ≡ Unchanged) × (queue_in x.store x.next.queue_count ≡ queue_in store r.queue_count ++ (a ∷ []))
+      (x.answer ≡ Ok Unchanged) × (queue_in x.store x.next.queue_count ≡ queue_in store r.queue_count ++ (a ∷ []))
   unfolding update_outcome
   push-holds out enough consumer t f few room = rw (update-is (length out) enough consumer) (unregistered-holds out t f few room)
 
-  response-holds : (request : ℕ) (out : List ℕ) → request < 2 ^ 64 → floor_fault a.layout_epoch r.epoch_floor ≡ none
-      → stale_fault a (replayable now) ≡ none
+  response-holds : (request : ℕ) (out : List ℕ) → request < 2 ^ 64 → floor_fault a.layout_epoch r.epoch_floor ≡ None
+      → stale_fault a (replayable now) ≡ None
       → let x = response_outcome r store (response_message request message) incarnation out in
-      (x.answer ≡ Accepted) × (list_in x.store baseline_slot ≡ a) × (held_after x ≡ some last)
+      (x.answer ≡ Ok Accepted) × (list_in x.store baseline_slot ≡ a) × (held_after x ≡ Some last)
   unfolding response_outcome
   response-holds request out q f g =
-      let x = register-holds out in rw (response-is request q, registers f g) (refl, x.0, ap some x.1)
+      let x = register-holds out in rw (response-is request q, registers f g) (refl, x.0, ap Some x.1)
 
-  alone-holds : (request : ℕ) (out : List ℕ) → request < 2 ^ 64 → floor_fault a.layout_epoch r.epoch_floor ≡ none
+  alone-holds : (request : ℕ) (out : List ℕ) → request < 2 ^ 64 → floor_fault a.layout_epoch r.epoch_floor ≡ None
       → replayable now ≡ []
-      → let x = response_outcome r store (response_message request message) incarnation out in (x.answer ≡ Accepted) × (held_after x ≡ some a)
+      → let x = response_outcome r store (response_message request message) incarnation out in (x.answer ≡ Ok Accepted) × (held_after x ≡ Some a)
   unfolding stale_fault last_list
   alone-holds request out q f g =
       let y = response-holds request out q f (ap (stale_fault a) g) in
-      (y.0, y.2 ∙ ap (λ (l : List ConsumerAssignment). some (last_list a l)) g)
+      (y.0, y.2 ∙ ap (λ (l : List ConsumerAssignment). Some (last_list a l)) g)
 
 pub written_held : WrittenHeld
 written_held s parent o n b short e =

@@ -7,7 +7,6 @@ use export_record::{Record, SessionReply};
 use export_reply::Reply;
 use log_calls::{CallName, Line, Question};
 use log_text::{decimal, labelled, newline, space, text};
-use output::WriteAnswer;
 use std::io;
 use std::io::Write;
 
@@ -180,14 +179,14 @@ fn run_call<W: Write>(
 fn run_save<W: Write>(to: &mut W, run: Run, store: &[u8], kept: &mut [u8]) -> io::Result<Run> {
     let record = run.record;
     match session_saved::save(export_record::record_of(record), store, kept) {
-        WriteAnswer::Written(n) => {
+        Ok(n) => {
             labelled(to, b"saved ", n as u64)?;
             newline(to)?;
             let mut next = run;
             next.kept = n;
             Ok(counted(next, false))
         }
-        WriteAnswer::Refused(x) => {
+        Err(x) => {
             log_text::refused(to, x)?;
             newline(to)?;
             Ok(counted(run, true))

@@ -9,8 +9,6 @@
 ghost use Rattle.std.specs.Prelude.{◌≡◌, length};
 
 use key_for_hash::TestKey;
-use key_in_segment::KeyAnswer;
-use key_lookup::SegmentAnswer;
 use log_text::{decimal, four_bytes, hex8, labelled, text};
 use std::io;
 use std::io::{BufWriter, Write};
@@ -33,9 +31,9 @@ fn segment<W: Write>(to: &mut W, line: &[u8]) -> io::Result<()> {
     let mut assignment = log_lines::buffer();
     let n = log_lines::bytes_at(line, 2, &mut assignment);
     match key_lookup::segment_for_key(&key[..k], &assignment[..n]) {
-        SegmentAnswer::Segment(id) => decimal(to, id.0),
-        SegmentAnswer::NoSegment => text(to, b"none"),
-        SegmentAnswer::Refused(x) => labelled(to, b"refused ", refusal::number(x) as u64),
+        Ok(Some(id)) => decimal(to, id.0),
+        Ok(None) => text(to, b"none"),
+        Err(x) => labelled(to, b"refused ", refusal::number(x) as u64),
     }
 }
 
@@ -57,9 +55,9 @@ fn key_in<W: Write>(to: &mut W, line: &[u8]) -> io::Result<()> {
     let n = log_lines::bytes_at(line, 1, &mut assignment);
     let id = SegmentId(log_lines::number_at(line, 2));
     match key_in_segment::key_in_segment(&assignment[..n], id) {
-        KeyAnswer::Key(k) => show_key(to, k),
-        KeyAnswer::NoKey => text(to, b"none"),
-        KeyAnswer::Refused(x) => labelled(to, b"refused ", refusal::number(x) as u64),
+        Ok(Some(k)) => show_key(to, k),
+        Ok(None) => text(to, b"none"),
+        Err(x) => labelled(to, b"refused ", refusal::number(x) as u64),
     }
 }
 

@@ -5,16 +5,14 @@ ghost use Rattle.packed.specs.Assignment.{starts_assignment};
 use crate::buffers::FILL;
 use crate::output_vectors::written;
 use crate::print;
-use packed::Packed;
-use packed_delta::DeltaRead;
 use std::io;
 use std::io::Write;
 
 // delta BYTES: how many ids it loses and how many records it gains
 fn delta<W: Write>(to: &mut W, bytes: &[u8]) -> io::Result<()> {
     match packed_delta::read_delta(bytes) {
-        DeltaRead::Delta(lost, gained) => print::pair(to, lost as u64, gained as u64),
-        DeltaRead::Malformed => print::malformed(to),
+        Some((lost, gained)) => print::pair(to, lost as u64, gained as u64),
+        None => print::malformed(to),
     }
 }
 
@@ -22,8 +20,8 @@ fn is_packed(s: &[u8]) -> bool
     ensures { result ≡ true → starts_assignment s.now ≡ true }
 {
     match packed::read_whole(s) {
-        Packed::Assignment(_, _) => true,
-        Packed::Malformed => false,
+        Some((_, _)) => true,
+        None => false,
     }
 }
 

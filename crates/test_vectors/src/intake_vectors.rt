@@ -1,39 +1,44 @@
 // Assignments of messages taken in.
 use crate::buffers::{FILL, filled};
 use crate::{buffers, print};
-use intake::Intake;
 use log_text::{newline, text};
 use packed::SLOT;
+use refusal::Refusal;
 use std::io;
 use std::io::Write;
 
 // The assignment of an update: field 2.
-fn of_update(message: &[u8], parent: &[u8], b: &mut [u8; SLOT]) -> Intake {
+fn of_update(message: &[u8], parent: &[u8], b: &mut [u8; SLOT]) -> Result<usize, Refusal> {
     let head = wire_readers::read_update(message);
     intake::take_in(message, 2, parent, head.layout_epoch, b)
 }
 
 // The assignment of a response: field 4.
-fn of_response(message: &[u8], parent: &[u8], b: &mut [u8; SLOT]) -> Intake {
+fn of_response(message: &[u8], parent: &[u8], b: &mut [u8; SLOT]) -> Result<usize, Refusal> {
     let head = wire_readers::read_response(message);
     intake::take_in(message, 4, parent, head.layout_epoch, b)
 }
 
-fn take_in(field: u64, parent: &[u8], message: &[u8], b: &mut [u8; SLOT]) -> Intake {
+fn take_in(
+    field: u64,
+    parent: &[u8],
+    message: &[u8],
+    b: &mut [u8; SLOT],
+) -> Result<usize, Refusal> {
     if field == 2 {
         return of_update(message, parent, b);
     }
     of_response(message, parent, b)
 }
 
-fn answer<W: Write>(to: &mut W, r: Intake, b: &[u8; SLOT]) -> io::Result<()> {
+fn answer<W: Write>(to: &mut W, r: Result<usize, Refusal>, b: &[u8; SLOT]) -> io::Result<()> {
     match r {
-        Intake::Taken(size) => {
+        Ok(size) => {
             text(to, b"taken")?;
             print::bytes(to, buffers::front(b, size))?;
             newline(to)
         }
-        Intake::Refused(x) => print::refused(to, x),
+        Err(x) => print::refused(to, x),
     }
 }
 

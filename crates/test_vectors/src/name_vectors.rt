@@ -1,24 +1,23 @@
 // Names of segments built and read, and the parents of names.
 use crate::{buffers, print};
 use log_text::{attached, decimal, newline, text};
-use name_source::SourceAnswer;
-use name_topic::NameAnswer;
+use refusal::Refusal;
 use std::io;
 use std::io::Write;
 use topic_types::SegmentId;
 
-fn answer<W: Write>(to: &mut W, r: NameAnswer, out: &[u8]) -> io::Result<()> {
+fn answer<W: Write>(to: &mut W, r: Result<usize, Refusal>, out: &[u8]) -> io::Result<()> {
     match r {
-        NameAnswer::Written(n) => {
+        Ok(n) => {
             text(to, buffers::front(out, n))?;
             newline(to)
         }
-        NameAnswer::Refused(x) => print::refused(to, x),
+        Err(x) => print::refused(to, x),
     }
 }
 
 // build ROOM PARENT START END ID: the output has ROOM bytes, 256 at most
-fn build(line: &[u8], parent: &[u8], out: &mut [u8]) -> NameAnswer {
+fn build(line: &[u8], parent: &[u8], out: &mut [u8]) -> Result<usize, Refusal> {
     let start = log_lines::number32_at(line, 3);
     let end = log_lines::number32_at(line, 4);
     let id = SegmentId(log_lines::number_at(line, 5));
@@ -41,13 +40,13 @@ fn written<W: Write>(to: &mut W, is_build: bool, line: &[u8], b: &[u8]) -> io::R
 // source ID NAME
 fn source<W: Write>(to: &mut W, line: &[u8], name: &[u8]) -> io::Result<()> {
     match name_source::segment_source(SegmentId(log_lines::number_at(line, 1)), name) {
-        SourceAnswer::Source(s) => {
+        Ok(s) => {
             decimal(to, s.segment_id.0)?;
             attached(to, s.key_range.start as u64)?;
             attached(to, s.key_range.end as u64)?;
             newline(to)
         }
-        SourceAnswer::Refused(x) => print::refused(to, x),
+        Err(x) => print::refused(to, x),
     }
 }
 

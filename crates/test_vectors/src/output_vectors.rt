@@ -2,13 +2,12 @@
 use crate::buffers::{FILL, filled};
 use crate::{buffers, print};
 use log_text::labelled;
-use output::WriteAnswer;
 use refusal::Refusal;
 use std::io;
 use std::io::Write;
 
 // apply ASSIGNMENT DELTA, join DELTA DELTA, to_pb ASSIGNMENT PARENT
-fn call(place: usize, a: &[u8], b: &[u8], out: &mut [u8]) -> WriteAnswer {
+fn call(place: usize, a: &[u8], b: &[u8], out: &mut [u8]) -> Result<usize, Refusal> {
     match place {
         0 => packed_apply::apply(a, b, out),
         1 => packed_join::join(a, b, out),
@@ -38,8 +37,8 @@ pub fn run<W: Write>(to: &mut W, name: &[u8], line: &[u8], a: &[u8], b: &[u8]) -
     let mut out = filled(FILL);
     let room = log_lines::number_at(line, 3) as usize;
     match call(place, a, b, buffers::front_mut(&mut out, room)) {
-        WriteAnswer::Written(len) => written(to, &out, len)?,
-        WriteAnswer::Refused(x) => unwritten(to, x, &out)?,
+        Ok(len) => written(to, &out, len)?,
+        Err(x) => unwritten(to, x, &out)?,
     }
     Ok(true)
 }

@@ -1,14 +1,13 @@
 // Packed assignments read: alone, and at the front of a slot.
 use crate::print;
-use packed::Packed;
 use std::io;
 use std::io::Write;
 
 // The size and the count of segments.
-fn answer<W: Write>(to: &mut W, r: Packed) -> io::Result<()> {
+fn answer<W: Write>(to: &mut W, r: Option<(usize, usize)>) -> io::Result<()> {
     match r {
-        Packed::Assignment(size, count) => print::pair(to, size as u64, count as u64),
-        Packed::Malformed => print::malformed(to),
+        Some((size, count)) => print::pair(to, size as u64, count as u64),
+        None => print::malformed(to),
     }
 }
 

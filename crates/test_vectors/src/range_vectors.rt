@@ -3,8 +3,8 @@ ghost use Rattle.std.specs.Prelude.{◌≤◌};
 ghost use Rattle.ranges_marks.specs.Marks.{row_size};
 
 use crate::print;
-use ranges_calls::{LengthAnswer, TestAnswer};
 use ranges_marks::ROW;
+use refusal::Refusal;
 use std::io;
 use std::io::Write;
 use topic_types::KeyRange;
@@ -15,15 +15,15 @@ fn length<W: Write>(to: &mut W, line: &[u8]) -> io::Result<()> {
         log_lines::number32_at(line, 1),
         log_lines::number32_at(line, 2),
     ) {
-        LengthAnswer::Length(n) => print::number(to, n as u64),
-        LengthAnswer::Refused(x) => print::refused(to, x),
+        Ok(n) => print::number(to, n as u64),
+        Err(x) => print::refused(to, x),
     }
 }
 
-fn told<W: Write>(to: &mut W, r: TestAnswer) -> io::Result<()> {
+fn told<W: Write>(to: &mut W, r: Result<bool, Refusal>) -> io::Result<()> {
     match r {
-        TestAnswer::Answered(b) => print::yes(to, b),
-        TestAnswer::Refused(x) => print::refused(to, x),
+        Ok(b) => print::yes(to, b),
+        Err(x) => print::refused(to, x),
     }
 }
 

@@ -15,7 +15,6 @@ use log_text::{attached, labelled};
 use refusal::Refusal;
 use std::io;
 use std::io::Write;
-use watch::WatchAnswer;
 
 // What the bytes behind a set are before a call.
 fn fill_of(long: bool) -> u8 {
@@ -31,7 +30,12 @@ fn length_of(line: &[u8], long: bool, n: usize) -> usize {
     }
 }
 
-fn call(line: &[u8], buffer: &mut [u8], message: &[u8], out: &mut [u8]) -> WatchAnswer {
+fn call(
+    line: &[u8],
+    buffer: &mut [u8],
+    message: &[u8],
+    out: &mut [u8],
+) -> Result<(usize, usize), Refusal> {
     let id = log_lines::number_at(line, 1);
     let size = log_lines::number_at(line, 3) as usize;
     let used = log_lines::number_at(line, 4) as usize;
@@ -86,7 +90,7 @@ fn stayed<W: Write>(
 // Writes an answer, and whether the bytes that must stay are as they were before.
 fn told<W: Write>(
     to: &mut W,
-    r: WatchAnswer,
+    r: Result<(usize, usize), Refusal>,
     long: bool,
     message: &[u8],
     before: &[u8],
@@ -94,11 +98,11 @@ fn told<W: Write>(
     out: &[u8],
 ) -> io::Result<()> {
     match r {
-        WatchAnswer::Changed(n, m) => {
+        Ok((n, m)) => {
             changed(to, long, n, m, buffer, out)?;
             stayed(to, n, m, before, buffer, out)
         }
-        WatchAnswer::Refused(x) => {
+        Err(x) => {
             refused(to, x, watch::broker_text(message, buffer))?;
             stayed(to, 0, 0, before, buffer, out)
         }

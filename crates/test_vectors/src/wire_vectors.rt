@@ -3,9 +3,7 @@ use crate::print;
 use log_text::{newline, text};
 use std::io;
 use std::io::Write;
-use wire::Varint;
-use wire_messages::{Checked, MessageKind};
-use wire_values::Last;
+use wire_messages::MessageKind;
 
 // The messages by number, in the order of `MessageKind`.
 fn kind(n: u64) -> MessageKind {
@@ -24,24 +22,24 @@ fn kind(n: u64) -> MessageKind {
 // varint BYTES: the value and the length
 fn varint<W: Write>(to: &mut W, bytes: &[u8]) -> io::Result<()> {
     match wire::read_varint(bytes) {
-        Varint::Value(v, len) => print::pair(to, v, len as u64),
-        Varint::Broken => text(to, b"broken\n"),
+        Some((v, len)) => print::pair(to, v, len as u64),
+        None => text(to, b"broken\n"),
     }
 }
 
 // fault KIND BYTES: the first fault of a message
 fn fault<W: Write>(to: &mut W, line: &[u8], message: &[u8]) -> io::Result<()> {
     match wire_messages::first_fault(kind(log_lines::number_at(line, 1)), message) {
-        Checked::Valid => text(to, b"valid\n"),
-        Checked::Refused(x) => print::refused(to, x),
+        Ok(()) => text(to, b"valid\n"),
+        Err(x) => print::refused(to, x),
     }
 }
 
 // last FIELD BYTES: the last number of a field
 fn last<W: Write>(to: &mut W, line: &[u8], message: &[u8]) -> io::Result<()> {
     match wire_values::last_number(message, log_lines::number_at(line, 1)) {
-        Last::Found(v) => print::number(to, v),
-        Last::Absent => text(to, b"absent\n"),
+        Some(v) => print::number(to, v),
+        None => text(to, b"absent\n"),
     }
 }
 

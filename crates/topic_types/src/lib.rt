@@ -39,13 +39,6 @@ pub enum KeyRangeError {
     Reversed { start: u32, end: u32 },
 }
 
-// What `KeyRange::new` answers: the Rust's `Result<KeyRange, KeyRangeError>`.
-#[derive(Clone, Copy)]
-pub enum RangeResult {
-    Valid(KeyRange),
-    Invalid(KeyRangeError),
-}
-
 impl KeyRange {
     // The whole key space.
     pub const FULL: Self = Self {
@@ -54,19 +47,19 @@ impl KeyRange {
     };
 
     // The range from start to end: the start is tested first, then the end, then their order.
-    pub fn new(start: u32, end: u32) -> RangeResult
+    pub fn new(start: u32, end: u32) -> Result<KeyRange, KeyRangeError>
         ensures { result ≡ new_key_range start end }
     {
         if MAX_HASH < start {
-            return RangeResult::Invalid(KeyRangeError::StartOutOfBounds { start });
+            return Err(KeyRangeError::StartOutOfBounds { start });
         }
         if MAX_HASH < end {
-            return RangeResult::Invalid(KeyRangeError::EndOutOfBounds { end });
+            return Err(KeyRangeError::EndOutOfBounds { end });
         }
         if end < start {
-            return RangeResult::Invalid(KeyRangeError::Reversed { start, end });
+            return Err(KeyRangeError::Reversed { start, end });
         }
-        RangeResult::Valid(KeyRange { start, end })
+        Ok(KeyRange { start, end })
     }
 }
 

@@ -3,6 +3,7 @@
 -- In order: a rising list of short UTF-8 topics is a set (`set-of`); what a message without a fault says of its parts (`parts-utf8`) and of
 -- its event (`event-valid`, `member-event`); the law (`leaves-of-short`, `leaves-a-set`).
 -- Assumes nothing.
+use Rattle.std.specs.Prelude.{⊤, Result, Ok, Err}
 use Prim.Native.Nat.{ℕ, ◌^◌}
 use native.Mathlib.Omega.{arith}
 use mathlib.Core.Path.{◌≡◌, refl, sym, ap, ◌∙◌, subst}
@@ -24,8 +25,6 @@ use Rattle.wire_schema.specs.declared.MessageKind.{MessageKind}
 use Rattle.wire_schema.specs.declared.MessageKind.TheVariants.{CommandWatchScalableTopicsUpdate, ScalableTopicsSnapshot, ScalableTopicsDiff}
 use Rattle.wire_schema.specs.declared.ValueKind.{ValueKind}
 use Rattle.wire_schema.specs.declared.ValueKind.TheVariants as value
-use Rattle.wire_schema.specs.declared.Checked.{Checked}
-use Rattle.wire_schema.specs.declared.Checked.TheVariants.{Valid, Refused}
 use Rattle.wire_schema.specs.Schema.{value_for, fits_wire}
 use Rattle.wire_schema.specs.FirstFault.{first, check_value, check_field, check_fields, fault_within, first_fault}
 use Rattle.wire_values.specs.Values.{parts_of, Member, absent, holds, member_behind, is_member, member_by, member_after, member_of}
@@ -37,7 +36,6 @@ use Rattle.watch_topics.proofs.SetLaws.{rising-insert_all, rising-sorted}
 use Rattle.watch_topics.proofs.EachLaws.{short-insert_all, short-parts, utf8-insert_all, utf8-filter}
 use Rattle.watch_topics.proofs.PackedLaws.{length-encode, read_back, whole_back, read_short}
 use Rattle.watch_window.specs.Lists.{kept}
-use Rattle.watch.specs.declared.WatchAnswer.TheVariants as answer
 use Rattle.watch.specs.Watch.{Change, WatchOutcome, snapshot_change, snapshot_by, diff_change, diff_by, no_event, refuse}
 use Rattle.watch.specs.Watch.{settle, by_event, for_watch, when_checked, handle_update}
 use Rattle.watch.proofs.ListLaws.{rising-kept, short-kept}
@@ -64,58 +62,58 @@ utf8-kept old removed u = utf8-filter (λ t. not (has t removed)) old u
 abbrev update : MessageKind
 update = CommandWatchScalableTopicsUpdate
 
-refused-valid : (x : Refusal) → Refused x ≡ Valid → ⊥
+refused-valid : (x : Refusal) → Err x ≡ Ok record {} → ⊥
 refused-valid x e = let z : ◌≡◌ {A = ℕ} 0 1 = cc in omega arith
 
-first-left : (a b : Checked) → first a b ≡ Valid → a ≡ Valid
-first-left Valid b e = refl
-first-left (Refused x) b e = absurd (refused-valid x e)
+first-left : (a b : Result ⊤ Refusal) → first a b ≡ Ok record {} → a ≡ Ok record {}
+first-left (Ok record {}) b e = refl
+first-left (Err x) b e = absurd (refused-valid x e)
 
-first-right : (a b : Checked) → first a b ≡ Valid → b ≡ Valid
-first-right Valid b e = e
-first-right (Refused x) b e = absurd (refused-valid x e)
+first-right : (a b : Result ⊤ Refusal) → first a b ≡ Ok record {} → b ≡ Ok record {}
+first-right (Ok record {}) b e = e
+first-right (Err x) b e = absurd (refused-valid x e)
 
-module _ (inner : MessageKind → List ℕ → Checked) where
-  value-valid : (v : ValueKind) (w : WireType) (c : Payload) → check_field inner v w c ≡ Valid → check_value inner v c ≡ Valid
+module _ (inner : MessageKind → List ℕ → Result ⊤ Refusal) where
+  value-valid : (v : ValueKind) (w : WireType) (c : Payload) → check_field inner v w c ≡ Ok record {} → check_value inner v c ≡ Ok record {}
   value-valid v w c e = go (fits_wire v w) e
     where
-      go : (a : Bool) → cond a (check_value inner v c) (Refused WrongWireType) ≡ Valid → check_value inner v c ≡ Valid
+      go : (a : Bool) → cond a (check_value inner v c) (Err WrongWireType) ≡ Ok record {} → check_value inner v c ≡ Ok record {}
       go true f = f
       go false f = absurd (refused-valid WrongWireType f)
 
-  text-valid : (l : List ℕ) → check_value inner value.Text (bytes l) ≡ Valid → is_utf8 l ≡ true
+  text-valid : (l : List ℕ) → check_value inner value.Text (bytes l) ≡ Ok record {} → is_utf8 l ≡ true
   text-valid l e = go (is_utf8 l) e
     where
-      go : (b : Bool) → cond b Valid (Refused InvalidUtf8) ≡ Valid → b ≡ true
+      go : (b : Bool) → cond b (Ok record {}) (Err InvalidUtf8) ≡ Ok record {} → b ≡ true
       go true f = refl
       go false f = absurd (refused-valid InvalidUtf8 f)
 
   module _ (k : MessageKind) where
     -- the field at the front has no fault, and neither have those behind it
     head-valid : (f : ℕ) (w : WireType) (c : Payload) (fs : List Field)
-        → check_fields inner k (field f w c ∷ fs) ≡ Valid → check_value inner (value_for k f) c ≡ Valid
+        → check_fields inner k (field f w c ∷ fs) ≡ Ok record {} → check_value inner (value_for k f) c ≡ Ok record {}
     head-valid f w c fs e = value-valid (value_for k f) w c (first-left (check_field inner (value_for k f) w c) _ e)
 
     tail-valid : (f : ℕ) (w : WireType) (c : Payload) (fs : List Field)
-        → check_fields inner k (field f w c ∷ fs) ≡ Valid → check_fields inner k fs ≡ Valid
+        → check_fields inner k (field f w c ∷ fs) ≡ Ok record {} → check_fields inner k fs ≡ Ok record {}
     tail-valid f w c fs e = first-right (check_field inner (value_for k f) w c) _ e
 
     -- a part of field n has no fault as what that field holds
     part-valid : (n : ℕ) (v : ValueKind) → value_for k n ≡ v → (f : ℕ) (w : WireType) (l : List ℕ) (fs : List Field)
-        → eqb f n ≡ true → check_fields inner k (field f w (bytes l) ∷ fs) ≡ Valid → check_value inner v (bytes l) ≡ Valid
+        → eqb f n ≡ true → check_fields inner k (field f w (bytes l) ∷ fs) ≡ Ok record {} → check_value inner v (bytes l) ≡ Ok record {}
     part-valid n v t f w l fs q e =
-        subst (λ (x : ValueKind). check_value inner x (bytes l) ≡ Valid) (ap (value_for k) (eqb-true f n q) ∙ t)
+        subst (λ (x : ValueKind). check_value inner x (bytes l) ≡ Ok record {}) (ap (value_for k) (eqb-true f n q) ∙ t)
         (head-valid f w (bytes l) fs e)
 
     -- two rows without a fault, one behind the other
-    rows-valid : (fs gs : List Field) → check_fields inner k fs ≡ Valid → check_fields inner k gs ≡ Valid → check_fields inner k (fs ++ gs) ≡ Valid
+    rows-valid : (fs gs : List Field) → check_fields inner k fs ≡ Ok record {} → check_fields inner k gs ≡ Ok record {} → check_fields inner k (fs ++ gs) ≡ Ok record {}
     rows-valid [] gs e g = g
     rows-valid (bad_key ∷ fs) gs e g = absurd (refused-valid InvalidWireFormat e)
     rows-valid (field f w c ∷ fs) gs e g =
         rw (first-left (check_field inner (value_for k f) w c) _ e) (rows-valid fs gs (tail-valid f w c fs e) g)
 
     -- the parts of a field whose values are texts
-    parts-utf8 : (n : ℕ) → value_for k n ≡ value.Text → (fs : List Field) → check_fields inner k fs ≡ Valid → all_utf8 (parts_of n fs) ≡ true
+    parts-utf8 : (n : ℕ) → value_for k n ≡ value.Text → (fs : List Field) → check_fields inner k fs ≡ Ok record {} → all_utf8 (parts_of n fs) ≡ true
     unfolding all_utf8
     parts-utf8 n t [] e = refl
     parts-utf8 n t (bad_key ∷ fs) e = absurd (refused-valid InvalidWireFormat e)
@@ -135,7 +133,7 @@ event_kind f = cond (eqb f 2) ScalableTopicsSnapshot ScalableTopicsDiff
 
 abbrev MemberValid : Member → Type 0
 MemberValid absent = Unit {0}
-MemberValid (holds f fs) = check_fields (fault_within 0) (event_kind f) fs ≡ Valid
+MemberValid (holds f fs) = check_fields (fault_within 0) (event_kind f) fs ≡ Ok record {}
 
 -- an event behind another
 behind-valid : (m : Member) (f : ℕ) (fs : List Field) → MemberValid m → MemberValid (holds f fs) → MemberValid (member_behind m f fs)
@@ -143,22 +141,22 @@ behind-valid absent f fs h g = g
 behind-valid (holds k before) f fs h g =
     choose MemberValid (eqb k f)
     (λ e. rows-valid (fault_within 0) (event_kind f) before fs
-    (subst (λ (n : ℕ). check_fields (fault_within 0) (event_kind n) before ≡ Valid) (eqb-true k f e) h) g)
+    (subst (λ (n : ℕ). check_fields (fault_within 0) (event_kind n) before ≡ Ok record {}) (eqb-true k f e) h) g)
     (λ _. g)
 
 -- the part of an event
-event-part : (f : ℕ) (w : WireType) (p : List ℕ) (fs : List Field) → check_fields (fault_within 1) update (field f w (bytes p) ∷ fs) ≡ Valid
+event-part : (f : ℕ) (w : WireType) (p : List ℕ) (fs : List Field) → check_fields (fault_within 1) update (field f w (bytes p) ∷ fs) ≡ Ok record {}
     → is_member f event_fields ≡ true → MemberValid (holds f (fields_of p))
 unfolding value_for
 event-part f w p fs q e = go (eqb f 2) refl (eqb f 3) refl e
   where
     go : (a : Bool) → eqb f 2 ≡ a → (b : Bool) → eqb f 3 ≡ b → cond a true (cond b true false) ≡ true
-        → check_fields (fault_within 0) (cond a ScalableTopicsSnapshot ScalableTopicsDiff) (fields_of p) ≡ Valid
+        → check_fields (fault_within 0) (cond a ScalableTopicsSnapshot ScalableTopicsDiff) (fields_of p) ≡ Ok record {}
     go true i b j g = part-valid (fault_within 1) update 2 (value.Message ScalableTopicsSnapshot) refl f w p fs i q
     go false i true j g = part-valid (fault_within 1) update 3 (value.Message ScalableTopicsDiff) refl f w p fs j q
     go false i false j g = absurd (false≢true g)
 
-event-valid : (m : Member) (fs : List Field) → MemberValid m → check_fields (fault_within 1) update fs ≡ Valid
+event-valid : (m : Member) (fs : List Field) → MemberValid m → check_fields (fault_within 1) update fs ≡ Ok record {}
     → MemberValid (member_after event_fields m fs)
 event-valid m [] h q = h
 event-valid m (bad_key ∷ fs) h q = absurd (refused-valid InvalidWireFormat q)
@@ -172,14 +170,14 @@ event-valid m (field f w (bytes p) ∷ fs) h q =
 
 abbrev EventValid : WireEvent → Type 0
 EventValid none = Unit {0}
-EventValid (snapshot fs) = check_fields (fault_within 0) ScalableTopicsSnapshot fs ≡ Valid
-EventValid (diff fs) = check_fields (fault_within 0) ScalableTopicsDiff fs ≡ Valid
+EventValid (snapshot fs) = check_fields (fault_within 0) ScalableTopicsSnapshot fs ≡ Ok record {}
+EventValid (diff fs) = check_fields (fault_within 0) ScalableTopicsDiff fs ≡ Ok record {}
 
 member-event : (m : Member) → MemberValid m → EventValid (event_by m)
 member-event absent h = tt
 member-event (holds f fs) h = go (eqb f 2) h
   where
-    go : (b : Bool) → check_fields (fault_within 0) (cond b ScalableTopicsSnapshot ScalableTopicsDiff) fs ≡ Valid
+    go : (b : Bool) → check_fields (fault_within 0) (cond b ScalableTopicsSnapshot ScalableTopicsDiff) fs ≡ Ok record {}
         → EventValid (cond b (snapshot fs) (diff fs))
     go true g = g
     go false g = g
@@ -196,7 +194,7 @@ diff-utf8 fs e = parts-utf8 (fault_within 0) ScalableTopicsDiff 1 refl fs e
 
 -- where the outcome is a change, the new set's bytes are a set
 abbrev Leaves : WatchOutcome → Type 0
-Leaves o = (a b : ℕ) → o.answer ≡ answer.Changed a b → is_set (take a o.buffer) ≡ true
+Leaves o = (a b : ℕ) → o.answer ≡ Ok (a, b) → is_set (take a o.buffer) ≡ true
 
 module _ (buffer out : List ℕ) where
   refused : (x : Refusal) → Leaves (refuse buffer out x)
@@ -212,7 +210,7 @@ module _ (buffer out : List ℕ) where
       (λ f. refused ResultTooLong))
       (λ e. refused SetTooLong)
     where
-      set : (a b : ℕ) → answer.Changed (size_topics c.topics) (length c.output) ≡ answer.Changed a b → all_short c.topics ≡ true
+      set : (a b : ℕ) → Ok (size_topics c.topics, length c.output) ≡ Ok (a, b) → all_short c.topics ≡ true
           → is_set (take a (put buffer 0 (encode_topics c.topics))) ≡ true
       set a b g t =
           let h : size_topics c.topics ≡ a = cc in
@@ -245,7 +243,7 @@ module _ (buffer out : List ℕ) where
     event-leaves u (diff p) h = diff-leaves p h
     event-leaves u none h = refused (no_event u.watch_id u.error)
 
-    valid-leaves : (id : ℕ) (m : List ℕ) → first_fault update m ≡ Valid → Leaves (for_watch buffer out id old (watch_update_of m))
+    valid-leaves : (id : ℕ) (m : List ℕ) → first_fault update m ≡ Ok record {} → Leaves (for_watch buffer out id old (watch_update_of m))
     unfolding first_fault for_watch watch_update_of read_event
     valid-leaves id m e =
         let u = watch_update_of m in
@@ -253,13 +251,13 @@ module _ (buffer out : List ℕ) where
         (λ _. event-leaves u u.event
         (member-event (member_of event_fields (fields_of m)) (event-valid absent (fields_of m) tt (first-left (fault_within 2 update m) _ e))))
 
-    checked-leaves : (id : ℕ) (m : List ℕ) (c : Checked) → first_fault update m ≡ c → Leaves (when_checked buffer out id old m c)
-    checked-leaves id m (Refused x) e = refused x
-    checked-leaves id m Valid e = valid-leaves id m e
+    checked-leaves : (id : ℕ) (m : List ℕ) (c : Result ⊤ Refusal) → first_fault update m ≡ c → Leaves (when_checked buffer out id old m c)
+    checked-leaves id m (Err x) e = refused x
+    checked-leaves id m (Ok record {}) e = valid-leaves id m e
 
   -- an accepted update leaves a set, where the topics before it have 16-bit lengths
   pub leaves-of-short : (id used : ℕ) (message : List ℕ) → (is_set (take used buffer) ≡ true → all_short (decode_topics (take used buffer)) ≡ true)
-      → (a b : ℕ) → (handle_update buffer out id used message).answer ≡ answer.Changed a b
+      → (a b : ℕ) → (handle_update buffer out id used message).answer ≡ Ok (a, b)
       → is_set (take a (handle_update buffer out id used message).buffer) ≡ true
   unfolding handle_update for_watch by_event settle
   leaves-of-short id used message t =
@@ -270,7 +268,7 @@ module _ (buffer out : List ℕ) where
 
   -- which they have in a buffer of bytes
   pub leaves-a-set : (id used : ℕ) (message : List ℕ) → Bytes buffer → (a b : ℕ)
-      → (handle_update buffer out id used message).answer ≡ answer.Changed a b
+      → (handle_update buffer out id used message).answer ≡ Ok (a, b)
       → is_set (take a (handle_update buffer out id used message).buffer) ≡ true
   leaves-a-set id used message b =
       leaves-of-short id used message

@@ -3,7 +3,7 @@
 -- "a lent set at the front of its buffer, its byte length given and answered ... A snapshot replaces; a diff removes, then adds." Refused in order: 30, 3, 4, 7, 6, 29, 16, 17,
 -- 31, 21; a refusal changes nothing.
 -- Assumes nothing.
-use Rattle.std.specs.Prelude.{ℕ, ◌^◌, not, ◌&&◌, List, ◌∷◌, ◌++◌, length, take, leb, ltb, eqb}
+use Rattle.std.specs.Prelude.{ℕ, ◌^◌, not, ◌&&◌, List, ◌∷◌, ◌++◌, length, take, leb, ltb, eqb, ℤ, ⊤, Option, Some, None, Result, Ok, Err}
 use Rattle.refusal.specs.declared.Refusal.{Refusal}
 use Rattle.refusal.specs.declared.Refusal.TheVariants.{MalformedSet, WatchMismatch, Broker, EmptyUpdate, SetTooLong, ResultTooLong}
 use Rattle.refusal.specs.Steps.{◌>>◌, ◌>>=◌, refuse_if, refuse_unless}
@@ -12,17 +12,12 @@ use Rattle.slice_int.specs.Put.{put}
 use Rattle.wire.specs.Fields.{Field, fields_of}
 use Rattle.wire_values.specs.Values.{parts_of, merged_fields}
 use Rattle.wire_schema.specs.declared.MessageKind.TheVariants.{CommandWatchScalableTopicsUpdate}
-use Rattle.wire_schema.specs.declared.Checked.{Checked}
 use Rattle.wire_schema.specs.FirstFault.{first_fault}
 use Rattle.wire_schema.specs.Steps.{refuse_fault}
-use Rattle.wire_readers.specs.declared.ErrorCode.{ErrorCode}
-use Rattle.wire_readers.specs.declared.ErrorCode.TheVariants.{Given, Absent}
 use Rattle.wire_readers.specs.Messages.{WireEvent, none, snapshot, diff, WireWatchUpdate, watch_update_of}
 use Rattle.watch_topics.specs.Topics.{insert_all, sorted, all_short}
 use Rattle.watch_topics.specs.Packed.{decode_topics, encode_topics, size_topics, is_set}
 use Rattle.watch_window.specs.Lists.{kept, added_of, removed_of}
-use Rattle.watch.specs.declared.WatchAnswer.{WatchAnswer}
-use Rattle.watch.specs.declared.WatchAnswer.TheVariants as answer
 
 -- ---- what an event asks for, over lists of topics
 
@@ -69,22 +64,22 @@ diff_in old p = diff_by old (merged_fields 3 (fields_of p))
 
 -- the answer, and the bytes of the set's buffer and of the output behind it
 pub record WatchOutcome : Type 0 where
-  pub answer : WatchAnswer
+  pub answer : Result (ℕ × ℕ) Refusal
   pub buffer : List ℕ
   pub out : List ℕ
 
-abbrev pub outcome : WatchAnswer → (buffer out : List ℕ) → WatchOutcome
+abbrev pub outcome : Result (ℕ × ℕ) Refusal → (buffer out : List ℕ) → WatchOutcome
 outcome answer buffer out = record { answer = answer; buffer = buffer; out = out }
 
 -- 16 where there is an error code, else 17
-abbrev pub no_event : ℕ → ErrorCode → Refusal
-no_event id (Given code) = Broker code
-no_event id Absent = EmptyUpdate id
+abbrev pub no_event : ℕ → Option ℤ → Refusal
+no_event id (Some code) = Broker code
+no_event id None = EmptyUpdate id
 
 module _ (buffer out : List ℕ) where
   -- a refusal changes nothing
   abbrev pub refuse : Refusal → WatchOutcome
-  refuse x = outcome (answer.Refused x) buffer out
+  refuse x = outcome (Err x) buffer out
 
   -- what the event asks for, where there is one
   abbrev pub take_event : (old : List (List ℕ)) → WireWatchUpdate → WireEvent → (Change → WatchOutcome) → WatchOutcome
@@ -95,7 +90,7 @@ module _ (buffer out : List ℕ) where
   -- the new set and the output are written, each from its first byte, and their lengths answered
   abbrev pub done : Change → WatchOutcome
   done c =
-      outcome (answer.Changed (size_topics c.topics) (length c.output)) (put buffer 0 (encode_topics c.topics)) (put out 0 c.output)
+      outcome (Ok (size_topics c.topics, length c.output)) (put buffer 0 (encode_topics c.topics)) (put out 0 c.output)
 
   -- 31: "new set longer than its buffer, or any topic in the message's event above 65,535 bytes"; 21: "result longer than the output ... or an added list of 2^32 bytes
   -- or more"
@@ -128,7 +123,7 @@ module _ (buffer out : List ℕ) where
     refuse_if refuse (not (eqb u.watch_id id)) (WatchMismatch u.watch_id id)
     by_event old u u.event
 
-  abbrev pub when_checked : (id : ℕ) (old : List (List ℕ)) (message : List ℕ) → Checked → WatchOutcome
+  abbrev pub when_checked : (id : ℕ) (old : List (List ℕ)) (message : List ℕ) → Result ⊤ Refusal → WatchOutcome
   when_checked id old message c = do
     refuse_fault refuse c
     for_watch id old (watch_update_of message)

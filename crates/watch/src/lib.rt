@@ -17,16 +17,8 @@ use refusal::Refusal;
 use watch_chunks::Lists;
 use watch_lists::FEW_BYTES;
 use watch_window::{Listing, Sorted};
-use wire_readers::{ErrorCode, Event};
-use wire_schema::{Checked, MessageKind};
-
-#[derive(Clone, Copy)]
-pub enum WatchAnswer {
-    // The byte lengths of the new set and of the output.
-    Changed(usize, usize),
-    // Nothing was changed.
-    Refused(Refusal),
-}
+use wire_readers::Event;
+use wire_schema::MessageKind;
 
 // Whether there is room for a diff's set and output.
 #[derive(Clone, Copy)]
@@ -78,14 +70,14 @@ fn fits_whole(n: usize, set: usize, out: usize) -> bool
     if n <= set { n < out } else { false }
 }
 
-fn snapshot(buffer: &mut [u8], p: &[u8], out: &mut [u8]) -> WatchAnswer
+fn snapshot(buffer: &mut [u8], p: &[u8], out: &mut [u8]) -> Result<(usize, usize), Refusal>
     ensures { (result ≡ (settle buffer.old out.old (snapshot_in p.now)).answer)
         × (buffer.new ≡ (settle buffer.old out.old (snapshot_in p.now)).buffer)
         × (out.new ≡ (settle buffer.old out.old (snapshot_in p.now)).out) }
 {
     let s = watch_lists::survey(p, 2, 1);
     if !s.short {
-        return WatchAnswer::Refused(Refusal::SetTooLong);
+        return Err(Refusal::SetTooLong);
     }
     let order = Sorted {
         added: s.rises,
@@ -93,17 +85,17 @@ fn snapshot(buffer: &mut [u8], p: &[u8], out: &mut [u8]) -> WatchAnswer
     };
     if fits_whole(p.len(), buffer.len(), out.len()) {
         let n = write_snapshot(buffer, order, p, out);
-        return WatchAnswer::Changed(n, 1 + n);
+        return Ok((n, 1 + n));
     }
     let z = watch_lists::measure(Listing::Added, order, &p[..0], p, 2);
     if buffer.len() < z {
-        return WatchAnswer::Refused(Refusal::SetTooLong);
+        return Err(Refusal::SetTooLong);
     }
     if out.len() <= z {
-        return WatchAnswer::Refused(Refusal::ResultTooLong);
+        return Err(Refusal::ResultTooLong);
     }
     write_snapshot(buffer, order, p, out);
-    WatchAnswer::Changed(z, 1 + z)
+    Ok((z, 1 + z))
 }
 
 // The output of a diff, which fits. Answers the lengths of its lists.
@@ -160,7 +152,7 @@ fn write_diff(
     order: Sorted,
     p: &[u8],
     out: &mut [u8],
-) -> WatchAnswer
+) -> Result<(usize, usize), Refusal>
     requires used_in_bounds { used ≤ length buffer.old }
     requires buffer_value { is_set (take used buffer.old) ≡ true }
     requires sorted_of { SortedOf 3 p.now order }
@@ -174,7 +166,7 @@ fn write_diff(
     let at = 5 + l.added;
     let end = at + l.removed;
     let n = write_set(buffer, used, &out[5..at], &out[at..end]);
-    WatchAnswer::Changed(n, end)
+    Ok((n, end))
 }
 
 // Both lists of a diff, packed, are together no longer than the n bytes of the message: so the set and the output fit without being measured.
@@ -214,7 +206,7 @@ fn room_for(set: &[u8], order: Sorted, p: &[u8], room: usize, out: usize) -> Roo
     Room::Fits
 }
 
-fn diff(buffer: &mut [u8], used: usize, p: &[u8], out: &mut [u8]) -> WatchAnswer
+fn diff(buffer: &mut [u8], used: usize, p: &[u8], out: &mut [u8]) -> Result<(usize, usize), Refusal>
     requires used_in_bounds { used ≤ length buffer.old }
     requires buffer_value { is_set (take used buffer.old) ≡ true }
     ensures { (result ≡ (settle buffer.old out.old (diff_in (decode_topics (take used buffer.old)) p.now)).answer)
@@ -223,11 +215,11 @@ fn diff(buffer: &mut [u8], used: usize, p: &[u8], out: &mut [u8]) -> WatchAnswer
 {
     let a = watch_lists::survey(p, 3, 1);
     if !a.short {
-        return WatchAnswer::Refused(Refusal::SetTooLong);
+        return Err(Refusal::SetTooLong);
     }
     let r = watch_lists::survey(p, 3, 2);
     if !r.short {
-        return WatchAnswer::Refused(Refusal::SetTooLong);
+        return Err(Refusal::SetTooLong);
     }
     let order = Sorted {
         added: a.rises,
@@ -236,22 +228,28 @@ fn diff(buffer: &mut [u8], used: usize, p: &[u8], out: &mut [u8]) -> WatchAnswer
     let room = buffer.len();
     match room_for(&buffer[..used], order, p, room, out.len()) {
         Room::Fits => write_diff(buffer, used, order, p, out),
-        Room::NoSet => WatchAnswer::Refused(Refusal::SetTooLong),
-        Room::NoOutput => WatchAnswer::Refused(Refusal::ResultTooLong),
+        Room::NoSet => Err(Refusal::SetTooLong),
+        Room::NoOutput => Err(Refusal::ResultTooLong),
     }
 }
 
-fn no_event(id: u64, error: ErrorCode) -> Refusal
+fn no_event(id: u64, error: Option<i32>) -> Refusal
     ensures { result ≡ no_event id error }
 {
     match error {
-        ErrorCode::Given(code) => Refusal::Broker { code },
-        ErrorCode::Absent => Refusal::EmptyUpdate { watch_id: id },
+        Some(code) => Refusal::Broker { code },
+        None => Refusal::EmptyUpdate { watch_id: id },
     }
 }
 
 // The update of a message without a fault.
-fn update(id: u64, buffer: &mut [u8], used: usize, message: &[u8], out: &mut [u8]) -> WatchAnswer
+fn update(
+    id: u64,
+    buffer: &mut [u8],
+    used: usize,
+    message: &[u8],
+    out: &mut [u8],
+) -> Result<(usize, usize), Refusal>
     requires used_in_bounds { used ≤ length buffer.old }
     requires buffer_value { is_set (take used buffer.old) ≡ true }
     ensures { (result ≡ (for_watch buffer.old out.old id (decode_topics (take used buffer.old)) (watch_update_of message.now)).answer)
@@ -261,15 +259,15 @@ fn update(id: u64, buffer: &mut [u8], used: usize, message: &[u8], out: &mut [u8
     let head = wire_readers::read_watch_update(message);
     let got = head.watch_id;
     if got != id {
-        return WatchAnswer::Refused(Refusal::WatchMismatch { got, expected: id });
+        return Err(Refusal::WatchMismatch { got, expected: id });
     }
     let event = head.event;
     match event {
-        Event::Snapshot(base) => snapshot(buffer, &message[base..], out),
-        Event::Diff(base) => diff(buffer, used, &message[base..], out),
-        Event::Nothing => {
+        Some(Event::Snapshot(base)) => snapshot(buffer, &message[base..], out),
+        Some(Event::Diff(base)) => diff(buffer, used, &message[base..], out),
+        None => {
             let error = head.error;
-            WatchAnswer::Refused(no_event(got, error))
+            Err(no_event(got, error))
         }
     }
 }
@@ -281,19 +279,19 @@ pub fn handle_update(
     used: usize,
     message: &[u8],
     out: &mut [u8],
-) -> WatchAnswer
+) -> Result<(usize, usize), Refusal>
     ensures { outcome result buffer.new out.new
         ≡ handle_update buffer.old out.old watch_id used message.now }
 {
     if buffer.len() < used {
-        return WatchAnswer::Refused(Refusal::MalformedSet);
+        return Err(Refusal::MalformedSet);
     }
     if !watch_topics::is_set(&buffer[..used]) {
-        return WatchAnswer::Refused(Refusal::MalformedSet);
+        return Err(Refusal::MalformedSet);
     }
     match wire_messages::first_fault(MessageKind::CommandWatchScalableTopicsUpdate, message) {
-        Checked::Refused(x) => WatchAnswer::Refused(x),
-        Checked::Valid => update(watch_id, buffer, used, message, out),
+        Err(x) => Err(x),
+        Ok(()) => update(watch_id, buffer, used, message, out),
     }
 }
 

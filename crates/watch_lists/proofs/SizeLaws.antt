@@ -3,6 +3,7 @@
 -- In order: the parts of two fields (`parts-size`); a sorted and a filtered list (`size-insert_all`, `size-filter`); a list of the diff, and both
 -- (`list-size`, `lists-size`).
 -- Assumes nothing.
+use Rattle.std.specs.Prelude.{Option, Some, None}
 use Prim.Native.Nat.{ℕ, zero, suc, ◌+◌, ◌-◌, ◌≤◌, ◌<◌}
 use native.Mathlib.Decide.{dec_le}
 use native.Mathlib.Omega.{arith}
@@ -14,12 +15,8 @@ use lib.Dec.{eqb, leb}
 use borrow.Author.Tests.{eqb-true}
 use Rattle.wire.specs.declared.WireType.{WireType}
 use Rattle.wire.specs.declared.WireType.TheVariants as type
-use Rattle.wire.specs.declared.Key.{Key}
-use Rattle.wire.specs.declared.Key.TheVariants as key
 use Rattle.wire.specs.declared.Body.{Body}
 use Rattle.wire.specs.declared.Body.TheVariants as body
-use Rattle.wire.specs.declared.varint.Varint.{Varint}
-use Rattle.wire.specs.declared.varint.Varint.TheVariants as varint
 use Rattle.wire.specs.Varints.{varint_of}
 use Rattle.wire.specs.Field.{key_read, body_of, number_from, number_body, fixed_of, part_from, part_of}
 use Rattle.wire.specs.Fields.{Field, fields_of}
@@ -42,25 +39,25 @@ use Rattle.watch_window.specs.Lists.{is_listed, named_in, field_of, list_of}
 -- ---- the parts of two fields
 
 -- a part's length takes a byte
-abbrev Ahead : Body → Type 0
-Ahead (body.Part n len) = 1 ≤ n
-Ahead (body.Number v n) = Unit {0}
-Ahead (body.Fixed n) = Unit {0}
-Ahead body.Broken = Unit {0}
+abbrev Ahead : Option Body → Type 0
+Ahead (Some (body.Part n len)) = 1 ≤ n
+Ahead (Some (body.Number v n)) = Unit {0}
+Ahead (Some (body.Fixed n)) = Unit {0}
+Ahead None = Unit {0}
 
-ahead-number : (r : Varint) → Ahead (number_from r)
-ahead-number (varint.Value v n) = tt
-ahead-number varint.Broken = tt
+ahead-number : (r : Option (ℕ × ℕ)) → Ahead (number_from r)
+ahead-number (Some (v, n)) = tt
+ahead-number None = tt
 
 ahead-fixed : (n : ℕ) (l : List ℕ) → Ahead (fixed_of n l)
 unfolding fixed_of
 ahead-fixed n l = choose Ahead (leb n (length l)) (λ e. tt) (λ e. tt)
 
-ahead-part : (m : ℕ) (r : Varint) → VarintSized m r → Ahead (part_from r m)
-ahead-part m (varint.Value v n) h = choose Ahead (leb (n + v) m) (λ e. h.0) (λ e. tt)
-ahead-part m varint.Broken h = tt
+ahead-part : (m : ℕ) (r : Option (ℕ × ℕ)) → VarintSized m r → Ahead (part_from r m)
+ahead-part m (Some (v, n)) h = choose Ahead (leb (n + v) m) (λ e. h.0) (λ e. tt)
+ahead-part m None h = tt
 
-ahead : (w : WireType) (l : List ℕ) (b : Body) → body_of w l ≡ b → Ahead b
+ahead : (w : WireType) (l : List ℕ) (b : Option Body) → body_of w l ≡ b → Ahead b
 unfolding number_body part_of
 ahead type.Varint l b e = subst Ahead e (ahead-number (varint_of l))
 ahead type.I64 l b e = subst Ahead e (ahead-fixed 8 l)
@@ -82,30 +79,30 @@ counted false false k t xs ys n h = omega arith
 
 module _ (f g : ℕ) (other : f ≡ g → ⊥) (l : List ℕ) (h : 0 < length l)
     (ih : (n : ℕ) → 1 ≤ n → Within f g (length l - n) (fields_of (drop n l))) where
-  by-body : (k : ℕ) (w : WireType) (n : ℕ) → key_read l ≡ key.Found k w n → (b : Body) → body_of w (drop n l) ≡ b
+  by-body : (k : ℕ) (w : WireType) (n : ℕ) → key_read l ≡ Some (k, w, n) → (b : Option Body) → body_of w (drop n l) ≡ b
       → Within f g (length l) (fields_of l)
   unfolding size_topics
-  by-body k w n e (body.Number v m) q =
+  by-body k w n e (Some (body.Number v m)) q =
       let s = key-size l k w n e in
       rw (fields-number l h k w n e v m q) (omega (arith, ih (n + m) (omega arith)))
-  by-body k w n e (body.Fixed m) q =
+  by-body k w n e (Some (body.Fixed m)) q =
       let s = key-size l k w n e in
       rw (fields-fixed l h k w n e m q) (omega (arith, ih (n + m) (omega arith)))
-  by-body k w n e body.Broken q = rw (fields-cut l h k w n e q) (omega arith)
-  by-body k w n e (body.Part m len) q =
+  by-body k w n e None q = rw (fields-cut l h k w n e q) (omega arith)
+  by-body k w n e (Some (body.Part m len)) q =
       let s = key-size l k w n e in
-      let r : m + len ≤ length l - n = body-size-after w l n (body.Part m len) q in
-      let a : 1 ≤ m = ahead w (drop n l) (body.Part m len) q in
+      let r : m + len ≤ length l - n = body-size-after w l n (Some (body.Part m len)) q in
+      let a : 1 ≤ m = ahead w (drop n l) (Some (body.Part m len)) q in
       let i = ih (n + (m + len)) (omega arith) in
       let t = take len (drop m (drop n l)) in
       let tl : length t ≤ len = rw length-take (omega arith) in
       let c : eqb k f ≡ true → eqb k g ≡ true → ⊥ = λ x y. other (sym (eqb-true k f x) ∙ eqb-true k g y) in
       rw (fields-part l h k w n e m len q) (counted (eqb k f) (eqb k g) c t _ _ (length l) (omega (arith, i)))
 
-  by_key : (k : Key) → key_read l ≡ k → Within f g (length l) (fields_of l)
+  by_key : (k : Option (ℕ × WireType × ℕ)) → key_read l ≡ k → Within f g (length l) (fields_of l)
   unfolding size_topics
-  by_key key.Broken e = rw (fields-bad-key l h e) (omega arith)
-  by_key (key.Found k w n) e = by-body k w n e (body_of w (drop n l)) refl
+  by_key None e = rw (fields-bad-key l h e) (omega arith)
+  by_key (Some (k, w, n)) e = by-body k w n e (body_of w (drop n l)) refl
 
 parts_within : (n f g : ℕ) → (f ≡ g → ⊥) → (l : List ℕ) → length l ≤ n → Within f g (length l) (fields_of l)
 unfolding size_topics

@@ -10,7 +10,7 @@ ghost use Rattle.std.specs.Prelude.{◌≡◌};
 ghost use Rattle.wire.specs.Field.{key_read, fixed_of, part_of, body_of};
 
 use varint::read_long_varint;
-pub use varint::{Varint, read_short_varint, read_varint};
+pub use varint::{read_short_varint, read_varint};
 
 // The largest key, 2^32 - 1.
 const MAX_KEY: u64 = 4294967295;
@@ -29,13 +29,6 @@ pub enum WireType {
 }
 
 #[derive(Clone, Copy)]
-pub enum Key {
-    // The field's number and type, and the key's length in bytes.
-    Found(u64, WireType, usize),
-    Broken,
-}
-
-#[derive(Clone, Copy)]
 pub enum Body {
     // A number, and its length in bytes.
     Number(u64, usize),
@@ -43,65 +36,64 @@ pub enum Body {
     Fixed(usize),
     // Where a part starts, and its length in bytes.
     Part(usize, usize),
-    Broken,
 }
 
 // The key at the front of the part.
-pub fn read_key(s: &[u8]) -> Key
+pub fn read_key(s: &[u8]) -> Option<(u64, WireType, usize)>
     ensures { result ≡ key_read s.now }
 {
-    let Varint::Value(v, n) = read_varint(s) else {
-        return Key::Broken;
+    let Some((v, n)) = read_varint(s) else {
+        return None;
     };
     if MAX_KEY < v {
-        return Key::Broken;
+        return None;
     }
     let number = v / 8;
     if number == 0 {
-        return Key::Broken;
+        return None;
     }
     let t = v % 8;
     match t {
-        0 => Key::Found(number, WireType::Varint, n),
-        1 => Key::Found(number, WireType::I64, n),
-        2 => Key::Found(number, WireType::Len, n),
-        5 => Key::Found(number, WireType::I32, n),
-        _ => Key::Broken,
+        0 => Some((number, WireType::Varint, n)),
+        1 => Some((number, WireType::I64, n)),
+        2 => Some((number, WireType::Len, n)),
+        5 => Some((number, WireType::I32, n)),
+        _ => None,
     }
 }
 
-fn fixed(s: &[u8], n: usize) -> Body
+fn fixed(s: &[u8], n: usize) -> Option<Body>
     ensures { result ≡ fixed_of n s.now }
 {
     if n <= s.len() {
-        Body::Fixed(n)
+        Some(Body::Fixed(n))
     } else {
-        Body::Broken
+        None
     }
 }
 
-fn part(s: &[u8]) -> Body
+fn part(s: &[u8]) -> Option<Body>
     ensures { result ≡ part_of s.now }
 {
-    let Varint::Value(v, n) = read_varint(s) else {
-        return Body::Broken;
+    let Some((v, n)) = read_varint(s) else {
+        return None;
     };
     let len = v as usize;
     if len <= s.len() - n {
-        Body::Part(n, len)
+        Some(Body::Part(n, len))
     } else {
-        Body::Broken
+        None
     }
 }
 
 // What stands behind a key of that type. A number mostly has more than one byte, so it is read byte by byte.
-pub fn read_body(w: WireType, s: &[u8]) -> Body
+pub fn read_body(w: WireType, s: &[u8]) -> Option<Body>
     ensures { result ≡ body_of w s.now }
 {
     match w {
         WireType::Varint => match read_long_varint(s) {
-            Varint::Value(v, n) => Body::Number(v, n),
-            Varint::Broken => Body::Broken,
+            Some((v, n)) => Some(Body::Number(v, n)),
+            None => None,
         },
         WireType::I64 => fixed(s, 8),
         WireType::Len => part(s),

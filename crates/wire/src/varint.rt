@@ -7,16 +7,9 @@ ghost use Rattle.wire.specs.Varints.{varint_of};
 
 use slice::wide;
 
-#[derive(Clone, Copy)]
-pub enum Varint {
-    // The value, and the varint's length in bytes.
-    Value(u64, usize),
-    Broken,
-}
-
 // The varint at the front of the part, byte by byte. With two callers it stays a function of its own, and the one test of `read_varint` is
 // inlined where keys and lengths are read.
-pub fn read_long_varint(s: &[u8]) -> Varint
+pub fn read_long_varint(s: &[u8]) -> Option<(u64, usize)>
     ensures { result ≡ varint_of s.now }
 {
     let mut value: u64 = 0;
@@ -24,65 +17,65 @@ pub fn read_long_varint(s: &[u8]) -> Varint
     let mut i: usize = 0;
     while i < 9 {
         if s.len() <= i {
-            return Varint::Broken;
+            return None;
         }
         let b = wide(s[i]);
         if b < 128 {
-            return Varint::Value(value + weight * b, i + 1);
+            return Some((value + weight * b, i + 1));
         }
         value = value + weight * (b - 128);
         weight = weight * 128;
         i = i + 1;
     }
     if s.len() <= 9 {
-        return Varint::Broken;
+        return None;
     }
     let last = wide(s[9]);
     if last <= 1 {
-        Varint::Value(value + weight * last, 10)
+        Some((value + weight * last, 10))
     } else {
-        Varint::Broken
+        None
     }
 }
 
 // The same, for a varint that mostly has one byte, as keys and lengths do: one test tells it.
-pub fn read_varint(s: &[u8]) -> Varint
+pub fn read_varint(s: &[u8]) -> Option<(u64, usize)>
     ensures { result ≡ varint_of s.now }
 {
     if s.len() == 0 {
-        return Varint::Broken;
+        return None;
     }
     let b = wide(s[0]);
     if b < 128 {
-        return Varint::Value(b, 1);
+        return Some((b, 1));
     }
     read_long_varint(s)
 }
 
 // The same, for a varint that mostly has one, two or three bytes, as the numbers of a message do: a test for each byte tells it.
-pub fn read_short_varint(s: &[u8]) -> Varint
+pub fn read_short_varint(s: &[u8]) -> Option<(u64, usize)>
     ensures { result ≡ varint_of s.now }
 {
     if s.len() == 0 {
-        return Varint::Broken;
+        return None;
     }
     let a = wide(s[0]);
     if a < 128 {
-        return Varint::Value(a, 1);
+        return Some((a, 1));
     }
     if s.len() == 1 {
-        return Varint::Broken;
+        return None;
     }
     let b = wide(s[1]);
     if b < 128 {
-        return Varint::Value(a - 128 + 128 * b, 2);
+        return Some((a - 128 + 128 * b, 2));
     }
     if s.len() == 2 {
-        return Varint::Broken;
+        return None;
     }
     let c = wide(s[2]);
     if c < 128 {
-        return Varint::Value(a - 128 + 128 * (b - 128) + 16384 * c, 3);
+        return Some((a - 128 + 128 * (b - 128) + 16384 * c, 3));
     }
     read_long_varint(s)
 }

@@ -3,6 +3,7 @@
 -- the command from its first fault and its type (`command-broken`, `command-untyped`, `command-typed`); its reply (`parts-reply`,
 -- `other-reply`).
 -- Assumes nothing.
+use Rattle.std.specs.Prelude.{Some, None, Result, Ok, Err}
 use Prim.Native.Nat.{ℕ, ◌+◌, ◌-◌, ◌^◌, ◌≤◌, ◌<◌}
 use native.Mathlib.Nat.{add-sub_cancel_left}
 use native.Mathlib.Omega.{arith}
@@ -19,10 +20,8 @@ use borrow.Author.Tests.{ne_eqb}
 use Rattle.refusal.specs.declared.Refusal.{Refusal}
 use Rattle.refusal.specs.declared.Refusal.TheVariants.{MissingField}
 use Rattle.wire.specs.Fields.{fields_of}
-use Rattle.wire_values.specs.declared.Last.TheVariants as last
 use Rattle.wire_values.specs.Values.{numbers_of, present, last_of, or_zero, number_in}
 use Rattle.wire_values.specs.Integers.{int32_of}
-use Rattle.wire_schema.specs.declared.Checked.TheVariants.{Valid, Refused}
 use Rattle.export_reply.specs.declared.Reply.{Reply}
 use Rattle.export_reply.specs.Replies.{no, word_of, word_at, reply_with, taken_reply}
 use Rattle.wire_required.proofs.LookLaws.{number-found}
@@ -84,19 +83,19 @@ module _ (l : List ℕ) where
 -- ---- the type
 
 module _ (t : ℤ) (l : List ℕ) where
-  pub by-response : t ≡ pos 74 → answer_for command.Response (pos 74) (message_in 74 l) ≡ command_by t l
+  pub by-response : t ≡ pos 74 → answer_for (λ x y z. Ok (command.Response x y z)) (pos 74) (message_in 74 l) ≡ command_by t l
   unfolding command_by
   by-response e = rw e
 
-  pub by-update : t ≡ pos 75 → answer_for command.Update (pos 75) (message_in 75 l) ≡ command_by t l
+  pub by-update : t ≡ pos 75 → answer_for (λ x y z. Ok (command.Update x y z)) (pos 75) (message_in 75 l) ≡ command_by t l
   unfolding command_by
   by-update e = rw e
 
-  pub by-watch : t ≡ pos 77 → answer_for command.Watch (pos 77) (message_in 77 l) ≡ command_by t l
+  pub by-watch : t ≡ pos 77 → answer_for (λ x y z. Ok (command.Watch x y z)) (pos 77) (message_in 77 l) ≡ command_by t l
   unfolding command_by
   by-watch e = rw e
 
-pub by-other : (t : ℤ) (l : List ℕ) → (t ≡ pos 74 → ⊥) → (t ≡ pos 75 → ⊥) → (t ≡ pos 77 → ⊥) → command.Other t ≡ command_by t l
+pub by-other : (t : ℤ) (l : List ℕ) → (t ≡ pos 74 → ⊥) → (t ≡ pos 75 → ⊥) → (t ≡ pos 77 → ⊥) → Ok (command.Other t) ≡ command_by t l
 unfolding command_by
 by-other (negsuc t) l a b c = refl
 by-other (pos t) l a b c = rw (ne_eqb t 74 (λ e. a (ap pos e)), ne_eqb t 75 (λ e. b (ap pos e)), ne_eqb t 77 (λ e. c (ap pos e)))
@@ -104,23 +103,23 @@ by-other (pos t) l a b c = rw (ne_eqb t 74 (λ e. a (ap pos e)), ne_eqb t 75 (λ
 -- ---- the command
 
 module _ (l : List ℕ) where
-  pub command-broken : (x : Refusal) → shell_fields (fields_of l) ≡ Refused x → command.Refused x ≡ command_of l
+  pub command-broken : (x : Refusal) → shell_fields (fields_of l) ≡ Err x → Err x ≡ command_of l
   unfolding command_of shell_fault
   command-broken x e = rw e
 
-  module _ (e : shell_fields (fields_of l) ≡ Valid) where
-    pub command-typed : (v : ℕ) → last.Found v ≡ last_of (numbers_of 1 (fields_of l))
+  module _ (e : shell_fields (fields_of l) ≡ Ok record {}) where
+    pub command-typed : (v : ℕ) → Some v ≡ last_of (numbers_of 1 (fields_of l))
         → (t : ℤ) → t ≡ int32_of v → command_by t l ≡ command_of l
     unfolding command_of shell_fault
     command-typed v g t h =
-        let there : present (numbers_of 1 (fields_of l)) ≡ true = sym (number-found 1 l (last.Found v) g) in
+        let there : present (numbers_of 1 (fields_of l)) ≡ true = sym (number-found 1 l (Some v) g) in
         let is : number_in 1 (fields_of l) ≡ v = sym (ap or_zero g) in
         rw (e, there, is, h)
 
-    pub command-untyped : last.Absent ≡ last_of (numbers_of 1 (fields_of l)) → command.Refused MissingField ≡ command_of l
+    pub command-untyped : None ≡ last_of (numbers_of 1 (fields_of l)) → Err MissingField ≡ command_of l
     unfolding command_of shell_fault
     command-untyped g =
-        let missing : present (numbers_of 1 (fields_of l)) ≡ false = sym (number-found 1 l last.Absent g) in
+        let missing : present (numbers_of 1 (fields_of l)) ≡ false = sym (number-found 1 l None g) in
         rw (e, missing)
 
 -- ---- in numbers
@@ -129,11 +128,11 @@ module _ (l : List ℕ) where
 word_back : {w : ℕ} (t : ℤ) → mag t < 2 ^ 31 → w ≡ word_of (to_z w32 (of_z w32 t)) → w ≡ word_of t
 word_back t h e = e ∙ ap word_of (to_z-of_z {w = w32} (record { sfits = h }))
 
-module _ {x : Command} {r : Reply} {t : ℤ} {w : ℕ} (h : mag t < 2 ^ 31) (g : w ≡ word_of (to_z w32 (of_z w32 t))) where
-  pub parts-reply : (k : ℕ) → x ≡ command.Parts t k → r ≡ taken_reply no (pos w ∷ pos k ∷ []) → r ≡ command_reply x
+module _ {x : Result Command Refusal} {r : Reply} {t : ℤ} {w : ℕ} (h : mag t < 2 ^ 31) (g : w ≡ word_of (to_z w32 (of_z w32 t))) where
+  pub parts-reply : (k : ℕ) → x ≡ Ok (command.Parts t k) → r ≡ taken_reply no (pos w ∷ pos k ∷ []) → r ≡ command_reply x
   unfolding command_reply reply_with word_at word_of
   parts-reply k e d = d ∙ ap (λ (v : ℕ). taken_reply no (pos v ∷ pos k ∷ [])) (word_back t h g) ∙ sym (ap command_reply e)
 
-  pub other-reply : x ≡ command.Other t → r ≡ taken_reply no (pos w ∷ []) → r ≡ command_reply x
+  pub other-reply : x ≡ Ok (command.Other t) → r ≡ taken_reply no (pos w ∷ []) → r ≡ command_reply x
   unfolding command_reply reply_with word_at word_of
   other-reply e d = d ∙ ap (λ (v : ℕ). taken_reply no (pos v ∷ [])) (word_back t h g) ∙ sym (ap command_reply e)

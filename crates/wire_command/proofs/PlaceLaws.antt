@@ -4,6 +4,7 @@
 -- (`places_from`); the places lie inside the message and are those of the parts (`places-inside`, `places-are-parts`); what a walk has found (`Held`),
 -- and its cases.
 -- Assumes nothing.
+use Rattle.std.specs.Prelude.{Option, Some, None}
 use Prim.Native.Nat.{ℕ, zero, suc, ◌+◌, ◌-◌, ◌≤◌, ◌<◌}
 use native.Mathlib.Omega.{arith}
 use mathlib.Core.Path.{◌≡◌, refl, sym, ap, ◌∙◌}
@@ -28,7 +29,7 @@ pub places-nil : (n at : ℕ) (l : List ℕ) → length l ≤ 0 → places_after
 places-nil n at [] h = refl
 places-nil n at (b ∷ l) h = absurd (let z : ⊥ = omega arith in z)
 
-pub places-broken : (n at : ℕ) (l : List ℕ) → front_of l ≡ front.Broken → places_after n at 0 l ≡ []
+pub places-broken : (n at : ℕ) (l : List ℕ) → front_of l ≡ None → places_after n at 0 l ≡ []
 places-broken n at [] e = refl
 places-broken n at (b ∷ l) e = rw e
 
@@ -37,7 +38,7 @@ places-skip n at zero l = let e : at + zero ≡ at = omega arith in rw e
 places-skip n at (suc k) [] = refl
 places-skip n at (suc k) (b ∷ l) = let e : suc at + k ≡ at + suc k = omega arith in places-skip n (suc at) k l ∙ rw e
 
-pub places-step : (n at : ℕ) (l : List ℕ) → 0 < length l → (q : Front) → front_of l ≡ q → (size : ℕ) → size_of q ≡ size → 1 ≤ size
+pub places-step : (n at : ℕ) (l : List ℕ) → 0 < length l → (q : Option Front) → front_of l ≡ q → (size : ℕ) → size_of q ≡ size → 1 ≤ size
     → places_after n at 0 l ≡ places_by n at q (places_after n (at + size) 0 (drop size l))
 places-step n at [] h q e size z g = absurd (let z : ⊥ = omega arith in z)
 places-step n at (b ∷ l) h q e (suc m) z g =
@@ -54,7 +55,7 @@ places_from n s at = places_after n at 0 (drop at s)
 pub places-end : (n : ℕ) (s : List ℕ) (at : ℕ) → length s ≤ at → places_from n s at ≡ []
 places-end n s at h = places-nil n at (drop at s) (omega (arith, length-drop at s))
 
-module _ (n : ℕ) (s : List ℕ) (at : ℕ) (h : at < length s) (q : Front) (e : front_of (take (length s - at) (drop at s)) ≡ q) where
+module _ (n : ℕ) (s : List ℕ) (at : ℕ) (h : at < length s) (q : Option Front) (e : front_of (take (length s - at) (drop at s)) ≡ q) where
   front-here : front_of (drop at s) ≡ q
   front-here = ap front_of (sym (rest s at)) ∙ e
 
@@ -75,18 +76,18 @@ record Are (n : ℕ) (s : List ℕ) (at : ℕ) (ps : List Place) : Type 0 where
   parts : map (part_at s) ps ≡ parts_from n s at
 
 module _ (n : ℕ) (s : List ℕ) where
-  by_front : (at : ℕ) → at < length s → (q : Front) → front_of (take (length s - at) (drop at s)) ≡ q → FrontAt s at q
+  by_front : (at : ℕ) → at < length s → (q : Option Front) → front_of (take (length s - at) (drop at s)) ≡ q → FrontAt s at q
       → ((to : ℕ) → at < to → Are n s to (places_from n s to)) → Are n s at (places_from n s at)
-  by_front at h (front.Number f v size) e d on =
+  by_front at h (Some (front.Number f v size)) e d on =
       let a = on (at + size) (omega (arith, d.ahead)) in
-      rw (places-at n s at h (front.Number f v size) e size refl d.ahead) (record { inside = a.inside; parts = a.parts ∙ sym (d.parts n) })
-  by_front at h (front.Fixed size) e d on =
+      rw (places-at n s at h (Some (front.Number f v size)) e size refl d.ahead) (record { inside = a.inside; parts = a.parts ∙ sym (d.parts n) })
+  by_front at h (Some (front.Fixed size)) e d on =
       let a = on (at + size) (omega (arith, d.ahead)) in
-      rw (places-at n s at h (front.Fixed size) e size refl d.ahead) (record { inside = a.inside; parts = a.parts ∙ sym (d.parts n) })
-  by_front at h (front.Part f start len) e d on =
+      rw (places-at n s at h (Some (front.Fixed size)) e size refl d.ahead) (record { inside = a.inside; parts = a.parts ∙ sym (d.parts n) })
+  by_front at h (Some (front.Part f start len)) e d on =
       let b : at + (start + len) ≡ at + start + len = omega arith in
       let a = on (at + start + len) (omega (arith, d.ahead)) in
-      rw (places-at n s at h (front.Part f start len) e (start + len) refl (omega (arith, d.ahead)), b) (go (eqb f n) a (d.parts n))
+      rw (places-at n s at h (Some (front.Part f start len)) e (start + len) refl (omega (arith, d.ahead)), b) (go (eqb f n) a (d.parts n))
     where
       go : (t : Bool) → Are n s (at + start + len) (places_from n s (at + start + len))
           → parts_from n s at ≡ cond t (take len (drop (at + start) s) ∷ parts_from n s (at + start + len)) (parts_from n s (at + start + len))
@@ -98,7 +99,7 @@ module _ (n : ℕ) (s : List ℕ) where
             parts = ap (λ (l : List (List ℕ)). take len (drop (at + start) s) ∷ l) a.parts ∙ sym g;
           }
       go false a g = record { inside = a.inside; parts = a.parts ∙ sym g }
-  by_front at h front.Broken e d on =
+  by_front at h None e d on =
       rw (places-broken n at (drop at s) (ap front_of (sym (rest s at)) ∙ e)) (record { inside = tt; parts = sym (d.parts n) })
 
   are-end : (at : ℕ) → length s ≤ at → Are n s at (places_from n s at)
@@ -144,7 +145,7 @@ module _ {n : ℕ} {s : List ℕ} {at count start len : ℕ} (i : Held n s at co
   pub held-end : length s ≤ at → found count start len ≡ found_in (places_of n s)
   held-end h = sym (i.is ∙ ap (found_after (found count start len)) (places-end n s at h))
 
-  module _ (h : at < length s) (q : Front) (e : front_of (take (length s - at) (drop at s)) ≡ q) where
+  module _ (h : at < length s) (q : Option Front) (e : front_of (take (length s - at) (drop at s)) ≡ q) where
     -- a field of another kind
     pub held_on : (size : ℕ) → size_of q ≡ size → 1 ≤ size
         → places_by n at q (places_from n s (at + size)) ≡ places_from n s (at + size)
@@ -155,18 +156,18 @@ module _ {n : ℕ} {s : List ℕ} {at count start len : ℕ} (i : Held n s at co
           is = i.is ∙ ap (found_after (found count start len)) (places-at n s at h q e size z g ∙ d);
         }
 
-  pub held-broken : front_of (take (length s - at) (drop at s)) ≡ front.Broken → found count start len ≡ found_in (places_of n s)
+  pub held-broken : front_of (take (length s - at) (drop at s)) ≡ None → found count start len ≡ found_in (places_of n s)
   held-broken e =
       sym
       (i.is ∙ ap (found_after (found count start len)) (places-broken n at (drop at s) (ap front_of (sym (rest s at)) ∙ e)))
 
-  module _ (h : at < length s) (f from size : ℕ) (e : front_of (take (length s - at) (drop at s)) ≡ front.Part f from size) (g : 1 ≤ from) where
+  module _ (h : at < length s) (f from size : ℕ) (e : front_of (take (length s - at) (drop at s)) ≡ Some (front.Part f from size)) (g : 1 ≤ from) where
     to : at + (from + size) ≡ at + from + size
     to = omega arith
 
     stepped : places_from n s at
         ≡ cond (eqb f n) (record { start = at + from; length = size } ∷ places_from n s (at + from + size)) (places_from n s (at + from + size))
-    stepped = places-at n s at h (front.Part f from size) e (from + size) refl (omega (arith, g)) ∙ rw to
+    stepped = places-at n s at h (Some (front.Part f from size)) e (from + size) refl (omega (arith, g)) ∙ rw to
 
     pub held-part : f ≡ n → Held n s (at + from + size) (count + 1) (at + from) size
     held-part d =

@@ -3,6 +3,7 @@
 -- In order: what a field holds, by its number (`shell-known`, `shell-unknown`), never a text (`part-unread`); the field at the front, by its key
 -- (`step-misfit`, `step_fits`, `body-room`); what a step says of the fields from a place on (`StepAt`, `step-at`); the end (`shell-end`).
 -- Assumes nothing.
+use Rattle.std.specs.Prelude.{Option, Some, None, Result, Ok, Err}
 use Prim.Native.Nat.{ℕ, ◌+◌, ◌-◌, ◌≤◌, ◌<◌}
 use native.Mathlib.Omega.{arith}
 use mathlib.Core.Path.{◌≡◌, refl, sym, ap, subst, ◌∙◌}
@@ -15,8 +16,6 @@ use borrow.Author.Tests.{ne_eqb}
 use Rattle.slice.proofs.PartLaws.{rest}
 use Rattle.refusal.specs.declared.Refusal.TheVariants.{WrongWireType}
 use Rattle.wire.specs.declared.WireType.{WireType}
-use Rattle.wire.specs.declared.Key.{Key}
-use Rattle.wire.specs.declared.Key.TheVariants as key
 use Rattle.wire.specs.declared.Body.{Body}
 use Rattle.wire.specs.declared.Body.TheVariants as body
 use Rattle.wire.specs.Field.{key_read, body_of}
@@ -27,14 +26,12 @@ use Rattle.wire_schema.specs.declared.MessageKind.TheVariants.{CommandScalableTo
 use Rattle.wire_schema.specs.declared.MessageKind.TheVariants.{CommandWatchScalableTopicsUpdate}
 use Rattle.wire_schema.specs.declared.ValueKind.{ValueKind}
 use Rattle.wire_schema.specs.declared.ValueKind.TheVariants as value
-use Rattle.wire_schema.specs.declared.Checked.TheVariants.{Valid, Refused}
 use Rattle.wire_schema.specs.Schema.{value_in, fits_wire}
 use Rattle.wire_schema.specs.FirstFault.{check_value}
 use Rattle.wire_schema.proofs.SchemaLaws.{Others}
-use Rattle.wire_command.specs.declared.Step.{Step}
-use Rattle.wire_command.specs.declared.Step.TheVariants as step
 use Rattle.wire_command.specs.Shell.{base_command, shell_value, unread, shell_fields}
 use Rattle.wire_command.specs.Steps.{step_after, step_by}
+use Rattle.refusal.specs.declared.Refusal.{Refusal}
 
 -- ---- what a field holds
 
@@ -47,7 +44,7 @@ unfolding shell_value
 shell-unknown f h = rw (ne_eqb f 1 h.0.0.0.1, ne_eqb f 74 h.0.0.1, ne_eqb f 75 h.0.1, ne_eqb f 77 h.1)
 
 -- a part is taken as it is
-pub part-unread : (f : ℕ) (l : List ℕ) → check_value unread (shell_value f) (bytes l) ≡ Valid
+pub part-unread : (f : ℕ) (l : List ℕ) → check_value unread (shell_value f) (bytes l) ≡ Ok record {}
 unfolding shell_value
 part-unread f l = go (eqb f 1) (eqb f 74) (eqb f 75) (eqb f 77)
   where
@@ -57,7 +54,7 @@ part-unread f l = go (eqb f 1) (eqb f 74) (eqb f 75) (eqb f 77)
         (cond b (value.Message CommandScalableTopicSubscribeResponse)
         (cond c (value.Message CommandScalableTopicAssignmentUpdate)
         (cond d (value.Message CommandWatchScalableTopicsUpdate) value.Any)))) (bytes l)
-        ≡ Valid
+        ≡ Ok record {}
     go true b c d = refl
     go false true c d = refl
     go false false true d = refl
@@ -66,66 +63,66 @@ part-unread f l = go (eqb f 1) (eqb f 74) (eqb f 75) (eqb f 77)
 
 -- ---- the field at the front
 
-module _ (l : List ℕ) (f : ℕ) (w : WireType) (n : ℕ) (e : key_read l ≡ key.Found f w n) where
-  pub step-misfit : (v : ValueKind) → v ≡ shell_value f → fits_wire v w ≡ false → step.Refused WrongWireType ≡ step_by (key_read l) l
+module _ (l : List ℕ) (f : ℕ) (w : WireType) (n : ℕ) (e : key_read l ≡ Some (f, w, n)) where
+  pub step-misfit : (v : ValueKind) → v ≡ shell_value f → fits_wire v w ≡ false → Err WrongWireType ≡ step_by (key_read l) l
   step-misfit v g h = rw (e, ← g, h)
 
   -- the body stands behind the key, as `&s[n..]`
   pub step_fits : (v : ValueKind) → v ≡ shell_value f → fits_wire v w ≡ true
-      → (b : Body) → body_of w (take (length l - n) (drop n l)) ≡ b → step_after n b ≡ step_by (key_read l) l
+      → (b : Option Body) → body_of w (take (length l - n) (drop n l)) ≡ b → step_after n b ≡ step_by (key_read l) l
   step_fits v g h b q = let d : body_of w (drop n l) ≡ b = ap (body_of w) (sym (rest l n)) ∙ q in rw (e, ← g, h, d)
 
   -- it stands inside the part
-  pub body-room : (b : Body) → body_of w (take (length l - n) (drop n l)) ≡ b → BodySized (length l - n) b
+  pub body-room : (b : Option Body) → body_of w (take (length l - n) (drop n l)) ≡ b → BodySized (length l - n) b
   body-room b q = body-size-after w l n b (ap (body_of w) (sym (rest l n)) ∙ q)
 
 -- ---- the fields from a place on
 
-abbrev pub StepAt : List ℕ → ℕ → Step → Type 0
-StepAt s at (step.Refused x) = Refused x ≡ shell_fields (fields_of (drop at s))
-StepAt s at (step.Next m) =
+abbrev pub StepAt : List ℕ → ℕ → Result ℕ Refusal → Type 0
+StepAt s at (Err x) = Err x ≡ shell_fields (fields_of (drop at s))
+StepAt s at (Ok m) =
     (1 ≤ m) × (at + m ≤ length s) × (shell_fields (fields_of (drop at s)) ≡ shell_fields (fields_of (drop (at + m) s)))
 
 module _ (s : List ℕ) (at : ℕ) (h : at < length s) where
   filled : 0 < length (drop at s)
   filled = omega (arith, length-drop at s)
 
-  module _ (f : ℕ) (w : WireType) (n : ℕ) (e : key_read (drop at s) ≡ key.Found f w n) where
-    misfits : fits_wire (shell_value f) w ≡ false → Refused WrongWireType ≡ shell_fields (fields_of (drop at s))
+  module _ (f : ℕ) (w : WireType) (n : ℕ) (e : key_read (drop at s) ≡ Some (f, w, n)) where
+    misfits : fits_wire (shell_value f) w ≡ false → Err WrongWireType ≡ shell_fields (fields_of (drop at s))
     misfits g = sym (ap shell_fields (fields-step (drop at s) filled) ∙ rw (e, g))
 
     module _ (g : fits_wire (shell_value f) w ≡ true) where
       -- a whole field, behind which the others decide
       goes_on : (m : ℕ) → m ≤ length (drop at s) - n → shell_fields (fields_of (drop at s)) ≡ shell_fields (fields_of (drop (n + m) (drop at s)))
-          → StepAt s at (step.Next (n + m))
+          → StepAt s at (Ok (n + m))
       goes_on m z q =
           let k = key-size (drop at s) f w n e in
           (omega (arith, k.0), omega (arith, k.1, length-drop at s), q ∙ rw (drop-drop (n + m) at s))
 
-      by-body : (b : Body) → body_of w (drop n (drop at s)) ≡ b → StepAt s at (step_after n b)
-      by-body (body.Number v m) q =
-          goes_on m (body-size-after w (drop at s) n (body.Number v m) q)
+      by-body : (b : Option Body) → body_of w (drop n (drop at s)) ≡ b → StepAt s at (step_after n b)
+      by-body (Some (body.Number v m)) q =
+          goes_on m (body-size-after w (drop at s) n (Some (body.Number v m)) q)
           (ap shell_fields (fields-number (drop at s) filled f w n e v m q) ∙ rw g)
-      by-body (body.Fixed m) q =
-          goes_on m (body-size-after w (drop at s) n (body.Fixed m) q)
+      by-body (Some (body.Fixed m)) q =
+          goes_on m (body-size-after w (drop at s) n (Some (body.Fixed m)) q)
           (ap shell_fields (fields-fixed (drop at s) filled f w n e m q) ∙ rw g)
-      by-body (body.Part m len) q =
-          goes_on (m + len) (body-size-after w (drop at s) n (body.Part m len) q)
+      by-body (Some (body.Part m len)) q =
+          goes_on (m + len) (body-size-after w (drop at s) n (Some (body.Part m len)) q)
           (ap shell_fields (fields-part (drop at s) filled f w n e m len q) ∙ rw (g, part-unread f (take len (drop m (drop n (drop at s))))))
-      by-body body.Broken q = sym (ap shell_fields (fields-cut (drop at s) filled f w n e q) ∙ rw g)
+      by-body None q = sym (ap shell_fields (fields-cut (drop at s) filled f w n e q) ∙ rw g)
 
     by-fit : (t : Bool) → fits_wire (shell_value f) w ≡ t
-        → StepAt s at (cond t (step_after n (body_of w (drop n (drop at s)))) (step.Refused WrongWireType))
+        → StepAt s at (cond t (step_after n (body_of w (drop n (drop at s)))) (Err WrongWireType))
     by-fit true g = by-body g (body_of w (drop n (drop at s))) refl
     by-fit false g = misfits g
 
-  by_key : (q : Key) → key_read (drop at s) ≡ q → StepAt s at (step_by q (drop at s))
-  by_key (key.Found f w n) e = by-fit f w n e (fits_wire (shell_value f) w) refl
-  by_key key.Broken e = sym (ap shell_fields (fields-bad-key (drop at s) filled e))
+  by_key : (q : Option (ℕ × WireType × ℕ)) → key_read (drop at s) ≡ q → StepAt s at (step_by q (drop at s))
+  by_key (Some (f, w, n)) e = by-fit f w n e (fits_wire (shell_value f) w) refl
+  by_key None e = sym (ap shell_fields (fields-bad-key (drop at s) filled e))
 
   -- the step of `&s[at..]`
-  pub step-at : (q : Step) → step_by (key_read (take (length s - at) (drop at s))) (take (length s - at) (drop at s)) ≡ q → StepAt s at q
+  pub step-at : (q : Result ℕ Refusal) → step_by (key_read (take (length s - at) (drop at s))) (take (length s - at) (drop at s)) ≡ q → StepAt s at q
   step-at q e = subst (StepAt s at) (ap (λ (l : List ℕ). step_by (key_read l) l) (sym (rest s at)) ∙ e) (by_key (key_read (drop at s)) refl)
 
-pub shell-end : (s : List ℕ) (at : ℕ) → length s ≤ at → Valid ≡ shell_fields (fields_of (drop at s))
+pub shell-end : (s : List ℕ) (at : ℕ) → length s ≤ at → (Ok record {}) ≡ shell_fields (fields_of (drop at s))
 shell-end s at h = sym (ap shell_fields (fields-nil (drop at s) (omega (arith, length-drop at s))))

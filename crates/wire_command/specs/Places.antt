@@ -3,7 +3,7 @@
 -- The definition goes down the bytes as `fields_of` of the crate wire does: the count is the bytes that still belong to the field before. That these
 -- are the places of the parts that `parts_of` gives is `PlacesAreParts`, proved in proofs/PlaceLaws.
 -- Assumes nothing.
-use Rattle.std.specs.Prelude.{ℕ, zero, suc, ◌+◌, ◌-◌, ◌≡◌, cond, List, [], ◌∷◌, map, take, drop, eqb}
+use Rattle.std.specs.Prelude.{ℕ, zero, suc, ◌+◌, ◌-◌, ◌≡◌, cond, List, [], ◌∷◌, map, take, drop, eqb, Option, Some, None}
 use Rattle.wire.specs.Fields.{fields_of}
 use Rattle.wire_values.specs.declared.Front.{Front}
 use Rattle.wire_values.specs.declared.Front.TheVariants as front
@@ -16,18 +16,18 @@ pub record Place : Type 0 where
   pub length : ℕ
 
 -- the length of the field at the front; 0 where it is broken
-abbrev pub size_of : Front → ℕ
-size_of (front.Number f v size) = size
-size_of (front.Part f start len) = start + len
-size_of (front.Fixed size) = size
-size_of front.Broken = 0
+abbrev pub size_of : Option Front → ℕ
+size_of (Some (front.Number f v size)) = size
+size_of (Some (front.Part f start len)) = start + len
+size_of (Some (front.Fixed size)) = size
+size_of None = 0
 
 -- the field at the place `at`, before the places behind it; a broken field is the last
-abbrev pub places_by : ℕ → ℕ → Front → List Place → List Place
-places_by n at (front.Number f v size) ps = ps
-places_by n at (front.Part f start len) ps = cond (eqb f n) (record { start = at + start; length = len } ∷ ps) ps
-places_by n at (front.Fixed size) ps = ps
-places_by n at front.Broken ps = []
+abbrev pub places_by : ℕ → ℕ → Option Front → List Place → List Place
+places_by n at (Some (front.Number f v size)) ps = ps
+places_by n at (Some (front.Part f start len)) ps = cond (eqb f n) (record { start = at + start; length = len } ∷ ps) ps
+places_by n at (Some (front.Fixed size)) ps = ps
+places_by n at None ps = []
 
 -- the list stands at the place `at`, and its first k bytes belong to a field before
 abbrev pub places_after : (n at k : ℕ) → List ℕ → List Place

@@ -5,7 +5,7 @@
 -- that stands in a field is passed over unread, since the call that it is handed to looks for its faults (specs/FirstFault of the crate schema). No
 -- field of the table holds a text, so there is no 7.
 -- Assumes nothing.
-use Rattle.std.specs.Prelude.{ℕ, cond, List, [], ◌∷◌}
+use Rattle.std.specs.Prelude.{ℕ, cond, List, [], ◌∷◌, ⊤, Result, Ok, Err}
 use Rattle.refusal.specs.declared.Refusal.TheVariants.{InvalidWireFormat, MissingField}
 use Rattle.wire.specs.Fields.{Field, bad_key, field, fields_of}
 use Rattle.wire_values.specs.Values.{numbers_of, present}
@@ -13,10 +13,9 @@ use Rattle.wire_schema.specs.declared.MessageKind.{MessageKind}
 use Rattle.wire_schema.specs.declared.MessageKind.TheVariants.{CommandScalableTopicAssignmentUpdate, CommandScalableTopicSubscribeResponse}
 use Rattle.wire_schema.specs.declared.MessageKind.TheVariants.{CommandWatchScalableTopicsUpdate}
 use Rattle.wire_schema.specs.declared.ValueKind.{ValueKind}
-use Rattle.wire_schema.specs.declared.Checked.{Checked}
-use Rattle.wire_schema.specs.declared.Checked.TheVariants.{Valid, Refused}
 use Rattle.wire_schema.specs.Schema.{required, optional, enumeration, message, SchemaField, has, value_in}
 use Rattle.wire_schema.specs.FirstFault.{first, check_field}
+use Rattle.refusal.specs.declared.Refusal.{Refusal}
 
 abbrev pub base_command : List SchemaField
 base_command =
@@ -31,19 +30,19 @@ unfoldable pub shell_value : ℕ → ValueKind
 shell_value f = value_in f base_command
 
 -- a message in a field is not looked at
-abbrev pub unread : MessageKind → List ℕ → Checked
-unread k l = Valid
+abbrev pub unread : MessageKind → List ℕ → Result ⊤ Refusal
+unread k l = Ok record {}
 
 -- 3 and 4, in byte order: "At one field the order is: its key (3), its type (4), .. then its length or value (3, or 7)"
-abbrev pub shell_fields : List Field → Checked
-shell_fields [] = Valid
-shell_fields (bad_key ∷ fs) = Refused InvalidWireFormat
+abbrev pub shell_fields : List Field → Result ⊤ Refusal
+shell_fields [] = Ok record {}
+shell_fields (bad_key ∷ fs) = Err InvalidWireFormat
 shell_fields (field f w c ∷ fs) = first (check_field unread (shell_value f) w c) (shell_fields fs)
 
 -- 6: "Required fields are looked for after merging, when the whole message has been read, so 6 comes after any 3, 4 or 7"
-abbrev pub missing_type : List Field → Checked
-missing_type fs = cond (present (numbers_of 1 fs)) Valid (Refused MissingField)
+abbrev pub missing_type : List Field → Result ⊤ Refusal
+missing_type fs = cond (present (numbers_of 1 fs)) (Ok record {}) (Err MissingField)
 
 -- the first fault of a command's shell, or none
-unfoldable pub shell_fault : List ℕ → Checked
+unfoldable pub shell_fault : List ℕ → Result ⊤ Refusal
 shell_fault l = first (shell_fields (fields_of l)) (missing_type (fields_of l))

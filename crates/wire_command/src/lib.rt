@@ -17,9 +17,9 @@ ghost use Rattle.wire_command.specs.Replies.{command_reply};
 
 use export_reply::Reply;
 use refusal::Refusal;
-use wire::{Body, Key};
-use wire_schema::{Checked, MessageKind, ValueKind};
-use wire_values::{Front, Last};
+use wire::Body;
+use wire_schema::{MessageKind, ValueKind};
+use wire_values::Front;
 
 // What a command carries.
 #[derive(Clone, Copy)]
@@ -34,7 +34,6 @@ pub enum Command {
     Parts(i32, usize),
     // Another command's type.
     Other(i32),
-    Refused(Refusal),
 }
 
 // The message of a field: where it starts, its length and the number of its field 1; or in how many parts it stands.
@@ -42,13 +41,6 @@ pub enum Command {
 pub enum Message {
     At(usize, usize, u64),
     Parts(usize),
-}
-
-// A field of a command: refused, or its length.
-#[derive(Clone, Copy)]
-pub enum Step {
-    Refused(Refusal),
-    Next(usize),
 }
 
 // The parts of a field: how many, and where the last starts and its length.
@@ -73,40 +65,40 @@ fn shell_value(f: u64) -> ValueKind
 }
 
 // The field at the front of a part of a command: its key (3), its type (4), its length or value (3).
-fn read_step(s: &[u8]) -> Step
+fn read_step(s: &[u8]) -> Result<usize, Refusal>
     ensures { result ≡ step_by (key_read s.now) s.now }
 {
-    let Key::Found(f, w, n) = wire::read_key(s) else {
-        return Step::Refused(Refusal::InvalidWireFormat);
+    let Some((f, w, n)) = wire::read_key(s) else {
+        return Err(Refusal::InvalidWireFormat);
     };
     let v = shell_value(f);
     if !wire_schema::fits_wire(v, w) {
-        return Step::Refused(Refusal::WrongWireType);
+        return Err(Refusal::WrongWireType);
     }
     match wire::read_body(w, &s[n..]) {
-        Body::Number(_, m) => Step::Next(n + m),
-        Body::Fixed(m) => Step::Next(n + m),
-        Body::Part(m, len) => Step::Next(n + (m + len)),
-        Body::Broken => Step::Refused(Refusal::InvalidWireFormat),
+        Some(Body::Number(_, m)) => Ok(n + m),
+        Some(Body::Fixed(m)) => Ok(n + m),
+        Some(Body::Part(m, len)) => Ok(n + (m + len)),
+        None => Err(Refusal::InvalidWireFormat),
     }
 }
 
 // The first 3 or 4 of a command's fields, in byte order.
-fn check_fields(s: &[u8]) -> Checked
+fn check_fields(s: &[u8]) -> Result<(), Refusal>
     ensures { result ≡ shell_fields (fields_of s.now) }
 {
     let mut at: usize = 0;
     while at < s.len() {
         match read_step(&s[at..]) {
-            Step::Refused(x) => {
-                return Checked::Refused(x);
+            Err(x) => {
+                return Err(x);
             }
-            Step::Next(m) => {
+            Ok(m) => {
                 at = at + m;
             }
         }
     }
-    Checked::Valid
+    Ok(())
 }
 
 // The parts of field n.
@@ -119,17 +111,17 @@ fn find_parts(s: &[u8], n: u64) -> Found
     let mut at: usize = 0;
     while at < s.len() {
         match wire_values::read_front(&s[at..]) {
-            Front::Broken => {
+            None => {
                 return Found {
                     count,
                     start,
                     length,
                 };
             }
-            Front::Number(_, _, size) => {
+            Some(Front::Number(_, _, size)) => {
                 at = at + size;
             }
-            Front::Part(f, from, len) => {
+            Some(Front::Part(f, from, len)) => {
                 let begin = at + from;
                 if f == n {
                     count = count + 1;
@@ -138,7 +130,7 @@ fn find_parts(s: &[u8], n: u64) -> Found
                 }
                 at = begin + len;
             }
-            Front::Fixed(size) => {
+            Some(Front::Fixed(size)) => {
                 at = at + size;
             }
         }
@@ -165,37 +157,37 @@ fn find_message(s: &[u8], n: u64) -> Message
 }
 
 // A command of the type SCALABLE_TOPIC_SUBSCRIBE_RESPONSE.
-fn response(s: &[u8]) -> Command
+fn response(s: &[u8]) -> Result<Command, Refusal>
     ensures { result ≡ answer_for Command.Response (pos 74) (message_in 74 s.now) }
 {
     match find_message(s, 74) {
-        Message::At(start, len, id) => Command::Response(start, len, id),
-        Message::Parts(k) => Command::Parts(74, k),
+        Message::At(start, len, id) => Ok(Command::Response(start, len, id)),
+        Message::Parts(k) => Ok(Command::Parts(74, k)),
     }
 }
 
 // A command of the type SCALABLE_TOPIC_ASSIGNMENT_UPDATE.
-fn update(s: &[u8]) -> Command
+fn update(s: &[u8]) -> Result<Command, Refusal>
     ensures { result ≡ answer_for Command.Update (pos 75) (message_in 75 s.now) }
 {
     match find_message(s, 75) {
-        Message::At(start, len, id) => Command::Update(start, len, id),
-        Message::Parts(k) => Command::Parts(75, k),
+        Message::At(start, len, id) => Ok(Command::Update(start, len, id)),
+        Message::Parts(k) => Ok(Command::Parts(75, k)),
     }
 }
 
 // A command of the type WATCH_SCALABLE_TOPICS_UPDATE.
-fn watch_update(s: &[u8]) -> Command
+fn watch_update(s: &[u8]) -> Result<Command, Refusal>
     ensures { result ≡ answer_for Command.Watch (pos 77) (message_in 77 s.now) }
 {
     match find_message(s, 77) {
-        Message::At(start, len, id) => Command::Watch(start, len, id),
-        Message::Parts(k) => Command::Parts(77, k),
+        Message::At(start, len, id) => Ok(Command::Watch(start, len, id)),
+        Message::Parts(k) => Ok(Command::Parts(77, k)),
     }
 }
 
 // A command of the type t.
-fn by_type(s: &[u8], t: i32) -> Command
+fn by_type(s: &[u8], t: i32) -> Result<Command, Refusal>
     ensures { result ≡ command_by t s.now }
 {
     if t == 74 {
@@ -207,19 +199,19 @@ fn by_type(s: &[u8], t: i32) -> Command
     if t == 77 {
         return watch_update(s);
     }
-    Command::Other(t)
+    Ok(Command::Other(t))
 }
 
 // What the bytes of a BaseCommand carry.
-pub fn read_command(s: &[u8]) -> Command
+pub fn read_command(s: &[u8]) -> Result<Command, Refusal>
     ensures { result ≡ command_of s.now }
 {
-    if let Checked::Refused(x) = check_fields(s) {
-        return Command::Refused(x);
+    if let Err(x) = check_fields(s) {
+        return Err(x);
     }
     match wire_values::last_number(s, 1) {
-        Last::Found(v) => by_type(s, wire_values::int32(v)),
-        Last::Absent => Command::Refused(Refusal::MissingField),
+        Some(v) => by_type(s, wire_values::int32(v)),
+        None => Err(Refusal::MissingField),
     }
 }
 
@@ -239,19 +231,19 @@ fn found_reply(t: u64, start: usize, len: usize, id: u64) -> Reply
 }
 
 // What a command carries, in numbers.
-pub fn command_reply(c: Command) -> Reply
+pub fn command_reply(c: Result<Command, Refusal>) -> Reply
     ensures { result ≡ command_reply c }
 {
     match c {
-        Command::Response(start, len, id) => found_reply(74, start, len, id),
-        Command::Update(start, len, id) => found_reply(75, start, len, id),
-        Command::Watch(start, len, id) => found_reply(77, start, len, id),
-        Command::Parts(t, k) => export_reply::two(
+        Ok(Command::Response(start, len, id)) => found_reply(74, start, len, id),
+        Ok(Command::Update(start, len, id)) => found_reply(75, start, len, id),
+        Ok(Command::Watch(start, len, id)) => found_reply(77, start, len, id),
+        Ok(Command::Parts(t, k)) => export_reply::two(
             export_reply::NO,
             export_reply::word(t),
             k as u64,
         ),
-        Command::Other(t) => export_reply::one(export_reply::NO, export_reply::word(t)),
-        Command::Refused(x) => export_reply::refused(x),
+        Ok(Command::Other(t)) => export_reply::one(export_reply::NO, export_reply::word(t)),
+        Err(x) => export_reply::refused(x),
     }
 }

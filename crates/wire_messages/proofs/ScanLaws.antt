@@ -4,6 +4,7 @@
 -- field's key (`Headed`, `head-says`), what stands behind the key (`step-says`); the whole field (`field_at`).
 -- Not here: the same of a part alone, without places (FaultLaws of the crate schema).
 -- Assumes nothing.
+use Rattle.std.specs.Prelude.{⊤, Option, Some, None, Result, Ok, Err}
 use Prim.Native.Nat.{ℕ, zero, suc, ◌+◌, ◌-◌, ◌≤◌, ◌<◌}
 use native.Mathlib.Nat.{add-sub_cancel_left}
 use native.Mathlib.Omega.{arith}
@@ -17,8 +18,6 @@ use Rattle.utf8.specs.Table.{is_utf8}
 use Rattle.refusal.specs.declared.Refusal.{Refusal}
 use Rattle.refusal.specs.declared.Refusal.TheVariants.{WrongWireType, MissingField, InvalidUtf8}
 use Rattle.wire.specs.declared.WireType.{WireType}
-use Rattle.wire.specs.declared.Key.{Key}
-use Rattle.wire.specs.declared.Key.TheVariants as key
 use Rattle.wire.specs.declared.Body.{Body}
 use Rattle.wire.specs.declared.Body.TheVariants as body
 use Rattle.wire.specs.Field.{key_read, body_of}
@@ -27,14 +26,10 @@ use Rattle.wire.proofs.FieldLaws.{key-size, body-size-after}
 use Rattle.wire_schema.specs.declared.MessageKind.{MessageKind}
 use Rattle.wire_schema.specs.declared.ValueKind.{ValueKind}
 use Rattle.wire_schema.specs.declared.ValueKind.TheVariants as value
-use Rattle.wire_schema.specs.declared.Checked.{Checked}
-use Rattle.wire_schema.specs.declared.Checked.TheVariants.{Valid, Refused}
 use Rattle.wire_schema.specs.Schema.{value_for, fits_wire, levels}
 use Rattle.wire_schema.specs.Required.{is_complete}
 use Rattle.wire_schema.specs.FirstFault.{first, check_value, fault_within, first_fault}
 use Rattle.wire_schema.proofs.FaultLaws.{fault_of, fault-end, fault-bad-key, fault-type, fault-cut, fault-number, fault-fixed, fault-part}
-use Rattle.wire_field_step.specs.declared.Head.{Head}
-use Rattle.wire_field_step.specs.declared.Head.TheVariants as head
 use Rattle.wire_field_step.specs.declared.Step.{Step}
 use Rattle.wire_field_step.specs.declared.Step.TheVariants as step
 use Rattle.wire_field_step.specs.declared.FieldStep.{FieldStep}
@@ -43,12 +38,12 @@ use Rattle.wire_field_step.specs.Steps.{field_head, part_step, value_step, field
 -- ---- the two looks at a message
 
 module _ (k : MessageKind) (l : List ℕ) (d : ℕ) (e : d ≡ levels k) where
-  pub first-refused : (x : Refusal) → fault_within d k l ≡ Refused x → Refused x ≡ first_fault k l
+  pub first-refused : (x : Refusal) → fault_within d k l ≡ Err x → Err x ≡ first_fault k l
   unfolding first_fault
   first-refused x g = rw (← e, g)
 
-  pub first-complete : fault_within d k l ≡ Valid → (b : Bool) → is_complete k (fields_of l) ≡ b
-      → cond b Valid (Refused MissingField) ≡ first_fault k l
+  pub first-complete : fault_within d k l ≡ Ok record {} → (b : Bool) → is_complete k (fields_of l) ≡ b
+      → cond b (Ok record {}) (Err MissingField) ≡ first_fault k l
   unfolding first_fault
   first-complete g b h = rw (← e, g, h)
 
@@ -66,35 +61,35 @@ scanned-start (suc d) k s h = let e : suc d - 1 ≡ d = omega arith in record { 
 -- a key at a place of s, whose field has a type that fits: its field's number, and what the reader answers
 record Headed (k : MessageKind) (s : List ℕ) (at n : ℕ) (w : WireType) (v : ValueKind) : Type 0 where
   f : ℕ
-  found : key_read (drop at s) ≡ key.Found f w n
+  found : key_read (drop at s) ≡ Some (f, w, n)
   value : v ≡ value_for k f
   fits : fits_wire (value_for k f) w ≡ true
   moved : 1 ≤ n
   inside : at + n ≤ length s
 
 module _ {depth : ℕ} {k : MessageKind} {s : List ℕ} {at : ℕ} (i : Scanned depth k s at) where
-  abbrev inner : MessageKind → List ℕ → Checked
+  abbrev inner : MessageKind → List ℕ → Result ⊤ Refusal
   inner = fault_within (depth - 1)
 
   -- ---- the end
 
-  pub end-at : length s ≤ at → Valid ≡ fault_within depth k s
+  pub end-at : length s ≤ at → (Ok record {}) ≡ fault_within depth k s
   end-at h = sym (i.stands ∙ fault-end inner k (drop at s) (omega (arith, length-drop at s)))
 
   -- ---- what an answer says
 
   -- a message that stands in a field, which ends at a place
-  abbrev pub InnerAt : ℕ → Checked → Type 0
-  InnerAt to Valid = Scanned depth k s to
-  InnerAt to (Refused x) = Refused x ≡ fault_within depth k s
+  abbrev pub InnerAt : ℕ → Result ⊤ Refusal → Type 0
+  InnerAt to (Ok record {}) = Scanned depth k s to
+  InnerAt to (Err x) = Err x ≡ fault_within depth k s
 
-  abbrev pub StepAt : ℕ → Step → Type 0
-  StepAt size (step.Refused x) = Refused x ≡ fault_within depth k s
-  StepAt size (step.Next m) = (at < at + size + m) × Scanned depth k s (at + size + m)
-  StepAt size (step.Inner j m len) =
+  abbrev pub StepAt : ℕ → Result Step Refusal → Type 0
+  StepAt size (Err x) = Err x ≡ fault_within depth k s
+  StepAt size (Ok (step.Next m)) = (at < at + size + m) × Scanned depth k s (at + size + m)
+  StepAt size (Ok (step.Inner j m len)) =
       (at < at + size + m)
       × (at + size + m + len ≤ length s)
-      × ((q : Checked) → fault_within (depth - 1) j (take (at + size + m + len - (at + size + m)) (drop (at + size + m) s)) ≡ q
+      × ((q : Result ⊤ Refusal) → fault_within (depth - 1) j (take (at + size + m + len - (at + size + m)) (drop (at + size + m) s)) ≡ q
       → InnerAt (at + size + m + len) q)
 
   pub record FieldAt (q : FieldStep) : Type 0 where
@@ -103,9 +98,9 @@ module _ {depth : ℕ} {k : MessageKind} {s : List ℕ} {at : ℕ} (i : Scanned 
 
   -- ---- a field's key
 
-  abbrev HeadAt : Head → Type 0
-  HeadAt (head.Refused x) = Refused x ≡ fault_within depth k s
-  HeadAt (head.Field n w v) = Headed k s at n w v
+  abbrev HeadAt : Result (ℕ × WireType × ValueKind) Refusal → Type 0
+  HeadAt (Err x) = Err x ≡ fault_within depth k s
+  HeadAt (Ok (n, w, v)) = Headed k s at n w v
 
   head-says : at < length s → HeadAt (field_head k (key_read (drop at s)))
   head-says h = go (key_read (drop at s)) refl
@@ -113,16 +108,16 @@ module _ {depth : ℕ} {k : MessageKind} {s : List ℕ} {at : ℕ} (i : Scanned 
       low : 0 < length (drop at s)
       low = omega (arith, length-drop at s)
 
-      by : (f : ℕ) (w : WireType) (n : ℕ) → key_read (drop at s) ≡ key.Found f w n → (t : Bool) → fits_wire (value_for k f) w ≡ t
-          → HeadAt (cond t (head.Field n w (value_for k f)) (head.Refused WrongWireType))
+      by : (f : ℕ) (w : WireType) (n : ℕ) → key_read (drop at s) ≡ Some (f, w, n) → (t : Bool) → fits_wire (value_for k f) w ≡ t
+          → HeadAt (cond t (Ok (n, w, value_for k f)) (Err WrongWireType))
       by f w n e true g =
           let z = key-size (drop at s) f w n e in
           record { f = f; found = e; value = refl; fits = g; moved = z.0; inside = omega (arith, length-drop at s) }
       by f w n e false g = sym (i.stands ∙ fault-type inner k (drop at s) low f w n e g)
 
-      go : (q : Key) → key_read (drop at s) ≡ q → HeadAt (field_head k q)
-      go (key.Found f w n) e = by f w n e (fits_wire (value_for k f) w) refl
-      go key.Broken e = sym (i.stands ∙ fault-bad-key inner k (drop at s) low e)
+      go : (q : Option (ℕ × WireType × ℕ)) → key_read (drop at s) ≡ q → HeadAt (field_head k q)
+      go (Some (f, w, n)) e = by f w n e (fits_wire (value_for k f) w) refl
+      go None e = sym (i.stands ∙ fault-bad-key inner k (drop at s) low e)
 
   module _ {n : ℕ} {w : WireType} {v : ValueKind} (h : Headed k s at n w v) where
     -- ---- what stands behind the key
@@ -141,13 +136,13 @@ module _ {depth : ℕ} {k : MessageKind} {s : List ℕ} {at : ℕ} (i : Scanned 
         let a : at + (n + m) ≡ at + n + m = omega arith in
         record { within = omega (arith, h.inside); stands = i.stands ∙ e ∙ rw (drop-drop (n + m) at s, a) }
 
-    inner-at : (m len : ℕ) → m + len ≤ length s - (at + n) → (q p : Checked) → p ≡ q
+    inner-at : (m len : ℕ) → m + len ≤ length s - (at + n) → (q p : Result ⊤ Refusal) → p ≡ q
         → fault_of inner k (drop at s) ≡ first p (fault_of inner k (drop (n + (m + len)) (drop at s)))
         → InnerAt (at + n + m + len) q
-    inner-at m len g Valid p d e =
+    inner-at m len g (Ok record {}) p d e =
         let a : at + n + (m + len) ≡ at + n + m + len = omega arith in
         subst (λ (to : ℕ). Scanned depth k s to) a (on-at (m + len) g (e ∙ rw d))
-    inner-at m len g (Refused x) p d e = sym (i.stands ∙ e ∙ rw d)
+    inner-at m len g (Err x) p d e = sym (i.stands ∙ e ∙ rw d)
 
     same : (m len : ℕ) (j : MessageKind)
         → inner j (take len (drop (at + n + m) s)) ≡ inner j (take (at + n + m + len - (at + n + m)) (drop (at + n + m) s))
@@ -163,8 +158,8 @@ module _ {depth : ℕ} {k : MessageKind} {s : List ℕ} {at : ℕ} (i : Scanned 
       where
         go : (t : Bool)
             → fault_of inner k (drop at s)
-            ≡ first (cond t Valid (Refused InvalidUtf8)) (fault_of inner k (drop (n + (m + len)) (drop at s)))
-            → StepAt n (cond t (step.Next (m + len)) (step.Refused InvalidUtf8))
+            ≡ first (cond t (Ok record {}) (Err InvalidUtf8)) (fault_of inner k (drop (n + (m + len)) (drop at s)))
+            → StepAt n (cond t (Ok (step.Next (m + len))) (Err InvalidUtf8))
         go true e = (gone (m + len), on-at (m + len) g e)
         go false e = sym (i.stands ∙ e)
     part_at (value.Message j) m len g e = (
@@ -176,35 +171,35 @@ module _ {depth : ℕ} {k : MessageKind} {s : List ℕ} {at : ℕ} (i : Scanned 
     step-says : StepAt n (value_step v (body_of w (drop (at + n) s)) (drop (at + n) s))
     step-says = go (body_of w (drop (at + n) s)) refl
       where
-        behind : (b : Body) → body_of w (drop (at + n) s) ≡ b → body_of w (drop n (drop at s)) ≡ b
+        behind : (b : Option Body) → body_of w (drop (at + n) s) ≡ b → body_of w (drop n (drop at s)) ≡ b
         behind b e = rw (drop-drop n at s) e
 
-        go : (b : Body) → body_of w (drop (at + n) s) ≡ b → StepAt n (value_step v b (drop (at + n) s))
-        go (body.Number x m) e = (
+        go : (b : Option Body) → body_of w (drop (at + n) s) ≡ b → StepAt n (value_step v b (drop (at + n) s))
+        go (Some (body.Number x m)) e = (
           gone m,
-          on-at m (body-size-after w s (at + n) (body.Number x m) e)
-              (fault-number inner k (drop at s) some h.f w n h.found h.fits x m (behind (body.Number x m) e)),
+          on-at m (body-size-after w s (at + n) (Some (body.Number x m)) e)
+              (fault-number inner k (drop at s) some h.f w n h.found h.fits x m (behind (Some (body.Number x m)) e)),
         )
-        go (body.Fixed m) e = (
+        go (Some (body.Fixed m)) e = (
           gone m,
-          on-at m (body-size-after w s (at + n) (body.Fixed m) e)
-              (fault-fixed inner k (drop at s) some h.f w n h.found h.fits m (behind (body.Fixed m) e)),
+          on-at m (body-size-after w s (at + n) (Some (body.Fixed m)) e)
+              (fault-fixed inner k (drop at s) some h.f w n h.found h.fits m (behind (Some (body.Fixed m)) e)),
         )
-        go (body.Part m len) e =
-            part_at v m len (body-size-after w s (at + n) (body.Part m len) e)
-            (fault-part inner k (drop at s) some h.f w n h.found h.fits m len (behind (body.Part m len) e)
+        go (Some (body.Part m len)) e =
+            part_at v m len (body-size-after w s (at + n) (Some (body.Part m len)) e)
+            (fault-part inner k (drop at s) some h.f w n h.found h.fits m len (behind (Some (body.Part m len)) e)
             ∙ rw (← h.value, drop-drop n at s))
-        go body.Broken e =
-            sym (i.stands ∙ fault-cut inner k (drop at s) some h.f w n h.found h.fits (behind body.Broken e))
+        go None e =
+            sym (i.stands ∙ fault-cut inner k (drop at s) some h.f w n h.found h.fits (behind None e))
 
   -- ---- the whole field
 
   field-says : at < length s → FieldAt (field_of (field_head k (key_read (drop at s))) (drop at s))
   field-says h = go (field_head k (key_read (drop at s))) (head-says h)
     where
-      go : (q : Head) → HeadAt q → FieldAt (field_of q (drop at s))
-      go (head.Refused x) e = record { inside = omega (arith, i.within); stands = e }
-      go (head.Field n w v) g = record { inside = g.inside; stands = rw (drop-drop n at s) (step-says g) }
+      go : (q : Result (ℕ × WireType × ValueKind) Refusal) → HeadAt q → FieldAt (field_of q (drop at s))
+      go (Err x) e = record { inside = omega (arith, i.within); stands = e }
+      go (Ok (n, w, v)) g = record { inside = g.inside; stands = rw (drop-drop n at s) (step-says g) }
 
   pub field_at : at < length s → (q : FieldStep)
       → q ≡ field_of (field_head k (key_read (take (length s - at) (drop at s)))) (take (length s - at) (drop at s)) → FieldAt q

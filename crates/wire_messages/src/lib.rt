@@ -10,17 +10,17 @@ ghost use Rattle.wire_schema.specs.FirstFault.{fault_within, first_fault};
 
 use refusal::Refusal;
 use wire_field_step::Step;
-pub use wire_schema::{Checked, MessageKind};
+pub use wire_schema::MessageKind;
 
 // The first 3, 4 or 7 of a message in byte order, where messages are nested at most depth deep. One in its usual form is told first: it has none.
-fn scan(depth: usize, kind: MessageKind, s: &[u8]) -> Checked
+fn scan(depth: usize, kind: MessageKind, s: &[u8]) -> Result<(), Refusal>
     ensures { result ≡ fault_within depth kind s.now }
 {
     if wire_ordered::is_ordered(kind, s) {
-        return Checked::Valid;
+        return Ok(());
     }
     if depth == 0 {
-        return Checked::Valid;
+        return Ok(());
     }
     let mut at: usize = 0;
     while at < s.len() {
@@ -28,38 +28,38 @@ fn scan(depth: usize, kind: MessageKind, s: &[u8]) -> Checked
         let step = field.step;
         at = at + field.size;
         match step {
-            Step::Refused(x) => {
-                return Checked::Refused(x);
+            Err(x) => {
+                return Err(x);
             }
-            Step::Next(m) => {
+            Ok(Step::Next(m)) => {
                 at = at + m;
             }
-            Step::Inner(k, m, len) => {
+            Ok(Step::Inner(k, m, len)) => {
                 let from = at + m;
                 at = from + len;
-                if let Checked::Refused(x) = scan(depth - 1, k, &s[from..at]) {
-                    return Checked::Refused(x);
+                if let Err(x) = scan(depth - 1, k, &s[from..at]) {
+                    return Err(x);
                 }
             }
         }
     }
-    Checked::Valid
+    Ok(())
 }
 
 // The first fault of a message, or none.
-pub fn first_fault(kind: MessageKind, s: &[u8]) -> Checked
+pub fn first_fault(kind: MessageKind, s: &[u8]) -> Result<(), Refusal>
     ensures { result ≡ first_fault kind s.now }
 {
     if wire_ordered::is_ordered_command(kind, s) {
-        return Checked::Valid;
+        return Ok(());
     }
     let depth = wire_schema::nesting(kind);
-    if let Checked::Refused(x) = scan(depth, kind, s) {
-        return Checked::Refused(x);
+    if let Err(x) = scan(depth, kind, s) {
+        return Err(x);
     }
     if wire_required::is_complete(kind, s) {
-        Checked::Valid
+        Ok(())
     } else {
-        Checked::Refused(Refusal::MissingField)
+        Err(Refusal::MissingField)
     }
 }

@@ -4,6 +4,7 @@
 -- a segment or an assignment (`segment-start`, `assignment-start`, `passed-message`), and the whole (`passed-end`); a message that holds an assignment
 -- (`carrier-ordered`); a place that is not told (`none_above`).
 -- Assumes nothing.
+use Rattle.std.specs.Prelude.{Some}
 use Prim.Native.Nat.{ℕ, zero, suc, ◌+◌, ◌-◌, ◌*◌, ◌/◌, ◌%◌, ◌≤◌, ◌<◌}
 use native.Mathlib.Nat.{add-sub_cancel_left, mul-add-div, mul-add-mod_self_left, div-eq_of_lt, mod-eq_of_lt}
 use native.Mathlib.Omega.{arith}
@@ -14,7 +15,6 @@ use lib.ListN.{length, take, drop, get_or, length-drop}
 use lib.Seq.{drop-drop, get_or-drop}
 use borrow.Author.Tests.{eq-eqb}
 use Rattle.slice.proofs.PartLaws.{rest}
-use Rattle.wire.specs.declared.varint.Varint.TheVariants as varint
 use Rattle.wire.specs.declared.WireType.TheVariants as wire
 use Rattle.wire.specs.declared.Body.TheVariants as body
 use Rattle.wire.specs.Varints.{varint_of}
@@ -42,19 +42,19 @@ module _ (f : ℕ) (s : List ℕ) (at : ℕ) (h : at < length s) (low : 0 < f) (
   key_one t g e =
       let z : at + 0 ≡ at = omega arith in
       let b : get_or (drop at s) 0 0 ≡ 8 * f + t = get_or-drop at s 0 0 ∙ ap (λ (i : ℕ). get_or s i 0) z ∙ e in
-      let v : varint_of (drop at s) ≡ varint.Value (8 * f + t) 1 =
+      let v : varint_of (drop at s) ≡ Some (8 * f + t, 1) =
       varint-one (drop at s) (omega (arith, length-drop at s)) (omega arith) ∙ rw b in
       let d : (8 * f + t) / 8 ≡ f = omega (arith, mul-add-div {m = 8} (omega arith) f t, div-eq_of_lt g) in
       let m : (8 * f + t) % 8 ≡ t = mul-add-mod_self_left 8 f t ∙ mod-eq_of_lt g in
       key-typed (drop at s) (8 * f + t) 1 v (omega arith) (λ q. omega arith) t m ∙ rw d
 
-  pub number-field : get_or s at 0 ≡ 8 * f → (v n : ℕ) → varint_of (take (length s - (at + 1)) (drop (at + 1) s)) ≡ varint.Value v n
+  pub number-field : get_or s at 0 ≡ 8 * f → (v n : ℕ) → varint_of (take (length s - (at + 1)) (drop (at + 1) s)) ≡ Some (v, n)
       → NumberIs f s at v (at + 1 + n)
   number-field e v n g =
       let k = key_one 0 (omega arith) (omega arith) in
-      let q : varint_of (drop (at + 1) s) ≡ varint.Value v n = ap varint_of (sym (rest s (at + 1))) ∙ g in
+      let q : varint_of (drop (at + 1) s) ≡ Some (v, n) = ap varint_of (sym (rest s (at + 1))) ∙ g in
       let z = varint-size (drop (at + 1) s) v n q in
-      let b : body_of wire.Varint (drop 1 (drop at s)) ≡ body.Number v n = rw (drop-drop 1 at s) (number-value (drop (at + 1) s) v n q) in
+      let b : body_of wire.Varint (drop 1 (drop at s)) ≡ Some (body.Number v n) = rw (drop-drop 1 at s) (number-value (drop (at + 1) s) v n q) in
       let a : at + (1 + n) ≡ at + 1 + n = omega arith in
       record {
         moved = omega arith;
@@ -64,13 +64,13 @@ module _ (f : ℕ) (s : List ℕ) (at : ℕ) (h : at < length s) (low : 0 < f) (
       }
 
   pub part_field : get_or s at 0 ≡ 8 * f + 2 → (n len : ℕ)
-      → body_of wire.Len (take (length s - (at + 1)) (drop (at + 1) s)) ≡ body.Part n len
+      → body_of wire.Len (take (length s - (at + 1)) (drop (at + 1) s)) ≡ Some (body.Part n len)
       → PartField f s at (at + 1 + n) (at + 1 + n + len)
   part_field e n len g =
       let k = key_one 2 (omega arith) e in
-      let q : body_of wire.Len (drop (at + 1) s) ≡ body.Part n len = ap (body_of wire.Len) (sym (rest s (at + 1))) ∙ g in
-      let z : n + len ≤ length s - (at + 1) = body-size-after wire.Len s (at + 1) (body.Part n len) q in
-      let b : body_of wire.Len (drop 1 (drop at s)) ≡ body.Part n len = rw (drop-drop 1 at s) q in
+      let q : body_of wire.Len (drop (at + 1) s) ≡ Some (body.Part n len) = ap (body_of wire.Len) (sym (rest s (at + 1))) ∙ g in
+      let z : n + len ≤ length s - (at + 1) = body-size-after wire.Len s (at + 1) (Some (body.Part n len)) q in
+      let b : body_of wire.Len (drop 1 (drop at s)) ≡ Some (body.Part n len) = rw (drop-drop 1 at s) q in
       let a : at + (1 + (n + len)) ≡ at + 1 + n + len = omega arith in
       record {
         moved = omega arith;

@@ -4,16 +4,12 @@
 --
 -- Every answer has one direction: what is told is so, and what is not told may be so all the same.
 -- Assumes nothing.
-use Rattle.std.specs.Prelude.{ℕ, suc, ◌-◌, ◌≤◌, ◌<◌, ◌≡◌, List, [], ◌∷◌, length, take, drop}
+use Rattle.std.specs.Prelude.{ℕ, suc, ◌-◌, ◌≤◌, ◌<◌, ◌≡◌, List, [], ◌∷◌, length, take, drop, Option, Some, None}
 use Rattle.wire.specs.declared.WireType.TheVariants as wire
 use Rattle.wire.specs.Fields.{number, bytes, field, fields_of}
 use Rattle.wire_values.specs.Values.{parts_of}
 use Rattle.wire_schema.specs.declared.MessageKind.{MessageKind}
 use Rattle.wire_schema.specs.declared.MessageKind.TheVariants.{ScalableConsumerAssignment}
-use Rattle.wire_ordered.specs.declared.NumberAt.{NumberAt}
-use Rattle.wire_ordered.specs.declared.NumberAt.TheVariants as number_at
-use Rattle.wire_ordered.specs.declared.Part.{Part}
-use Rattle.wire_ordered.specs.declared.Part.TheVariants.{Found, Absent}
 use Rattle.wire_schema.specs.Required.{all_complete, complete_within}
 use Rattle.wire_schema.specs.FirstFault.{check_fields, fault_within, Sound}
 
@@ -30,9 +26,9 @@ pub record NumberIs (f : ℕ) (s : List ℕ) (at v to : ℕ) : Type 0 where
   pub within : to ≤ length s
   pub fields : fields_of (drop at s) ≡ field f wire.Varint (number v) ∷ fields_of (drop to s)
 
-abbrev pub NumberAtIs : (f : ℕ) (s : List ℕ) (at : ℕ) → NumberAt → Type 0
-NumberAtIs f s at (number_at.Found v to) = NumberIs f s at v to
-NumberAtIs f s at number_at.Absent = Unit {0}
+abbrev pub NumberAtIs : (f : ℕ) (s : List ℕ) (at : ℕ) → Option (ℕ × ℕ) → Type 0
+NumberAtIs f s at (Some (v, to)) = NumberIs f s at v to
+NumberAtIs f s at None = Unit {0}
 
 -- field f stands in s from a place to another, and holds the part that starts at `from`
 pub record PartField (f : ℕ) (s : List ℕ) (at from to : ℕ) : Type 0 where
@@ -41,9 +37,9 @@ pub record PartField (f : ℕ) (s : List ℕ) (at from to : ℕ) : Type 0 where
   pub within : to ≤ length s
   pub fields : fields_of (drop at s) ≡ field f wire.Len (bytes (take (to - from) (drop from s))) ∷ fields_of (drop to s)
 
-abbrev pub PartIs : (f : ℕ) (s : List ℕ) (at : ℕ) → Part → Type 0
-PartIs f s at (Found from to) = PartField f s at from to
-PartIs f s at Absent = Unit {0}
+abbrev pub PartIs : (f : ℕ) (s : List ℕ) (at : ℕ) → Option (ℕ × ℕ) → Type 0
+PartIs f s at (Some (from, to)) = PartField f s at from to
+PartIs f s at None = Unit {0}
 
 -- the fields of a message of kind k up to a place have no fault, however deep messages may be nested: those behind it decide. Of required fields none is
 -- missing but in messages of kind j, which field f holds behind the place

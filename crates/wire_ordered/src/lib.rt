@@ -9,40 +9,24 @@ ghost use Rattle.std.specs.Prelude.{◌≡◌, true, ℕ, ◌<◌};
 ghost use Rattle.wire_schema.specs.FirstFault.{first_fault, Sound};
 ghost use Rattle.wire_ordered.specs.Ordered.{NumberField, NumberAtIs, PartIs, Passed, Carrier};
 
-use wire::{Body, Varint, WireType};
-use wire_schema::{Checked, MessageKind};
-
-// A number that a field holds.
-#[derive(Clone, Copy)]
-pub enum NumberAt {
-    // The number, and the place behind the field.
-    Found(u64, usize),
-    Absent,
-}
-
-// A part that a field holds.
-#[derive(Clone, Copy)]
-pub enum Part {
-    // Where it starts and where it ends.
-    Found(usize, usize),
-    Absent,
-}
+use wire::{Body, WireType};
+use wire_schema::MessageKind;
 
 // The number of field f at a place.
-pub fn number_at(f: u8, s: &[u8], at: usize) -> NumberAt
+pub fn number_at(f: u8, s: &[u8], at: usize) -> Option<(u64, usize)>
     requires { (0 < f) × (f < 16) }
     ensures { NumberAtIs f s.now at result }
 {
     if s.len() <= at {
-        return NumberAt::Absent;
+        return None;
     }
     if s[at] != 8 * f {
-        return NumberAt::Absent;
+        return None;
     }
     let from = at + 1;
     match wire::read_short_varint(&s[from..]) {
-        Varint::Value(v, n) => NumberAt::Found(v, from + n),
-        Varint::Broken => NumberAt::Absent,
+        Some((v, n)) => Some((v, from + n)),
+        None => None,
     }
 }
 
@@ -52,28 +36,28 @@ fn number_end(f: u8, s: &[u8], at: usize) -> usize
     ensures { 0 < result → NumberField f s.now at result }
 {
     match number_at(f, s, at) {
-        NumberAt::Found(_, to) => to,
-        NumberAt::Absent => 0,
+        Some((_, to)) => to,
+        None => 0,
     }
 }
 
 // The part of field f at a place.
-pub fn part_at(f: u8, s: &[u8], at: usize) -> Part
+pub fn part_at(f: u8, s: &[u8], at: usize) -> Option<(usize, usize)>
     requires { (0 < f) × (f < 16) }
     ensures { PartIs f s.now at result }
 {
     if s.len() <= at {
-        return Part::Absent;
+        return None;
     }
     if s[at] != 8 * f + 2 {
-        return Part::Absent;
+        return None;
     }
     let behind = at + 1;
-    let Body::Part(n, len) = wire::read_body(WireType::Len, &s[behind..]) else {
-        return Part::Absent;
+    let Some(Body::Part(n, len)) = wire::read_body(WireType::Len, &s[behind..]) else {
+        return None;
     };
     let from = behind + n;
-    Part::Found(from, from + len)
+    Some((from, from + len))
 }
 
 // Fields 1 and 2, and nothing else.
@@ -107,7 +91,7 @@ fn segment_end(s: &[u8]) -> usize
     if end == 0 {
         return 0;
     }
-    let Part::Found(from, to) = part_at(4, s, end) else {
+    let Some((from, to)) = part_at(4, s, end) else {
         return 0;
     };
     if utf8::is_utf8(&s[from..to]) { to } else { 0 }
@@ -122,7 +106,7 @@ fn ordered_segment(s: &[u8]) -> bool
         return false;
     }
     while at < s.len() {
-        let Part::Found(from, to) = part_at(5, s, at) else {
+        let Some((from, to)) = part_at(5, s, at) else {
             return false;
         };
         if !ordered_range(&s[from..to]) {
@@ -142,7 +126,7 @@ fn ordered_assignment(s: &[u8]) -> bool
         return false;
     }
     while at < s.len() {
-        let Part::Found(from, to) = part_at(2, s, at) else {
+        let Some((from, to)) = part_at(2, s, at) else {
             return false;
         };
         if !ordered_segment(&s[from..to]) {
@@ -174,7 +158,7 @@ fn ordered_carrier(s: &[u8], n: u8) -> bool
     if at == 0 {
         return false;
     }
-    let Part::Found(from, to) = part_at(n, s, at) else {
+    let Some((from, to)) = part_at(n, s, at) else {
         return false;
     };
     if to < s.len() {
@@ -185,7 +169,7 @@ fn ordered_carrier(s: &[u8], n: u8) -> bool
 
 // The message is told to be ordered: one that holds an assignment.
 pub fn is_ordered_command(kind: MessageKind, s: &[u8]) -> bool
-    ensures { result ≡ true → first_fault kind s.now ≡ Checked.Valid }
+    ensures { result ≡ true → first_fault kind s.now ≡ (Ok record {}) }
 {
     match kind {
         MessageKind::CommandScalableTopicAssignmentUpdate => ordered_carrier(s, 2),

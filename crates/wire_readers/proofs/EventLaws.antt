@@ -3,6 +3,7 @@
 -- In order: the fields of a singular message, with one field more (`merged-skip`, `merged-more`); an event by its place (`base_of`, `so_far`); one
 -- more field (`event_step`); a walk's event (`EventKept`), and its cases from `event-start` on. The event is gone over as the member of a oneof.
 -- Assumes nothing.
+use Rattle.std.specs.Prelude.{Option, Some, None}
 use Prim.Native.Nat.{ℕ, ◌+◌, ◌≤◌}
 use native.Mathlib.Omega.{arith}
 use mathlib.Core.Path.{◌≡◌, refl, sym, ap, ◌∙◌}
@@ -39,28 +40,28 @@ module _ (k : ℕ) (fs gs : List Field) where
 
 -- ---- an event by its place
 
-abbrev pub base_of : Event → ℕ
-base_of event.Nothing = 0
-base_of (event.Snapshot base) = base
-base_of (event.Diff base) = base
+abbrev pub base_of : Option Event → ℕ
+base_of None = 0
+base_of (Some (event.Snapshot base)) = base
+base_of (Some (event.Diff base)) = base
 
 -- the event of the fields from its place on
-abbrev pub so_far : Event → List Field → Member
-so_far event.Nothing fs = absent
-so_far (event.Snapshot base) fs = holds 2 (merged_fields 2 fs)
-so_far (event.Diff base) fs = holds 3 (merged_fields 3 fs)
+abbrev pub so_far : Option Event → List Field → Member
+so_far None fs = absent
+so_far (Some (event.Snapshot base)) fs = holds 2 (merged_fields 2 fs)
+so_far (Some (event.Diff base)) fs = holds 3 (merged_fields 3 fs)
 
-event-is : (m : List ℕ) (v : Event) (e : Member) → base_of v ≤ length m → so_far v (fields_of (drop (base_of v) m)) ≡ e
+event-is : (m : List ℕ) (v : Option Event) (e : Member) → base_of v ≤ length m → so_far v (fields_of (drop (base_of v) m)) ≡ e
     → EventIs m (event_by e) v
-event-is m event.Nothing e i g = ap event_by (sym g)
-event-is m (event.Snapshot base) e i g = (i, ap event_by (sym g))
-event-is m (event.Diff base) e i g = (i, ap event_by (sym g))
+event-is m None e i g = ap event_by (sym g)
+event-is m (Some (event.Snapshot base)) e i g = (i, ap event_by (sym g))
+event-is m (Some (event.Diff base)) e i g = (i, ap event_by (sym g))
 
 -- fields that hold neither a snapshot nor a diff
-far-skip : (v : Event) (fs gs : List Field) → parts_of 2 gs ≡ [] → parts_of 3 gs ≡ [] → so_far v (fs ++ gs) ≡ so_far v fs
-far-skip event.Nothing fs gs a b = refl
-far-skip (event.Snapshot base) fs gs a b = ap (holds 2) (merged-skip 2 fs gs a)
-far-skip (event.Diff base) fs gs a b = ap (holds 3) (merged-skip 3 fs gs b)
+far-skip : (v : Option Event) (fs gs : List Field) → parts_of 2 gs ≡ [] → parts_of 3 gs ≡ [] → so_far v (fs ++ gs) ≡ so_far v fs
+far-skip None fs gs a b = refl
+far-skip (Some (event.Snapshot base)) fs gs a b = ap (holds 2) (merged-skip 2 fs gs a)
+far-skip (Some (event.Diff base)) fs gs a b = ap (holds 3) (merged-skip 3 fs gs b)
 
 -- ---- one more field
 
@@ -88,18 +89,18 @@ diff-by e f p g = rw g
 
 -- ---- a walk's event
 
-pub record EventKept (m : List ℕ) (at : ℕ) (v : Event) : Type 0 where
+pub record EventKept (m : List ℕ) (at : ℕ) (v : Option Event) : Type 0 where
   pub inside : base_of v ≤ length m
   pub within : at ≤ length m
   pub seen : List Field
   pub split : fields_of (drop (base_of v) m) ≡ seen ++ fields_of (drop at m)
   pub kept : Kept event_step (member_of event_fields (fields_of m)) (so_far v seen) (fields_of (drop at m))
 
-pub event-start : (m : List ℕ) → EventKept m 0 event.Nothing
+pub event-start : (m : List ℕ) → EventKept m 0 None
 event-start m =
     record { inside = omega arith; within = omega arith; seen = []; split = refl; kept = record { is = event-fold absent (fields_of m) } }
 
-module _ {m : List ℕ} {at : ℕ} {v : Event} (k : EventKept m at v) where
+module _ {m : List ℕ} {at : ℕ} {v : Option Event} (k : EventKept m at v) where
   -- the same event, with one more field
   same : {x : Field} {to : ℕ} → to ≤ length m → fields_of (drop at m) ≡ x ∷ fields_of (drop to m)
       → so_far v (k.seen ++ (x ∷ [])) ≡ event_step (so_far v k.seen) x → EventKept m to v
@@ -113,7 +114,7 @@ module _ {m : List ℕ} {at : ℕ} {v : Event} (k : EventKept m at v) where
       }
 
   -- another event, which starts with this field
-  anew : {x : Field} {to : ℕ} (y : Event) → base_of y ≡ at → to ≤ length m → fields_of (drop at m) ≡ x ∷ fields_of (drop to m)
+  anew : {x : Field} {to : ℕ} (y : Option Event) → base_of y ≡ at → to ≤ length m → fields_of (drop at m) ≡ x ∷ fields_of (drop to m)
       → so_far y (x ∷ []) ≡ event_step (so_far v k.seen) x → EventKept m to y
   anew {x} {to} y b h e g =
       record {
@@ -144,27 +145,27 @@ module _ {m : List ℕ} {at f start len : ℕ} (q : PartAt m at f start len) whe
       → holds n (merged_fields n (seen ++ (field f q.type (bytes part) ∷ []))) ≡ holds n (merged_fields n seen ++ fields_of part)
   more {n} seen e = ap (holds n) (merged-more n seen _ part (rw (eq-eqb f n e)))
 
-  pub event-other : {v y : Event} → EventKept m at v → (f ≡ 2 → ⊥) → (f ≡ 3 → ⊥) → y ≡ v → EventKept m (at + start + len) y
+  pub event-other : {v y : Option Event} → EventKept m at v → (f ≡ 2 → ⊥) → (f ≡ 3 → ⊥) → y ≡ v → EventKept m (at + start + len) y
   event-other {v} k a b g =
       rw g
       (same k q.inside q.fields
       (far-skip v k.seen _ (rw (ne_eqb f 2 a)) (rw (ne_eqb f 3 b)) ∙ rw (ne_eqb f 2 a, ne_eqb f 3 b)))
 
-  pub event-snapshot : (v y : Event) → EventKept m at v → f ≡ 2 → y ≡ snapshot_from v at → EventKept m (at + start + len) y
+  pub event-snapshot : (v y : Option Event) → EventKept m at v → f ≡ 2 → y ≡ snapshot_from v at → EventKept m (at + start + len) y
   event-snapshot v y k e g = rw g (go v k)
     where
-      go : (v : Event) → EventKept m at v → EventKept m (at + start + len) (snapshot_from v at)
-      go event.Nothing k = anew k (event.Snapshot at) refl q.inside q.fields (alone e ∙ sym (snapshot-by (so_far event.Nothing k.seen) f part e))
-      go (event.Snapshot base) k = same k q.inside q.fields (more k.seen e ∙ sym (snapshot-by (so_far (event.Snapshot base) k.seen) f part e))
-      go (event.Diff base) k = anew k (event.Snapshot at) refl q.inside q.fields (alone e ∙ sym (snapshot-by (so_far (event.Diff base) k.seen) f part e))
+      go : (v : Option Event) → EventKept m at v → EventKept m (at + start + len) (snapshot_from v at)
+      go None k = anew k (Some (event.Snapshot at)) refl q.inside q.fields (alone e ∙ sym (snapshot-by (so_far None k.seen) f part e))
+      go (Some (event.Snapshot base)) k = same k q.inside q.fields (more k.seen e ∙ sym (snapshot-by (so_far (Some (event.Snapshot base)) k.seen) f part e))
+      go (Some (event.Diff base)) k = anew k (Some (event.Snapshot at)) refl q.inside q.fields (alone e ∙ sym (snapshot-by (so_far (Some (event.Diff base)) k.seen) f part e))
 
-  pub event-diff : (v y : Event) → EventKept m at v → f ≡ 3 → y ≡ diff_from v at → EventKept m (at + start + len) y
+  pub event-diff : (v y : Option Event) → EventKept m at v → f ≡ 3 → y ≡ diff_from v at → EventKept m (at + start + len) y
   event-diff v y k e g = rw g (go v k)
     where
-      go : (v : Event) → EventKept m at v → EventKept m (at + start + len) (diff_from v at)
-      go event.Nothing k = anew k (event.Diff at) refl q.inside q.fields (alone e ∙ sym (diff-by (so_far event.Nothing k.seen) f part e))
-      go (event.Snapshot base) k = anew k (event.Diff at) refl q.inside q.fields (alone e ∙ sym (diff-by (so_far (event.Snapshot base) k.seen) f part e))
-      go (event.Diff base) k = same k q.inside q.fields (more k.seen e ∙ sym (diff-by (so_far (event.Diff base) k.seen) f part e))
+      go : (v : Option Event) → EventKept m at v → EventKept m (at + start + len) (diff_from v at)
+      go None k = anew k (Some (event.Diff at)) refl q.inside q.fields (alone e ∙ sym (diff-by (so_far None k.seen) f part e))
+      go (Some (event.Snapshot base)) k = anew k (Some (event.Diff at)) refl q.inside q.fields (alone e ∙ sym (diff-by (so_far (Some (event.Snapshot base)) k.seen) f part e))
+      go (Some (event.Diff base)) k = same k q.inside q.fields (more k.seen e ∙ sym (diff-by (so_far (Some (event.Diff base)) k.seen) f part e))
 
 -- ---- the end
 
@@ -176,7 +177,7 @@ broken-done : {total x : Member} {fs : List Field} → BrokenRow fs → Kept eve
 broken-done bad-key k = sym k.is
 broken-done (cut_short f w) k = sym k.is
 
-module _ {m : List ℕ} {at : ℕ} {v : Event} (k : EventKept m at v) where
+module _ {m : List ℕ} {at : ℕ} {v : Option Event} (k : EventKept m at v) where
   pub event-broken : BrokenAt m at → EventIs m (read_event (fields_of m)) v
   unfolding read_event
   event-broken q =

@@ -3,15 +3,11 @@
 -- The readers are total: a number that is missing is 0, a text that is missing is empty. Which messages are taken at all is `first_fault` of the crate
 -- schema. A singular message's fields are those of all its parts (`merged_fields`).
 -- Assumes nothing.
-use Rattle.std.specs.Prelude.{ℕ, Bool, cond, List, [], ◌∷◌, map, eqb}
+use Rattle.std.specs.Prelude.{ℕ, Bool, cond, List, [], ◌∷◌, map, eqb, ℤ, Option, Some, None}
 use Rattle.wire.specs.Fields.{Field, fields_of}
-use Rattle.wire_values.specs.declared.Last.{Last}
-use Rattle.wire_values.specs.declared.Last.TheVariants as last
 use Rattle.wire_values.specs.Values.{numbers_of, parts_of, present, last_of, last_part, merged_fields, number_in, Member, absent, holds, member_of}
 use Rattle.wire_values.specs.Integers.{uint32_of, int32_of}
 use Rattle.wire_readers.specs.declared.IntRange.{IntRange}
-use Rattle.wire_readers.specs.declared.ErrorCode.{ErrorCode}
-use Rattle.wire_readers.specs.declared.ErrorCode.TheVariants as code
 
 -- ---- assignments
 
@@ -57,13 +53,13 @@ update_of m = record { consumer_id = number_in 1 (fields_of m); assignment = rea
 -- ---- CommandScalableTopicSubscribeResponse
 
 -- an error code, which keeps unknown values
-abbrev pub code_of : Last → ErrorCode
-code_of (last.Found v) = code.Given (int32_of v)
-code_of last.Absent = code.Absent
+abbrev pub code_of : Option ℕ → Option ℤ
+code_of (Some v) = Some (int32_of v)
+code_of None = None
 
 pub record WireResponse : Type 0 where
   pub request_id : ℕ
-  pub error : ErrorCode
+  pub error : Option ℤ
   pub message : List ℕ
   pub has_assignment : Bool
   pub assignment : WireAssignment
@@ -100,7 +96,7 @@ read_event fs = event_by (member_of event_fields fs)
 pub record WireWatchUpdate : Type 0 where
   pub watch_id : ℕ
   pub event : WireEvent
-  pub error : ErrorCode
+  pub error : Option ℤ
   pub message : List ℕ
 
 unfoldable pub watch_update_of : List ℕ → WireWatchUpdate

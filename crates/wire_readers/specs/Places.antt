@@ -1,7 +1,6 @@
 -- Public: what the functions of src/ answer: numbers, and parts as places in the message.
 -- Assumes nothing.
-use Rattle.std.specs.Prelude.{ℕ, ◌+◌, ◌≤◌, ◌≡◌, List, length, take, drop, get_or}
-use Rattle.std.proofs.Math.Option.{Option}
+use Rattle.std.specs.Prelude.{ℕ, ◌+◌, ◌≤◌, ◌≡◌, List, length, take, drop, get_or, Option, Some, None}
 use Rattle.wire.specs.Fields.{fields_of}
 use Rattle.wire_values.specs.Values.{merged_fields}
 use Rattle.wire_values.specs.Integers.{uint32_of}
@@ -47,21 +46,21 @@ pub record ResponseIs (m : List ℕ) (r : ResponseHead) : Type 0 where
   pub epoch : r.layout_epoch ≡ (response_of m).assignment.layout_epoch
 
 -- the event of a watch update: its parts are those of its field from a place in the message on
-abbrev pub EventIs : List ℕ → WireEvent → Event → Type 0
-EventIs m e event.Nothing = e ≡ none
-EventIs m e (event.Snapshot base) = (base ≤ length m) × (e ≡ snapshot (merged_fields 2 (fields_of (drop base m))))
-EventIs m e (event.Diff base) = (base ≤ length m) × (e ≡ diff (merged_fields 3 (fields_of (drop base m))))
+abbrev pub EventIs : List ℕ → WireEvent → Option Event → Type 0
+EventIs m e None = e ≡ none
+EventIs m e (Some (event.Snapshot base)) = (base ≤ length m) × (e ≡ snapshot (merged_fields 2 (fields_of (drop base m))))
+EventIs m e (Some (event.Diff base)) = (base ≤ length m) × (e ≡ diff (merged_fields 3 (fields_of (drop base m))))
 
 -- the event with one more snapshot, or one more diff, in the field at a place
-abbrev pub snapshot_from : Event → ℕ → Event
-snapshot_from event.Nothing at = event.Snapshot at
-snapshot_from (event.Snapshot base) at = event.Snapshot base
-snapshot_from (event.Diff base) at = event.Snapshot at
+abbrev pub snapshot_from : Option Event → ℕ → Option Event
+snapshot_from None at = Some (event.Snapshot at)
+snapshot_from (Some (event.Snapshot base)) at = Some (event.Snapshot base)
+snapshot_from (Some (event.Diff base)) at = Some (event.Snapshot at)
 
-abbrev pub diff_from : Event → ℕ → Event
-diff_from event.Nothing at = event.Diff at
-diff_from (event.Snapshot base) at = event.Diff at
-diff_from (event.Diff base) at = event.Diff base
+abbrev pub diff_from : Option Event → ℕ → Option Event
+diff_from None at = Some (event.Diff at)
+diff_from (Some (event.Snapshot base)) at = Some (event.Diff at)
+diff_from (Some (event.Diff base)) at = Some (event.Diff base)
 
 -- the numbers and the event of a watch update
 pub record WatchIs (m : List ℕ) (r : WatchHead) : Type 0 where

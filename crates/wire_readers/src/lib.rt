@@ -11,20 +11,13 @@ ghost use Rattle.wire_values.specs.Values.{numbers_of, last_of};
 ghost use Rattle.wire_readers.specs.Messages.{int_range_of, code_of, response_of, read_event, watch_update_of};
 ghost use Rattle.wire_readers.specs.Places.{head_of, UpdateIs, ResponseIs, EventIs, snapshot_from, diff_from, WatchIs};
 
-use wire_values::{Front, Last};
+use wire_values::Front;
 
 // The ends of a bucket range, as they came.
 #[derive(Clone, Copy)]
 pub struct IntRange {
     pub start: i32,
     pub end: i32,
-}
-
-// A broker's error code.
-#[derive(Clone, Copy)]
-pub enum ErrorCode {
-    Given(i32),
-    Absent,
 }
 
 // A segment's numbers, and the place and length of its topic.
@@ -40,7 +33,6 @@ pub struct SegmentHead {
 // The event of a watch update: the place in the message from which on its parts are those of field 2, or of field 3.
 #[derive(Clone, Copy)]
 pub enum Event {
-    Nothing,
     Snapshot(usize),
     Diff(usize),
 }
@@ -89,12 +81,12 @@ pub fn read_update(m: &[u8]) -> UpdateHead
 }
 
 // The error code that field n of the message m holds.
-fn error_code(m: &[u8], n: u64) -> ErrorCode
+fn error_code(m: &[u8], n: u64) -> Option<i32>
     ensures { result ≡ code_of (last_of (numbers_of n (fields_of m.now))) }
 {
     match wire_values::last_number(m, n) {
-        Last::Found(v) => ErrorCode::Given(wire_values::int32(v)),
-        Last::Absent => ErrorCode::Absent,
+        Some(v) => Some(wire_values::int32(v)),
+        None => None,
     }
 }
 
@@ -102,7 +94,7 @@ fn error_code(m: &[u8], n: u64) -> ErrorCode
 #[derive(Clone, Copy)]
 pub struct ResponseHead {
     pub request_id: u64,
-    pub error: ErrorCode,
+    pub error: Option<i32>,
     pub has_assignment: bool,
     pub layout_epoch: u64,
 }
@@ -134,47 +126,47 @@ pub fn response_text<'m, 's>(message: &'m [u8], store: &'s [u8]) -> &'m [u8]
 #[derive(Clone, Copy)]
 pub struct WatchHead {
     pub watch_id: u64,
-    pub event: Event,
-    pub error: ErrorCode,
+    pub event: Option<Event>,
+    pub error: Option<i32>,
 }
 
 // The event with one more snapshot, in the field at a place.
-fn snapshot_from(event: Event, at: usize) -> Event
+fn snapshot_from(event: Option<Event>, at: usize) -> Option<Event>
     ensures { result ≡ snapshot_from event at }
 {
     match event {
-        Event::Nothing => Event::Snapshot(at),
-        Event::Snapshot(base) => Event::Snapshot(base),
-        Event::Diff(_) => Event::Snapshot(at),
+        None => Some(Event::Snapshot(at)),
+        Some(Event::Snapshot(base)) => Some(Event::Snapshot(base)),
+        Some(Event::Diff(_)) => Some(Event::Snapshot(at)),
     }
 }
 
 // .. and with one more diff.
-fn diff_from(event: Event, at: usize) -> Event
+fn diff_from(event: Option<Event>, at: usize) -> Option<Event>
     ensures { result ≡ diff_from event at }
 {
     match event {
-        Event::Nothing => Event::Diff(at),
-        Event::Snapshot(_) => Event::Diff(at),
-        Event::Diff(base) => Event::Diff(base),
+        None => Some(Event::Diff(at)),
+        Some(Event::Snapshot(_)) => Some(Event::Diff(at)),
+        Some(Event::Diff(base)) => Some(Event::Diff(base)),
     }
 }
 
 // The event of the watch update m: its last parts of field 2 or 3 that have no part of the other between them.
-fn read_event(m: &[u8]) -> Event
+fn read_event(m: &[u8]) -> Option<Event>
     ensures { EventIs m.now (read_event (fields_of m.now)) result }
 {
-    let mut event = Event::Nothing;
+    let mut event = None;
     let mut at: usize = 0;
     while at < m.len() {
         match wire_values::read_front(&m[at..]) {
-            Front::Broken => {
+            None => {
                 return event;
             }
-            Front::Number(_, _, size) => {
+            Some(Front::Number(_, _, size)) => {
                 at = at + size;
             }
-            Front::Part(f, from, len) => {
+            Some(Front::Part(f, from, len)) => {
                 let snapshot = snapshot_from(event, at);
                 let diff = diff_from(event, at);
                 if f == 2 {
@@ -185,7 +177,7 @@ fn read_event(m: &[u8]) -> Event
                 }
                 at = at + from + len;
             }
-            Front::Fixed(size) => {
+            Some(Front::Fixed(size)) => {
                 at = at + size;
             }
         }

@@ -4,6 +4,7 @@
 -- there (`number-found`); a segment's walk (`SegmentLeft`), a walk over one part of an assignment (`PartLeft`), the walk over its parts (`PartsLeft`), each with its
 -- start, its steps and its end.
 -- Assumes nothing.
+use Rattle.std.specs.Prelude.{Option, Some, None}
 use Prim.Native.Nat.{ℕ, ◌+◌, ◌-◌}
 use native.Mathlib.Omega.{arith}
 use mathlib.Core.Path.{◌≡◌, refl, sym, ap, ◌∙◌}
@@ -12,9 +13,6 @@ use mathlib.Core.List.{List, [], ◌∷◌, ◌++◌}
 use lib.ListN.{take, drop}
 use lib.Dec.{eqb}
 use Rattle.wire.specs.Fields.{Field, fields_of}
-use Rattle.wire_values.specs.declared.Last.{Last}
-use Rattle.wire_values.specs.declared.Last.TheVariants as last
-use Rattle.wire_values.specs.declared.PartStep.TheVariants as step
 use Rattle.wire_values.specs.Values.{numbers_of, parts_of, present, last_after, last_of, join_fields, merged_fields}
 use Rattle.wire_values.specs.Places.{NextPart}
 use Rattle.wire_values.proofs.ValueLaws.{numbers-join, parts_join}
@@ -46,11 +44,11 @@ module _ (inner : MessageKind → List Field → Bool) (k : MessageKind) where
   all_append [] m = refl
   all_append (p ∷ l) m = rw (all_append l m) (sym (and_assoc (inner k (fields_of p)) (all_complete inner k l) (all_complete inner k m)))
 
-abbrev is_found : Last → Bool
-is_found (last.Found v) = true
-is_found last.Absent = false
+abbrev is_found : Option ℕ → Bool
+is_found (Some v) = true
+is_found None = false
 
-found_after : (v : ℕ) (l : List ℕ) → is_found (last_after (last.Found v) l) ≡ true
+found_after : (v : ℕ) (l : List ℕ) → is_found (last_after (Some v) l) ≡ true
 found_after v [] = refl
 found_after v (x ∷ l) = found_after x l
 
@@ -59,7 +57,7 @@ found-present [] = refl
 found-present (x ∷ l) = found_after x l
 
 -- the last of the numbers tells whether there is one
-pub number-found : (n : ℕ) (s : List ℕ) (x : Last) → x ≡ last_of (numbers_of n (fields_of s)) → is_found x ≡ present (numbers_of n (fields_of s))
+pub number-found : (n : ℕ) (s : List ℕ) (x : Option ℕ) → x ≡ last_of (numbers_of n (fields_of s)) → is_found x ≡ present (numbers_of n (fields_of s))
 number-found n s x e = ap is_found e ∙ found-present (numbers_of n (fields_of s))
 
 -- ---- a segment
@@ -217,7 +215,7 @@ pub parts-start : (n : ℕ) (m : List ℕ) → PartsLeft n m 0 false true
 parts-start n m = record { epoch-there = refl; segments-there = refl }
 
 module _ {n : ℕ} {m : List ℕ} {at : ℕ} {epoch segments : Bool} (i : PartsLeft n m at epoch segments) where
-  pub parts_next : (start len end : ℕ) {epoch' segments' : Bool} → NextPart n m at (step.Found start len end)
+  pub parts_next : (start len end : ℕ) {epoch' segments' : Bool} → NextPart n m at (Some (start, len, end))
       → let p = take (end - start) (drop start m) in
       (epoch' ≡ (epoch || present (numbers_of 1 (fields_of p)))) → (segments' ≡ (segments && segments_in (parts_of 2 (fields_of p))))
       → PartsLeft n m end epoch' segments'
@@ -247,7 +245,7 @@ module _ {n : ℕ} {m : List ℕ} {at : ℕ} {epoch segments : Bool} (i : PartsL
             ∙ i.segments-there);
       }
 
-  pub parts-done : NextPart n m at step.Absent → (epoch && segments) ≡ is_complete ScalableConsumerAssignment (merged_fields n (fields_of m))
+  pub parts-done : NextPart n m at None → (epoch && segments) ≡ is_complete ScalableConsumerAssignment (merged_fields n (fields_of m))
   unfolding is_complete
   parts-done q =
       let a : present (numbers_of 1 (merged_fields n (fields_of m))) ≡ epoch = sym i.epoch-there ∙ rw q (or-false epoch) in

@@ -10,7 +10,7 @@ ghost use Rattle.wire_values.specs.Values.{numbers_of, parts_of, present, merged
 ghost use Rattle.wire_schema.specs.Required.{all_complete, complete_within, is_complete};
 
 use wire_schema::MessageKind;
-use wire_values::{Front, Last, PartStep};
+use wire_values::Front;
 
 fn both(a: bool, b: bool) -> bool
     ensures { result ≡ (a && b) }
@@ -35,8 +35,8 @@ fn has_number(s: &[u8], n: u64) -> bool
     ensures { result ≡ present (numbers_of n (fields_of s.now)) }
 {
     match wire_values::last_number(s, n) {
-        Last::Found(_) => true,
-        Last::Absent => false,
+        Some(_) => true,
+        None => false,
     }
 }
 
@@ -65,16 +65,16 @@ fn segment_complete(s: &[u8]) -> bool
     let mut at: usize = 0;
     while at < s.len() {
         match wire_values::read_front(&s[at..]) {
-            Front::Broken => {
+            None => {
                 return all_four(id, start, end, topic);
             }
-            Front::Number(f, _, size) => {
+            Some(Front::Number(f, _, size)) => {
                 id = either(id, f == 1);
                 start = either(start, f == 2);
                 end = either(end, f == 3);
                 at = at + size;
             }
-            Front::Part(f, from, len) => {
+            Some(Front::Part(f, from, len)) => {
                 let begin = at + from;
                 at = begin + len;
                 if !bucket_complete(f, &s[begin..at]) {
@@ -82,7 +82,7 @@ fn segment_complete(s: &[u8]) -> bool
                 }
                 topic = either(topic, f == 4);
             }
-            Front::Fixed(size) => {
+            Some(Front::Fixed(size)) => {
                 at = at + size;
             }
         }
@@ -114,19 +114,19 @@ fn look(s: &[u8], before: Found) -> Found
     let mut at: usize = 0;
     while at < s.len() {
         match wire_values::read_front(&s[at..]) {
-            Front::Broken => {
+            None => {
                 return Found { epoch, segments };
             }
-            Front::Number(f, _, size) => {
+            Some(Front::Number(f, _, size)) => {
                 epoch = either(epoch, f == 1);
                 at = at + size;
             }
-            Front::Part(f, from, len) => {
+            Some(Front::Part(f, from, len)) => {
                 let begin = at + from;
                 at = begin + len;
                 segments = both(segments, part_complete(f, &s[begin..at]));
             }
-            Front::Fixed(size) => {
+            Some(Front::Fixed(size)) => {
                 at = at + size;
             }
         }
@@ -158,10 +158,10 @@ fn assignment_complete(m: &[u8], n: u64) -> bool
     let mut at: usize = 0;
     loop {
         match wire_values::next_part(m, at, n) {
-            PartStep::Absent => {
+            None => {
                 return both(found.epoch, found.segments);
             }
-            PartStep::Found(start, _, end) => {
+            Some((start, _, end)) => {
                 found = look(&m[start..end], found);
                 at = end;
             }

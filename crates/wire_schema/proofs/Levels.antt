@@ -3,6 +3,7 @@
 -- In order: what a field holds lies below its message (`Below`, `value-below`); two checks of inner messages that agree below a level give
 -- the same (`fields-same`, `row_same`); one level more, and any number more, than `levels` says (`levels-more`, `complete-more`).
 -- Assumes nothing.
+use Rattle.std.specs.Prelude.{⊤, Result}
 use Prim.Native.Nat.{ℕ, zero, suc, ◌+◌, ◌≤◌, ◌<◌}
 use native.Mathlib.Omega.{arith}
 use mathlib.Core.Path.{◌≡◌, refl, ◌∙◌}
@@ -23,13 +24,13 @@ use Rattle.wire_schema.specs.declared.MessageKind.TheVariants.{
 }
 use Rattle.wire_schema.specs.declared.ValueKind.{ValueKind}
 use Rattle.wire_schema.specs.declared.ValueKind.TheVariants as value
-use Rattle.wire_schema.specs.declared.Checked.{Checked}
 use Rattle.wire_values.specs.Values.{parts_of, merged_fields, Member, absent, holds, member_of}
 use Rattle.wire_schema.specs.Schema.{required, optional, repeated, oneof, SchemaField, has, schema, value_of, field_kind, value_in, value_for}
 use Rattle.wire_schema.specs.Schema.{members_of, levels}
 use Rattle.wire_schema.specs.Required.{value_complete, all_complete, each_complete, member_complete, field_complete, all_fields}
 use Rattle.wire_schema.specs.Required.{complete_within, is_complete}
 use Rattle.wire_schema.specs.FirstFault.{check_value, check_fields, fault_within}
+use Rattle.refusal.specs.declared.Refusal.{Refusal}
 
 -- ---- what a field holds
 
@@ -68,7 +69,7 @@ value-below k f = below_in (levels k) f (schema k) (schema-below k)
 
 -- ---- two checks of inner messages
 
-module _ (k : MessageKind) (p q : MessageKind → List ℕ → Checked)
+module _ (k : MessageKind) (p q : MessageKind → List ℕ → Result ⊤ Refusal)
     (same : (j : MessageKind) (l : List ℕ) → levels j < levels k → p j l ≡ q j l) where
   value_same : (v : ValueKind) (c : Payload) → Below (levels k) v → check_value p v c ≡ check_value q v c
   value_same v cut h = refl

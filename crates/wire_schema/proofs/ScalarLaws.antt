@@ -1,5 +1,6 @@
 -- The claim of specs/Scalars (`read-by-schema`): from the innermost message out.
 -- Assumes nothing.
+use Rattle.std.specs.Prelude.{Option, Some, None}
 use Prim.Native.Nat.{ℕ}
 use native.Mathlib.Omega.{arith}
 use mathlib.Core.Path.{◌≡◌, refl, sym, ap₂}
@@ -8,8 +9,6 @@ use mathlib.Core.List.{List, [], ◌∷◌, ◌++◌, map}
 use lib.Dec.{eqb}
 use borrow.Author.Tests.{eqb-true}
 use Rattle.wire.specs.Fields.{number, bytes, fixed, cut, Field, bad_key, field, fields_of}
-use Rattle.wire_values.specs.declared.Last.{Last}
-use Rattle.wire_values.specs.declared.Last.TheVariants as last
 use Rattle.wire_values.specs.Values.{numbers_of, parts_of, last_of, join_fields, merged_fields, present}
 use Rattle.wire_values.specs.Values.{Member, member_behind, is_member, member_by, member_after, member_of}
 use Rattle.wire_values.specs.Integers.{int32_of}
@@ -40,9 +39,9 @@ unfolding read_assignment
 assignment-by fs = rw (each_map segment_value read_segment (λ q. message_within 2 ScalableAssignedSegment (fields_of q)) segment-by (parts_of 2 fs))
 
 -- an error code
-error-by : (x : Last) → error_value (code_of x) ≡ last_value (λ v. signed (int32_of v)) x
-error-by (last.Found v) = refl
-error-by last.Absent = refl
+error-by : (x : Option ℕ) → error_value (code_of x) ≡ last_value (λ v. signed (int32_of v)) x
+error-by (Some v) = refl
+error-by None = refl
 
 update-by : (m : List ℕ) → update_value (update_of m) ≡ message_by CommandScalableTopicAssignmentUpdate (fields_of m)
 unfolding update_of

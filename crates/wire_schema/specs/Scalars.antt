@@ -4,15 +4,11 @@
 -- the crate `wire_readers` reads no other values: those of an update, a response and a watch update are the ones that the table gives. Its proof is proofs/ScalarLaws.
 -- Not here: the topics of a watch update's event, which the crate `watch` reads from its row; which messages are taken at all (specs/FirstFault).
 -- Assumes nothing.
-use Rattle.std.specs.Prelude.{ℕ, zero, suc, ◌≡◌, cond, List, [], ◌∷◌, eqb, ℤ}
+use Rattle.std.specs.Prelude.{ℕ, zero, suc, ◌≡◌, cond, List, [], ◌∷◌, eqb, ℤ, Option, Some, None}
 use Rattle.wire.specs.Fields.{Field, fields_of}
-use Rattle.wire_values.specs.declared.Last.{Last}
-use Rattle.wire_values.specs.declared.Last.TheVariants as last
 use Rattle.wire_values.specs.Values.{numbers_of, parts_of, last_of, last_part, join_fields, merged_fields, number_in, Member, member_of}
 use Rattle.wire_values.specs.Integers.{uint32_of, int32_of}
 use Rattle.wire_readers.specs.declared.IntRange.{IntRange as Range}
-use Rattle.wire_readers.specs.declared.ErrorCode.{ErrorCode}
-use Rattle.wire_readers.specs.declared.ErrorCode.TheVariants as code
 use Rattle.wire_readers.specs.Messages.{WireSegment, WireAssignment, WireUpdate, update_of, WireResponse, response_of}
 use Rattle.wire_readers.specs.Messages.{WireEvent, none, snapshot, diff, WireWatchUpdate, watch_update_of}
 use Rattle.wire_schema.specs.declared.MessageKind.{MessageKind}
@@ -61,9 +57,9 @@ holding_of string = texts
 holding_of (message k) = messages k
 
 -- the last of some numbers
-abbrev pub last_value : (ℕ → Value) → Last → Value
-last_value value (last.Found v) = value v
-last_value value last.Absent = absent
+abbrev pub last_value : (ℕ → Value) → Option ℕ → Value
+last_value value (Some v) = value v
+last_value value None = absent
 
 -- member f of a oneof, where that is the one that a message has; the table has messages alone there
 abbrev pub member_value : ℕ → Holding → Member → Value
@@ -132,9 +128,9 @@ segment_value s =
 abbrev pub assignment_value : WireAssignment → Value
 assignment_value a = fields (unsigned a.layout_epoch and entries (each segment_value a.segments) and end)
 
-abbrev pub error_value : ErrorCode → Value
-error_value (code.Given v) = signed v
-error_value code.Absent = absent
+abbrev pub error_value : Option ℤ → Value
+error_value (Some v) = signed v
+error_value None = absent
 
 abbrev pub update_value : WireUpdate → Value
 update_value u = fields (unsigned u.consumer_id and assignment_value u.assignment and end)

@@ -32,13 +32,6 @@ pub enum ValueKind {
     Message(MessageKind),
 }
 
-// What a check of a message gives.
-#[derive(Clone, Copy)]
-pub enum Checked {
-    Valid,
-    Refused(Refusal),
-}
-
 // What field f of a message of the kind holds.
 pub fn field_value(kind: MessageKind, f: u64) -> ValueKind
     ensures { result ≡ value_for kind f }

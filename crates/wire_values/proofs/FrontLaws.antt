@@ -9,6 +9,7 @@
 -- `front_at` says, it steps by `q.numbers n` and `q.parts n`; `q.inside` keeps its sums inside the slice, and `q.ahead` shows that
 -- it ends. A walk that keeps something else steps by `q.fields`.
 -- Assumes nothing.
+use Rattle.std.specs.Prelude.{Option, Some, None}
 use Prim.Native.Nat.{ℕ, ◌+◌, ◌-◌, ◌≤◌, ◌<◌}
 use native.Mathlib.Omega.{arith}
 use mathlib.Core.Path.{◌≡◌, refl, sym, ap, subst, ◌∙◌}
@@ -20,8 +21,6 @@ use lib.Dec.{eqb}
 use borrow.Author.Tests.{eq-eqb, ne_eqb}
 use Rattle.slice.proofs.PartLaws.{rest}
 use Rattle.wire.specs.declared.WireType.{WireType}
-use Rattle.wire.specs.declared.Key.{Key}
-use Rattle.wire.specs.declared.Key.TheVariants as key
 use Rattle.wire.specs.declared.Body.{Body}
 use Rattle.wire.specs.declared.Body.TheVariants as body
 use Rattle.wire.specs.Field.{key_read, body_of}
@@ -35,13 +34,13 @@ use Rattle.wire_values.specs.Places.{front_from, front_by, front_of}
 
 -- ---- from what key and body say
 
-pub front-bad-key : (l : List ℕ) → key_read l ≡ key.Broken → front_of l ≡ front.Broken
+pub front-bad-key : (l : List ℕ) → key_read l ≡ None → front_of l ≡ None
 unfolding front_of
 front-bad-key l e = rw e
 
 -- the body stands behind the key, as `&s[n..]`
-pub front-of-body : (l : List ℕ) (f : ℕ) (w : WireType) (n : ℕ) (b : Body)
-    → key_read l ≡ key.Found f w n → body_of w (take (length l - n) (drop n l)) ≡ b → front_of l ≡ front_from f n b
+pub front-of-body : (l : List ℕ) (f : ℕ) (w : WireType) (n : ℕ) (b : Option Body)
+    → key_read l ≡ Some (f, w, n) → body_of w (take (length l - n) (drop n l)) ≡ b → front_of l ≡ front_from f n b
 unfolding front_of
 front-of-body l f w n b e g = let h : body_of w (drop n l) ≡ b = ap (body_of w) (sym (rest l n)) ∙ g in rw (e, h)
 
@@ -102,11 +101,11 @@ parts-broken n bad-key = refl
 parts-broken n (cut_short f w) = refl
 
 -- what each front says
-abbrev pub FrontAt : List ℕ → ℕ → Front → Type 0
-FrontAt s at (front.Number f v size) = NumberAt s at f v size
-FrontAt s at (front.Part f start len) = PartAt s at f start len
-FrontAt s at (front.Fixed size) = FixedAt s at size
-FrontAt s at front.Broken = BrokenAt s at
+abbrev pub FrontAt : List ℕ → ℕ → Option Front → Type 0
+FrontAt s at (Some (front.Number f v size)) = NumberAt s at f v size
+FrontAt s at (Some (front.Part f start len)) = PartAt s at f start len
+FrontAt s at (Some (front.Fixed size)) = FixedAt s at size
+FrontAt s at None = BrokenAt s at
 
 module _ (s : List ℕ) (at : ℕ) (h : at < length s) where
   filled : 0 < length (drop at s)
@@ -119,14 +118,14 @@ module _ (s : List ℕ) (at : ℕ) (h : at < length s) where
   sized : (k m : ℕ) → (1 ≤ k) × (k ≤ length (drop at s)) → m ≤ length (drop at s) - k → (1 ≤ k + m) × (at + (k + m) ≤ length s)
   sized k m p q = (omega arith, omega (arith, length-drop at s))
 
-  by-body : (f : ℕ) (w : WireType) (k : ℕ) → key_read (drop at s) ≡ key.Found f w k
-      → (b : Body) → body_of w (drop k (drop at s)) ≡ b → FrontAt s at (front_from f k b)
-  by-body f w k e (body.Number v m) g =
-      let z = sized k m (key-size (drop at s) f w k e) (body-size-after w (drop at s) k (body.Number v m) g) in
+  by-body : (f : ℕ) (w : WireType) (k : ℕ) → key_read (drop at s) ≡ Some (f, w, k)
+      → (b : Option Body) → body_of w (drop k (drop at s)) ≡ b → FrontAt s at (front_from f k b)
+  by-body f w k e (Some (body.Number v m)) g =
+      let z = sized k m (key-size (drop at s) f w k e) (body-size-after w (drop at s) k (Some (body.Number v m)) g) in
       let r = rw (drop-drop (k + m) at s) at (fields-number (drop at s) filled f w k e v m g) in
       record { ahead = z.0; inside = z.1; type = w; fields = r; numbers = λ n. ap (numbers_of n) r; parts = λ n. ap (parts_of n) r }
-  by-body f w k e (body.Fixed m) g =
-      let z = sized k m (key-size (drop at s) f w k e) (body-size-after w (drop at s) k (body.Fixed m) g) in
+  by-body f w k e (Some (body.Fixed m)) g =
+      let z = sized k m (key-size (drop at s) f w k e) (body-size-after w (drop at s) k (Some (body.Fixed m)) g) in
       let r = rw (drop-drop (k + m) at s) at (fields-fixed (drop at s) filled f w k e m g) in
       record {
         ahead = z.0;
@@ -137,9 +136,9 @@ module _ (s : List ℕ) (at : ℕ) (h : at < length s) where
         numbers = λ n. ap (numbers_of n) r;
         parts = λ n. ap (parts_of n) r;
       }
-  by-body f w k e (body.Part m len) g =
+  by-body f w k e (Some (body.Part m len)) g =
       let p = key-size (drop at s) f w k e in
-      let z = sized k (m + len) p (body-size-after w (drop at s) k (body.Part m len) g) in
+      let z = sized k (m + len) p (body-size-after w (drop at s) k (Some (body.Part m len)) g) in
       let a : at + (k + (m + len)) ≡ at + (k + m) + len = omega arith in
       let b = drop-drop (k + m) at s in
       let d = drop-drop (k + (m + len)) at s in
@@ -152,18 +151,18 @@ module _ (s : List ℕ) (at : ℕ) (h : at < length s) where
         numbers = λ n. ap (numbers_of n) r;
         parts = λ n. ap (parts_of n) r;
       }
-  by-body f w k e body.Broken g = broken-at (subst BrokenRow (sym (fields-cut (drop at s) filled f w k e g)) (cut_short f w))
+  by-body f w k e None g = broken-at (subst BrokenRow (sym (fields-cut (drop at s) filled f w k e g)) (cut_short f w))
 
-  by_key : (q : Key) → key_read (drop at s) ≡ q → FrontAt s at (front_by q (drop at s))
-  by_key (key.Found f w k) e = by-body f w k e (body_of w (drop k (drop at s))) refl
-  by_key key.Broken e = broken-at (subst BrokenRow (sym (fields-bad-key (drop at s) filled e)) bad-key)
+  by_key : (q : Option (ℕ × WireType × ℕ)) → key_read (drop at s) ≡ q → FrontAt s at (front_by q (drop at s))
+  by_key (Some (f, w, k)) e = by-body f w k e (body_of w (drop k (drop at s))) refl
+  by_key None e = broken-at (subst BrokenRow (sym (fields-bad-key (drop at s) filled e)) bad-key)
 
   front-says : FrontAt s at (front_of (drop at s))
   unfolding front_of
   front-says = by_key (key_read (drop at s)) refl
 
   -- the front of `&s[at..]`
-  pub front_at : (q : Front) → front_of (take (length s - at) (drop at s)) ≡ q → FrontAt s at q
+  pub front_at : (q : Option Front) → front_of (take (length s - at) (drop at s)) ≡ q → FrontAt s at q
   front_at q e = subst (FrontAt s at) (ap front_of (sym (rest s at)) ∙ e) front-says
 
 -- the slice's end

@@ -6,6 +6,7 @@
 --
 -- A caller that goes over all parts starts with the first two; the others serve `next_inner` and `inner_number`.
 -- Assumes nothing.
+use Rattle.std.specs.Prelude.{Option, Some, None}
 use Prim.Native.Nat.{ℕ, ◌+◌, ◌-◌, ◌≤◌, ◌<◌}
 use native.Mathlib.Omega.{arith}
 use mathlib.Core.Path.{◌≡◌, refl, sym, ap, ◌∙◌}
@@ -14,11 +15,7 @@ use lib.ListN.{length, take, drop}
 use lib.Seq.{take-take, length-take-le}
 use Rattle.slice.proofs.PartLaws.{drop-take}
 use Rattle.wire.specs.Fields.{fields_of}
-use Rattle.wire_values.specs.declared.Last.{Last}
-use Rattle.wire_values.specs.declared.Last.TheVariants as last
-use Rattle.wire_values.specs.declared.PartStep.TheVariants as step
 use Rattle.wire_values.specs.declared.Cursor.{Cursor}
-use Rattle.wire_values.specs.declared.InnerStep.TheVariants as inner
 use Rattle.wire_values.specs.Values.{numbers_of, parts_of, last_after, last_of, join_fields, merged_fields, or_zero, number_in}
 use Rattle.wire_values.specs.Places.{NextPart, inner_from, Inside, NextInner}
 use Rattle.wire_values.proofs.ValueLaws.{numbers-join, parts_join, last-append}
@@ -37,7 +34,7 @@ unfolding fields_of
 inner_first n k m = refl
 
 -- behind a part of field n, with the place at its start
-pub inside-later : (n : ℕ) (m : List ℕ) (outer start len next : ℕ) → NextPart n m outer (step.Found start len next)
+pub inside-later : (n : ℕ) (m : List ℕ) (outer start len next : ℕ) → NextPart n m outer (Some (start, len, next))
     → Inside m (place next start (start + len))
 inside-later n m outer start len next q =
     let b : next ≡ start + len = q.1 in
@@ -53,8 +50,8 @@ part-of-front start len end m h =
 
 module _ (n k : ℕ) (m : List ℕ) (outer at end : ℕ) where
   -- in this part of field n
-  pub inner-found : Inside m (place outer at end) → (start len next : ℕ) → NextPart k (take end m) at (step.Found start len next)
-      → NextInner n k m (place outer at end) (inner.Found start len (place outer next end))
+  pub inner-found : Inside m (place outer at end) → (start len next : ℕ) → NextPart k (take end m) at (Some (start, len, next))
+      → NextInner n k m (place outer at end) (Some (start, len, place outer next end))
   inner-found i start len next q =
       let a : at < start = q.0 in
       let b : next ≡ start + len = q.1 in
@@ -68,12 +65,12 @@ module _ (n k : ℕ) (m : List ℕ) (outer at end : ℕ) where
         ap (λ (l : List (List ℕ)). l ++ o) q.3 ∙ rw (part-of-front start len end m (omega arith)),
       )
 
-  module _ (e : NextPart k (take end m) at step.Absent) where
-    pub inner-none : NextPart n m outer step.Absent → inner_from n k m (place outer at end) ≡ []
+  module _ (e : NextPart k (take end m) at None) where
+    pub inner-none : NextPart n m outer None → inner_from n k m (place outer at end) ≡ []
     inner-none q = rw (e, q)
 
     -- in the next part of field n, which is the cursor's from here on
-    pub inner-later : (start len next : ℕ) → NextPart n m outer (step.Found start len next)
+    pub inner-later : (start len next : ℕ) → NextPart n m outer (Some (start, len, next))
         → inner_from n k m (place outer at end) ≡ inner_from n k m (place next start (start + len))
     inner-later start len next q =
         rw (e, q.3, drop-take start len m) (parts_join k (take len (drop start m)) (parts_of n (fields_of (drop next m))))
@@ -81,15 +78,15 @@ module _ (n k : ℕ) (m : List ℕ) (outer at end : ℕ) where
 -- ---- the last number of field k in the singular message of field n
 
 -- x is the last of those in the parts before the place `at`
-pub record InnerKept (n k : ℕ) (m : List ℕ) (at : ℕ) (x : Last) : Type 0 where
+pub record InnerKept (n k : ℕ) (m : List ℕ) (at : ℕ) (x : Option ℕ) : Type 0 where
   pub is : last_of (numbers_of k (merged_fields n (fields_of m))) ≡ last_after x (numbers_of k (join_fields (parts_of n (fields_of (drop at m)))))
 
-pub inner_start : (n k : ℕ) (m : List ℕ) → InnerKept n k m 0 last.Absent
+pub inner_start : (n k : ℕ) (m : List ℕ) → InnerKept n k m 0 None
 inner_start n k m = record { is = refl }
 
-module _ {n k : ℕ} {m : List ℕ} {at : ℕ} {x : Last} (h : InnerKept n k m at x) where
+module _ {n k : ℕ} {m : List ℕ} {at : ℕ} {x : Option ℕ} (h : InnerKept n k m at x) where
   -- one more part, `&m[start..end]`
-  pub inner-next : (start len end : ℕ) {y : Last} → NextPart n m at (step.Found start len end)
+  pub inner-next : (start len end : ℕ) {y : Option ℕ} → NextPart n m at (Some (start, len, end))
       → y ≡ last_after x (numbers_of k (fields_of (take (end - start) (drop start m)))) → InnerKept n k m end y
   inner-next start len end q e =
       let p = take len (drop start m) in
@@ -98,5 +95,5 @@ module _ {n k : ℕ} {m : List ℕ} {at : ℕ} {x : Last} (h : InnerKept n k m a
       let b = ap (last_after x) (ap (λ (l : List (List ℕ)). numbers_of k (join_fields l)) q.3 ∙ numbers-join k p ps) in
       record { is = rw (e, a) (h.is ∙ b ∙ last-append x (numbers_of k (fields_of p)) (numbers_of k (join_fields ps))) }
 
-  pub inner-done : NextPart n m at step.Absent → or_zero x ≡ number_in k (merged_fields n (fields_of m))
+  pub inner-done : NextPart n m at None → or_zero x ≡ number_in k (merged_fields n (fields_of m))
   inner-done q = ap or_zero (sym (h.is ∙ ap (λ (l : List (List ℕ)). last_after x (numbers_of k (join_fields l))) q))

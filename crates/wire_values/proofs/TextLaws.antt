@@ -4,13 +4,13 @@
 -- and hold the parts of the row of fields (`placed`), so with no part there is no place (`places-none`), and at the last place stands the
 -- last part (`text-there`); the place so far in a walk by `NextPart` (`Sought`), and its cases.
 -- Assumes nothing.
+use Rattle.std.specs.Prelude.{Option, Some, None}
 use Prim.Native.Nat.{ℕ, zero, suc, ◌+◌, ◌-◌, ◌≤◌, ◌<◌}
 use native.Mathlib.Decide.{dec_le}
 use native.Mathlib.Omega.{arith}
 use mathlib.Core.Path.{◌≡◌, refl, sym, ap, ap₂, subst, ◌∙◌}
 use mathlib.Core.Bool.{Bool, true, false, cond}
 use mathlib.Core.List.{List, [], ◌∷◌, map}
-use mathlib.Core.Option.{Option, some, none}
 use lib.ListN.{length, take, drop, length-drop, drop_of_length-le}
 use lib.Seq.{drop-drop}
 use lib.Dec.{eqb}
@@ -19,7 +19,6 @@ use Rattle.slice.proofs.PartLaws.{rest}
 use Rattle.wire.specs.Fields.{fields_of}
 use Rattle.wire_values.specs.declared.Front.{Front}
 use Rattle.wire_values.specs.declared.Front.TheVariants as front
-use Rattle.wire_values.specs.declared.PartStep.TheVariants as step
 use Rattle.wire_values.specs.declared.Span.{Span}
 use Rattle.wire_values.specs.Values.{parts_of, last_part_after, last_part}
 use Rattle.wire_values.specs.Places.{front_of, span, front_size, places_by, places_after, places_from, last_place, text_place, PartIs, PlaceIs, NextPart}
@@ -42,31 +41,31 @@ behind n at b l (suc k) h =
     rw (e, f) (skip n (at + 1) k l)
 
 -- a front is broken, or has a length
-data Sized : Front → Type 0 where
-  whole : {q : Front} → 1 ≤ front_size q → Sized q
-  broken : Sized front.Broken
+data Sized : Option Front → Type 0 where
+  whole : {q : Option Front} → 1 ≤ front_size q → Sized q
+  broken : Sized None
 
 module _ (n at : ℕ) where
-  by_front : (b : ℕ) (l : List ℕ) (q : Front) → Sized q
+  by_front : (b : ℕ) (l : List ℕ) (q : Option Front) → Sized q
       → places_by n at q (places_after n (at + 1) (front_size q - 1) l)
       ≡ places_by n at q (places_after n (at + front_size q) 0 (drop (front_size q) (b ∷ l)))
   by_front b l q (whole h) = ap (places_by n at q) (behind n at b l (front_size q) h)
-  by_front b l front.Broken broken = refl
+  by_front b l None broken = refl
 
-  list-step : (l : List ℕ) (q : Front) → 0 < length l → front_of l ≡ q → Sized q
+  list-step : (l : List ℕ) (q : Option Front) → 0 < length l → front_of l ≡ q → Sized q
       → places_after n at 0 l ≡ places_by n at q (places_after n (at + front_size q) 0 (drop (front_size q) l))
   list-step [] q h e z = absurd (let x : ⊥ = omega arith in x)
   list-step (b ∷ l) q h e z = rw e (by_front b l q z)
 
 module _ (s : List ℕ) (at : ℕ) (h : at < length s) where
-  sized : (q : Front) → FrontAt s at q → Sized q
-  sized (front.Number f v size) a = whole a.ahead
-  sized (front.Part f start len) a = whole {q = front.Part f start len} (omega (arith, a.ahead))
-  sized (front.Fixed size) a = whole a.ahead
-  sized front.Broken a = broken
+  sized : (q : Option Front) → FrontAt s at q → Sized q
+  sized (Some (front.Number f v size)) a = whole a.ahead
+  sized (Some (front.Part f start len)) a = whole {q = Some (front.Part f start len)} (omega (arith, a.ahead))
+  sized (Some (front.Fixed size)) a = whole a.ahead
+  sized None a = broken
 
   -- at the front of `&s[at..]`
-  pub places-at : (n : ℕ) (q : Front) → front_of (take (length s - at) (drop at s)) ≡ q
+  pub places-at : (n : ℕ) (q : Option Front) → front_of (take (length s - at) (drop at s)) ≡ q
       → places_from n s at ≡ places_by n at q (places_from n s (at + front_size q))
   unfolding places_from
   places-at n q e =
@@ -75,7 +74,7 @@ module _ (s : List ℕ) (at : ℕ) (h : at < length s) where
 
 -- a part of the field itself, or of another
 module _ (n : ℕ) (s : List ℕ) (at f start len : ℕ)
-    (p : places_from n s at ≡ places_by n at (front.Part f start len) (places_from n s (at + (start + len)))) where
+    (p : places_from n s at ≡ places_by n at (Some (front.Part f start len)) (places_from n s (at + (start + len)))) where
   pub place_same : f ≡ n → places_from n s at ≡ span (at + start) len ∷ places_from n s (at + start + len)
   place_same e = let g : at + start + len ≡ at + (start + len) = omega arith in p ∙ rw (eq-eqb f n e, g)
 
@@ -117,17 +116,17 @@ module _ (n : ℕ) (s : List ℕ) where
   placed_end at h = moved (places-end n s at h) (parts-end n s at h) (record { inside = tt; hold = refl })
 
   module _ (at : ℕ) (h : at < length s) where
-    by_parts : (q : Front) → front_of (take (length s - at) (drop at s)) ≡ q → FrontAt s at q
+    by_parts : (q : Option Front) → front_of (take (length s - at) (drop at s)) ≡ q → FrontAt s at q
         → ((next : ℕ) → at < next → Placed next) → Placed at
-    by_parts (front.Number f v size) e a later =
+    by_parts (Some (front.Number f v size)) e a later =
         moved (places-at s at h n _ e) (a.parts n) (later (at + size) (omega (arith, a.ahead)))
-    by_parts (front.Part f start len) e a later =
+    by_parts (Some (front.Part f start len)) e a later =
         let g : at + start + len ≡ at + (start + len) = omega arith in
         moved (places-at s at h n _ e) (rw g at (a.parts n))
         (one_more (eqb f n) (span (at + start) len) a.inside (later (at + (start + len)) (omega (arith, a.ahead))))
-    by_parts (front.Fixed size) e a later =
+    by_parts (Some (front.Fixed size)) e a later =
         moved (places-at s at h n _ e) (a.parts n) (later (at + size) (omega (arith, a.ahead)))
-    by_parts front.Broken e a later = moved (places-at s at h n _ e) (a.parts n) (record { inside = tt; hold = refl })
+    by_parts None e a later = moved (places-at s at h n _ e) (a.parts n) (record { inside = tt; hold = refl })
 
   placed-within : (k at : ℕ) → length s ≤ at + k → Placed at
   placed-within zero at h = placed_end at (omega arith)
@@ -151,13 +150,13 @@ module _ (n : ℕ) (s : List ℕ) where
 -- ---- the last
 
 module _ (s : List ℕ) (start len : ℕ) where
-  from_place : (p : Span) (ps : List Span) (text : List ℕ) → AllInside s (p ∷ ps) → PlaceIs s (last_place (some p) ps) start len
+  from_place : (p : Span) (ps : List Span) (text : List ℕ) → AllInside s (p ∷ ps) → PlaceIs s (last_place (Some p) ps) start len
       → last_part_after (part_at s p) (map (part_at s) ps) ≡ text → PartIs s text start len
   from_place p [] text i q e =
       record { inside = omega (arith, i.0, q.0, q.1); is-text = ap₂ (λ a b. take b (drop a s)) q.0 q.1 ∙ e }
   from_place p (r ∷ ps) text i q e = from_place r ps text i.1 q e
 
-  from_places : (ps : List Span) → AllInside s ps → PlaceIs s (last_place none ps) start len → PartIs s (last_part (map (part_at s) ps)) start len
+  from_places : (ps : List Span) → AllInside s ps → PlaceIs s (last_place None ps) start len → PartIs s (last_part (map (part_at s) ps)) start len
   from_places [] i q = q
   from_places (p ∷ ps) i q = from_place p ps _ i q refl
 
@@ -177,13 +176,13 @@ pub record Sought (n : ℕ) (s : List ℕ) (at start len : ℕ) : Type 0 where
   pub is : text_place n s ≡ last_place so_far (places_from n s at)
 
 pub sought-start : (n : ℕ) (s : List ℕ) → Sought n s 0 0 0
-sought-start n s = record { so_far = none; there = record { inside = omega arith; is-text = refl }; is = refl }
+sought-start n s = record { so_far = None; there = record { inside = omega arith; is-text = refl }; is = refl }
 
 module _ {n : ℕ} {s : List ℕ} {at start len : ℕ} (h : Sought n s at start len) where
-  pub sought-next : (start' len' next : ℕ) → NextPart n s at (step.Found start' len' next) → Sought n s next start' len'
+  pub sought-next : (start' len' next : ℕ) → NextPart n s at (Some (start', len', next)) → Sought n s next start' len'
   sought-next start' len' next q =
-      record { so_far = some (span start' len'); there = (refl, refl); is = h.is ∙ ap (last_place h.so_far) q.4 }
+      record { so_far = Some (span start' len'); there = (refl, refl); is = h.is ∙ ap (last_place h.so_far) q.4 }
 
-  pub sought-done : NextPart n s at step.Absent → PlaceIs s (text_place n s) start len
+  pub sought-done : NextPart n s at None → PlaceIs s (text_place n s) start len
   sought-done q =
       subst (λ x. PlaceIs s x start len) (sym (h.is ∙ ap (last_place h.so_far) (places-none n s at q))) h.there

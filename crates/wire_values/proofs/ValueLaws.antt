@@ -3,14 +3,13 @@
 -- In order: two rows, one behind the other (`numbers-append`, `parts-append`); the rows of several parts (`numbers-join`, `parts_join`);
 -- the last of two lists, one behind the other (`last-append`).
 -- Assumes nothing.
+use Rattle.std.specs.Prelude.{Option, Some}
 use Prim.Native.Nat.{ℕ}
 use mathlib.Core.Path.{◌≡◌, refl}
 use mathlib.Core.Bool.{Bool, true, false, cond}
 use mathlib.Core.List.{List, [], ◌∷◌, ◌++◌}
 use lib.Dec.{eqb}
 use Rattle.wire.specs.Fields.{number, bytes, fixed, cut, Field, bad_key, field, fields_of}
-use Rattle.wire_values.specs.declared.Last.{Last}
-use Rattle.wire_values.specs.declared.Last.TheVariants as last
 use Rattle.wire_values.specs.Values.{numbers_of, parts_of, last_after, join_fields}
 
 -- ---- two rows
@@ -48,6 +47,6 @@ module _ (k : ℕ) (p : List ℕ) (ps : List (List ℕ)) where
 
 -- ---- the last
 
-pub last-append : (x : Last) (l m : List ℕ) → last_after x (l ++ m) ≡ last_after (last_after x l) m
+pub last-append : (x : Option ℕ) (l m : List ℕ) → last_after x (l ++ m) ≡ last_after (last_after x l) m
 last-append x [] m = refl
-last-append x (v ∷ l) m = last-append (last.Found v) l m
+last-append x (v ∷ l) m = last-append (Some v) l m

@@ -5,11 +5,10 @@
 --
 -- The equations that `kept_next` and `kept-stays` want of what is left are those of FrontLaws: `number_same`, `q.numbers n` ..
 -- Assumes nothing.
+use Rattle.std.specs.Prelude.{Option, Some}
 use Prim.Native.Nat.{ℕ}
 use mathlib.Core.Path.{◌≡◌, refl, sym, ap, ◌∙◌}
 use mathlib.Core.List.{List, [], ◌∷◌, foldl}
-use Rattle.wire_values.specs.declared.Last.{Last}
-use Rattle.wire_values.specs.declared.Last.TheVariants as last
 use Rattle.wire_values.specs.Values.{last_after, last_of, last_part_after, last_part, or_zero}
 
 -- x is kept, left is still to come, and total is what the whole comes to
@@ -34,18 +33,18 @@ abbrev pub later : {A : Type 0} → A → A → A
 later x y = y
 
 -- the later number is kept
-abbrev pub found : Last → ℕ → Last
-found x v = last.Found v
+abbrev pub found : Option ℕ → ℕ → Option ℕ
+found x v = Some v
 
-last-fold : (x : Last) (l : List ℕ) → last_after x l ≡ foldl found x l
+last-fold : (x : Option ℕ) (l : List ℕ) → last_after x l ≡ foldl found x l
 last-fold x [] = refl
-last-fold x (v ∷ l) = last-fold (last.Found v) l
+last-fold x (v ∷ l) = last-fold (Some v) l
 
-pub last-start : (x : Last) (l : List ℕ) → Kept found (last_after x l) x l
+pub last-start : (x : Option ℕ) (l : List ℕ) → Kept found (last_after x l) x l
 last-start x l = record { is = last-fold x l }
 
 -- once a number is found, there is one
-found-fold : (x : ℕ) (l : List ℕ) → last_after (last.Found x) l ≡ last.Found (foldl later x l)
+found-fold : (x : ℕ) (l : List ℕ) → last_after (Some x) l ≡ Some (foldl later x l)
 found-fold x [] = refl
 found-fold x (v ∷ l) = found-fold v l
 

@@ -1,8 +1,7 @@
 -- Public: worked rows: where a text stands, byte by byte. They hold by computation.
 -- Assumes nothing.
-use Rattle.std.specs.Prelude.{ℕ, ◌≡◌, refl, List, [], ◌∷◌}
+use Rattle.std.specs.Prelude.{ℕ, ◌≡◌, refl, List, [], ◌∷◌, Some, None}
 use Rattle.std.proofs.Common.{arith}
-use Rattle.std.proofs.Math.Option.{some, none}
 use Rattle.wire.specs.Varints.{varint_of}
 use Rattle.wire.specs.Field.{key_read, fixed_of, number_body, part_of}
 use Rattle.wire_values.specs.Places.{front_of, span, places_from, text_place, PlaceIs}
@@ -13,12 +12,12 @@ twice = 0x1a ∷ 0x01 ∷ 0x61 ∷ 0x1a ∷ 0x01 ∷ 0x61 ∷ []
 
 pub record Rows : Type 0 where
   -- the last counts, and its place alone
-  pub last-place : text_place 3 twice ≡ some (span 5 1)
+  pub last-place : text_place 3 twice ≡ Some (span 5 1)
   pub no_other : PlaceIs twice (text_place 3 twice) 2 1 → ⊥
   -- behind a number and another field's part
-  pub behind : text_place 3 (0x08 ∷ 0x07 ∷ 0x22 ∷ 0x01 ∷ 0x61 ∷ 0x1a ∷ 0x00 ∷ []) ≡ some (span 7 0)
+  pub behind : text_place 3 (0x08 ∷ 0x07 ∷ 0x22 ∷ 0x01 ∷ 0x61 ∷ 0x1a ∷ 0x00 ∷ []) ≡ Some (span 7 0)
   -- none is there: a number under the text's number, and a part that ends early
-  pub absent : text_place 3 (0x18 ∷ 0x01 ∷ 0x1a ∷ 0x02 ∷ 0x61 ∷ []) ≡ none
+  pub absent : text_place 3 (0x18 ∷ 0x01 ∷ 0x1a ∷ 0x02 ∷ 0x61 ∷ []) ≡ None
 
 pub rows : Rows
 unfolding places_from front_of varint_of key_read fixed_of number_body part_of

@@ -4,10 +4,8 @@
 -- message given twice is merged: scalars by the last, repeated parts appended" (02 b): the last is `last_of` and `last_part`; the fields of a singular message are
 -- those of all its parts, in order (`merged_fields`). Of a oneof the last member counts (`member_of`). All this is said here, and asked of no earlier pass.
 -- Assumes nothing.
-use Rattle.std.specs.Prelude.{ℕ, Bool, true, false, cond, List, [], ◌∷◌, ◌++◌, eqb}
+use Rattle.std.specs.Prelude.{ℕ, Bool, true, false, cond, List, [], ◌∷◌, ◌++◌, eqb, Option, Some, None}
 use Rattle.wire.specs.Fields.{number, bytes, fixed, cut, Field, bad_key, field, fields_of}
-use Rattle.wire_values.specs.declared.Last.{Last}
-use Rattle.wire_values.specs.declared.Last.TheVariants as last
 
 -- the numbers that field n holds, each time that it comes
 abbrev pub numbers_of : ℕ → List Field → List ℕ
@@ -33,12 +31,12 @@ present [] = false
 present (x ∷ l) = true
 
 -- the last of the numbers, or what was there before them
-abbrev pub last_after : Last → List ℕ → Last
+abbrev pub last_after : Option ℕ → List ℕ → Option ℕ
 last_after x [] = x
-last_after x (v ∷ l) = last_after (last.Found v) l
+last_after x (v ∷ l) = last_after (Some v) l
 
-abbrev pub last_of : List ℕ → Last
-last_of l = last_after last.Absent l
+abbrev pub last_of : List ℕ → Option ℕ
+last_of l = last_after None l
 
 -- the last of the parts, or what was there before them
 abbrev pub last_part_after : List ℕ → List (List ℕ) → List ℕ
@@ -59,9 +57,9 @@ abbrev pub merged_fields : ℕ → List Field → List Field
 merged_fields n fs = join_fields (parts_of n fs)
 
 -- a number that may be absent; 0 where it is
-abbrev pub or_zero : Last → ℕ
-or_zero (last.Found v) = v
-or_zero last.Absent = 0
+abbrev pub or_zero : Option ℕ → ℕ
+or_zero (Some v) = v
+or_zero None = 0
 
 -- the number of field n, 0 where it is absent
 abbrev pub number_in : ℕ → List Field → ℕ

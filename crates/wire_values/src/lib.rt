@@ -10,7 +10,7 @@ ghost use Rattle.wire_values.specs.Integers.{uint32_of, int32_of};
 ghost use Rattle.wire_values.specs.Places.{front_of, text_place, NextPart, PlaceIs, Inside, inner_from, NextInner};
 ghost use Rattle.wire_values.specs.Values.{numbers_of, parts_of, present, last_after, last_of, last_part, merged_fields, or_zero, number_in};
 
-use wire::{Body, Key};
+use wire::Body;
 
 // The field at the front of a part.
 #[derive(Clone, Copy)]
@@ -21,62 +21,53 @@ pub enum Front {
     Part(u64, usize, usize),
     // The field's length.
     Fixed(usize),
-    // Its key, its length or its value is broken.
-    Broken,
 }
 
-pub fn read_front(s: &[u8]) -> Front
+pub fn read_front(s: &[u8]) -> Option<Front>
     ensures { result ≡ front_of s.now }
 {
-    let Key::Found(f, w, n) = wire::read_key(s) else {
-        return Front::Broken;
+    let Some((f, w, n)) = wire::read_key(s) else {
+        return None;
     };
     match wire::read_body(w, &s[n..]) {
-        Body::Number(v, m) => Front::Number(f, v, n + m),
-        Body::Part(m, len) => Front::Part(f, n + m, len),
-        Body::Fixed(m) => Front::Fixed(n + m),
-        Body::Broken => Front::Broken,
+        Some(Body::Number(v, m)) => Some(Front::Number(f, v, n + m)),
+        Some(Body::Part(m, len)) => Some(Front::Part(f, n + m, len)),
+        Some(Body::Fixed(m)) => Some(Front::Fixed(n + m)),
+        None => None,
     }
 }
 
-// A number that may be absent.
-#[derive(Clone, Copy)]
-pub enum Last {
-    Found(u64),
-    Absent,
-}
-
 // The number, 0 where it is absent.
-fn or_zero(last: Last) -> u64
+fn or_zero(last: Option<u64>) -> u64
     ensures { result ≡ or_zero last }
 {
     match last {
-        Last::Found(v) => v,
-        Last::Absent => 0,
+        Some(v) => v,
+        None => 0,
     }
 }
 
 // The last number of field n, or the one before.
-fn last_after(s: &[u8], n: u64, before: Last) -> Last
+fn last_after(s: &[u8], n: u64, before: Option<u64>) -> Option<u64>
     ensures { result ≡ last_after before (numbers_of n (fields_of s.now)) }
 {
     let mut last = before;
     let mut at: usize = 0;
     while at < s.len() {
         match read_front(&s[at..]) {
-            Front::Broken => {
+            None => {
                 return last;
             }
-            Front::Number(f, v, size) => {
+            Some(Front::Number(f, v, size)) => {
                 if f == n {
-                    last = Last::Found(v);
+                    last = Some(v);
                 }
                 at = at + size;
             }
-            Front::Part(_, start, len) => {
+            Some(Front::Part(_, start, len)) => {
                 at = at + start + len;
             }
-            Front::Fixed(size) => {
+            Some(Front::Fixed(size)) => {
                 at = at + size;
             }
         }
@@ -85,10 +76,10 @@ fn last_after(s: &[u8], n: u64, before: Last) -> Last
 }
 
 // The last number of field n.
-pub fn last_number(s: &[u8], n: u64) -> Last
+pub fn last_number(s: &[u8], n: u64) -> Option<u64>
     ensures { result ≡ last_of (numbers_of n (fields_of s.now)) }
 {
-    last_after(s, n, Last::Absent)
+    last_after(s, n, None)
 }
 
 // The last number of field n, 0 where there is none.
@@ -98,40 +89,33 @@ pub fn number(s: &[u8], n: u64) -> u64
     or_zero(last_number(s, n))
 }
 
-// The next part of a field: where it starts, its length, and the place behind it.
-#[derive(Clone, Copy)]
-pub enum PartStep {
-    Found(usize, usize, usize),
-    Absent,
-}
-
 // The next part of field n from a place on.
-pub fn next_part(s: &[u8], from: usize, n: u64) -> PartStep
+pub fn next_part(s: &[u8], from: usize, n: u64) -> Option<(usize, usize, usize)>
     ensures { NextPart n s.now from result }
 {
     let mut at = from;
     while at < s.len() {
         match read_front(&s[at..]) {
-            Front::Broken => {
-                return PartStep::Absent;
+            None => {
+                return None;
             }
-            Front::Number(_, _, size) => {
+            Some(Front::Number(_, _, size)) => {
                 at = at + size;
             }
-            Front::Part(f, start, len) => {
+            Some(Front::Part(f, start, len)) => {
                 let begin = at + start;
                 let end = begin + len;
                 if f == n {
-                    return PartStep::Found(begin, len, end);
+                    return Some((begin, len, end));
                 }
                 at = end;
             }
-            Front::Fixed(size) => {
+            Some(Front::Fixed(size)) => {
                 at = at + size;
             }
         }
     }
-    PartStep::Absent
+    None
 }
 
 // Whether field n has a part.
@@ -139,8 +123,8 @@ pub fn has_part(s: &[u8], n: u64) -> bool
     ensures { result ≡ present (parts_of n (fields_of s.now)) }
 {
     match next_part(s, 0, n) {
-        PartStep::Found(_, _, _) => true,
-        PartStep::Absent => false,
+        Some((_, _, _)) => true,
+        None => false,
     }
 }
 
@@ -160,10 +144,10 @@ pub fn last_part(s: &[u8], n: u64) -> Span
     let mut length: usize = 0;
     loop {
         match next_part(s, at, n) {
-            PartStep::Absent => {
+            None => {
                 return Span { start, length };
             }
-            PartStep::Found(from, len, next) => {
+            Some((from, len, next)) => {
                 start = from;
                 length = len;
                 at = next;
@@ -186,14 +170,14 @@ pub fn text<'m, 's>(message: &'m [u8], store: &'s [u8], n: u64) -> &'m [u8]
 pub fn inner_number(m: &[u8], n: u64, k: u64) -> u64
     ensures { result ≡ number_in k (merged_fields n (fields_of m.now)) }
 {
-    let mut last = Last::Absent;
+    let mut last = None;
     let mut at: usize = 0;
     loop {
         match next_part(m, at, n) {
-            PartStep::Absent => {
+            None => {
                 return or_zero(last);
             }
-            PartStep::Found(start, _, end) => {
+            Some((start, _, end)) => {
                 last = last_after(&m[start..end], k, last);
                 at = end;
             }
@@ -210,13 +194,6 @@ pub struct Cursor {
     pub end: usize,
 }
 
-// The next part: where it starts, its length, and the cursor behind it.
-#[derive(Clone, Copy)]
-pub enum InnerStep {
-    Found(usize, usize, Cursor),
-    Absent,
-}
-
 // The cursor before the first part.
 pub fn first_inner() -> Cursor
     ensures { result ≡ record { outer = 0; at = 0; end = 0 } }
@@ -229,7 +206,7 @@ pub fn first_inner() -> Cursor
 }
 
 // The next part of field k in the singular message of field n.
-pub fn next_inner(m: &[u8], n: u64, k: u64, c: Cursor) -> InnerStep
+pub fn next_inner(m: &[u8], n: u64, k: u64, c: Cursor) -> Option<(usize, usize, Cursor)>
     requires { Inside m.now c }
     ensures { NextInner n k m.now c result }
 {
@@ -238,8 +215,8 @@ pub fn next_inner(m: &[u8], n: u64, k: u64, c: Cursor) -> InnerStep
     let mut end = c.end;
     loop {
         match next_part(&m[..end], at, k) {
-            PartStep::Found(start, len, next) => {
-                return InnerStep::Found(
+            Some((start, len, next)) => {
+                return Some((
                     start,
                     len,
                     Cursor {
@@ -247,13 +224,13 @@ pub fn next_inner(m: &[u8], n: u64, k: u64, c: Cursor) -> InnerStep
                         at: next,
                         end,
                     },
-                );
+                ));
             }
-            PartStep::Absent => match next_part(m, outer, n) {
-                PartStep::Absent => {
-                    return InnerStep::Absent;
+            None => match next_part(m, outer, n) {
+                None => {
+                    return None;
                 }
-                PartStep::Found(start, len, next) => {
+                Some((start, len, next)) => {
                     at = start;
                     end = start + len;
                     outer = next;
@@ -270,19 +247,19 @@ fn seek_part(s: &[u8], from: usize, n: u64) -> usize
     let mut at = from;
     while at < s.len() {
         match read_front(&s[at..]) {
-            Front::Broken => {
+            None => {
                 return at;
             }
-            Front::Number(_, _, size) => {
+            Some(Front::Number(_, _, size)) => {
                 at = at + size;
             }
-            Front::Part(f, start, len) => {
+            Some(Front::Part(f, start, len)) => {
                 if f == n {
                     return at;
                 }
                 at = at + (start + len);
             }
-            Front::Fixed(size) => {
+            Some(Front::Fixed(size)) => {
                 at = at + size;
             }
         }
@@ -308,10 +285,10 @@ pub fn seek_inner(m: &[u8], n: u64, k: u64, c: Cursor) -> Cursor
             };
         }
         match next_part(m, outer, n) {
-            PartStep::Absent => {
+            None => {
                 return Cursor { outer, at, end };
             }
-            PartStep::Found(start, len, next) => {
+            Some((start, len, next)) => {
                 at = start;
                 end = start + len;
                 outer = next;

@@ -4,6 +4,7 @@
 -- In order: how many bytes a varint has (`length-varint-pos`, `length-varint-le`); a varint (`varint-reads`); a key (`number-key-reads`,
 -- `part-key-reads`, both from `key_reads`); a field, and the fields behind it (`number-reads`, `part-reads`).
 -- Assumes nothing.
+use Rattle.std.specs.Prelude.{Some}
 use Prim.Native.Nat.{ℕ, zero, suc, ◌+◌, ◌-◌, ◌*◌, ◌/◌, ◌%◌, ◌^◌, ◌≤◌, ◌<◌}
 use native.Mathlib.Numerals.{add-one}
 use native.Mathlib.Omega.{arith}
@@ -11,9 +12,7 @@ use mathlib.Core.Path.{◌≡◌, refl, ap, ◌∙◌}
 use mathlib.Core.List.{List, ◌∷◌, ◌++◌, append_assoc}
 use lib.ListN.{length, take, drop, length-append}
 use lib.Seq.{take-append_seam, drop-append_seam, drop-append-add}
-use Rattle.wire.specs.declared.varint.Varint.TheVariants as varint
 use Rattle.wire.specs.declared.WireType.TheVariants as type
-use Rattle.wire.specs.declared.Key.TheVariants as key
 use Rattle.wire.specs.declared.Body.TheVariants as body
 use Rattle.wire.specs.Varints.{more, varint_within, varint_of}
 use Rattle.wire.specs.Field.{typed_key, key_read, body_of}
@@ -40,23 +39,23 @@ front-pos v r = omega (arith, length-append (varint_bytes v) r, length-varint-po
 -- ---- a varint
 
 -- the low seven bits in front of the others
-more-reads : (v n : ℕ) → more (v % 128 + 128) (varint.Value (v / 128) n) ≡ varint.Value v (suc n)
+more-reads : (v n : ℕ) → more (v % 128 + 128) (Some (v / 128, n)) ≡ Some (v, suc n)
 more-reads v n =
     let e : (v % 128 + 128 - 128) + 128 * (v / 128) ≡ v = omega arith in
     cc (add-one n)
 
 within-reads : (k v : ℕ) (r : List ℕ) → v < 2 ^ (7 * k + 1)
-    → varint_within (suc k) (varint_bytes_within (suc k) v ++ r) ≡ varint.Value v (length (varint_bytes_within (suc k) v))
+    → varint_within (suc k) (varint_bytes_within (suc k) v ++ r) ≡ Some (v, length (varint_bytes_within (suc k) v))
 within-reads zero v r h =
-    bytes-cases (λ l. varint_within 1 (l ++ r) ≡ varint.Value v (length l)) zero v (λ g. within-last v r (omega arith))
+    bytes-cases (λ l. varint_within 1 (l ++ r) ≡ Some (v, length l)) zero v (λ g. within-last v r (omega arith))
     (λ g. absurd (let z : ⊥ = omega arith in z))
 within-reads (suc k) v r h =
     let W : List ℕ = varint_bytes_within (suc k) (v / 128) in
     let p = within-reads k (v / 128) r (room_next k v h) in
-    bytes-cases (λ l. varint_within (suc (suc k)) (l ++ r) ≡ varint.Value v (length l)) (suc k) v (λ g. within-ends v r k g)
+    bytes-cases (λ l. varint_within (suc (suc k)) (l ++ r) ≡ Some (v, length l)) (suc k) v (λ g. within-ends v r k g)
     (λ g. within_more (v % 128 + 128) (W ++ r) (suc k) (omega arith) ∙ ap (more (v % 128 + 128)) p ∙ more-reads v (length W))
 
-pub varint-reads : (v : ℕ) (r : List ℕ) → v < 2 ^ 64 → varint_of (varint_bytes v ++ r) ≡ varint.Value v (length (varint_bytes v))
+pub varint-reads : (v : ℕ) (r : List ℕ) → v < 2 ^ 64 → varint_of (varint_bytes v ++ r) ≡ Some (v, length (varint_bytes v))
 unfolding varint_bytes varint_of
 varint-reads v r h = within-reads 9 v r h
 
@@ -72,10 +71,10 @@ key_reads f t k r e s h g =
     ∙ ap (λ (n : ℕ). typed_key n t (length (varint_bytes k))) d
 
 module _ (f : ℕ) (h : 1 ≤ f) (g : f < 2 ^ 29) where
-  pub number-key-reads : (r : List ℕ) → key_read (number_key f ++ r) ≡ key.Found f type.Varint (length (number_key f))
+  pub number-key-reads : (r : List ℕ) → key_read (number_key f ++ r) ≡ Some (f, type.Varint, length (number_key f))
   number-key-reads r = key_reads f 0 (8 * f) r (omega arith) (omega arith) h g
 
-  pub part-key-reads : (r : List ℕ) → key_read (part_key f ++ r) ≡ key.Found f type.Len (length (part_key f))
+  pub part-key-reads : (r : List ℕ) → key_read (part_key f ++ r) ≡ Some (f, type.Len, length (part_key f))
   part-key-reads r = key_reads f 2 (8 * f + 2) r refl (omega arith) h g
 
   -- ---- a field, and those behind it
@@ -85,7 +84,7 @@ module _ (f : ℕ) (h : 1 ≤ f) (g : f < 2 ^ 29) where
   number-reads v r b =
       let K : List ℕ = number_key f in
       let W : List ℕ = varint_bytes v in
-      let says : body_of type.Varint (drop (length K) (K ++ (W ++ r))) ≡ body.Number v (length W) =
+      let says : body_of type.Varint (drop (length K) (K ++ (W ++ r))) ≡ Some (body.Number v (length W)) =
       ap (body_of type.Varint) (drop-append_seam K (W ++ r)) ∙ number-value (W ++ r) v (length W) (varint-reads v r b) in
       let behind : drop (length K + length W) (K ++ (W ++ r)) ≡ r = drop-append-add K (W ++ r) (length W) ∙ drop-append_seam W r in
       ap fields_of (append_assoc K W r)
@@ -99,7 +98,7 @@ module _ (f : ℕ) (h : 1 ≤ f) (g : f < 2 ^ 29) where
       let N : List ℕ = varint_bytes (length p) in
       let M : List ℕ = N ++ (p ++ r) in
       let room : length N + length p ≤ length M = omega (arith, length-append N (p ++ r), length-append p r) in
-      let says : body_of type.Len (drop (length K) (K ++ M)) ≡ body.Part (length N) (length p) =
+      let says : body_of type.Len (drop (length K) (K ++ M)) ≡ Some (body.Part (length N) (length p)) =
       ap (body_of type.Len) (drop-append_seam K M) ∙ part-fits M (length p) (length N) (varint-reads (length p) (p ++ r) b) room in
       let held : take (length p) (drop (length N) (drop (length K) (K ++ M))) ≡ p =
       ap (λ (l : List ℕ). take (length p) (drop (length N) l)) (drop-append_seam K M)

@@ -5,6 +5,7 @@
 -- (`message-length`, `message-short`); the records in pieces (`fields_at`, `fields-none`), and the loop that counts their bytes up to a limit
 -- (`Counted`: `counted_start`, `counted-beyond`, `counted_next`, `counted-end`).
 -- Assumes nothing.
+use Rattle.std.specs.Prelude.{Some, None}
 use Prim.Native.Nat.{ℕ, ◌+◌, ◌-◌, ◌*◌, ◌≤◌, ◌<◌}
 use native.Mathlib.Omega.{arith}
 use mathlib.Core.Path.{◌≡◌, refl, ap, ◌∙◌}
@@ -21,7 +22,6 @@ use Rattle.packed.proofs.RoundLaws.{fit-segment}
 use Rattle.name_topic.specs.Names.{segment_topic}
 use Rattle.writer_message.specs.Message.{range_message, bucket_fields, segment_message, segment_fields}
 use Rattle.writer.specs.Write.{room_of}
-use Rattle.writer.specs.declared.Room.TheVariants.{Size, Beyond}
 use Rattle.writer.proofs.SizeLaws.{length_part, buckets-short, length-segment, segment-short}
 use Rattle.writer.proofs.WritingLaws.{flat}
 
@@ -160,7 +160,7 @@ module _ (path s : List ℕ) (at m limit size p left : ℕ) (w : Counted path s 
           ap (λ (n : ℕ). length (part_head 2 n)) k,
         )
 
-    pub counted-beyond : limit - size < head + len → Beyond ≡ room_of limit path (decode_segments m (drop at s))
+    pub counted-beyond : limit - size < head + len → None ≡ room_of limit path (decode_segments m (drop at s))
     unfolding room_of
     counted-beyond b =
         let total : ℕ = length (segment_fields path (decode_segments m (drop at s))) in
@@ -175,7 +175,7 @@ module _ (path s : List ℕ) (at m limit size p left : ℕ) (w : Counted path s 
           whole = omega (arith, w.whole, counted-turn z e);
         }
 
-  pub counted-end : left ≤ 0 → Size size ≡ room_of limit path (decode_segments m (drop at s))
+  pub counted-end : left ≤ 0 → Some size ≡ room_of limit path (decode_segments m (drop at s))
   unfolding room_of
   counted-end h =
       let total : ℕ = length (segment_fields path (decode_segments m (drop at s))) in

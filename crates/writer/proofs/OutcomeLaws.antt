@@ -4,13 +4,13 @@
 -- that does (`Fits`: `message-room`, `message-written`); the message of a packed assignment (`whole-message`);
 -- the cases of `write_outcome` (`write-malformed`, `write-empty`, `write-not-utf8`, `write-no-parent`, `write-below`).
 -- Assumes nothing.
+use Rattle.std.specs.Prelude.{Option, Some, None, Result, Ok, Err}
 use Prim.Native.Nat.{ℕ, ◌+◌, ◌-◌, ◌≤◌, ◌<◌}
 use native.Mathlib.Nat.{not-suc-le-zero}
 use native.Mathlib.Omega.{arith}
 use mathlib.Core.Path.{◌≡◌, refl, sym, ap, ◌∙◌}
 use mathlib.Core.Bool.{true, false, cond}
 use mathlib.Core.List.{List, [], ◌∷◌, ◌++◌}
-use mathlib.Core.Option.{Option, some, none}
 use lib.ListN.{length, drop, length-append}
 use lib.Dec.{leb}
 use borrow.Author.Tests.{le-leb, lt-leb, leb-true, leb-false}
@@ -21,39 +21,33 @@ use Rattle.utf8.specs.Table.{is_utf8}
 use Rattle.slice_int.specs.Put.{put}
 use Rattle.name_topic.specs.Build as build
 use Rattle.name_parents.specs.Parents.{is_parent, path_of}
-use Rattle.name_topic.specs.declared.NameAnswer.{NameAnswer}
-use Rattle.name_topic.specs.declared.NameAnswer.TheVariants as name
-use Rattle.output.specs.declared.WriteAnswer.TheVariants.{Written}
 use Rattle.output.specs.Output.{Outcome, outcome, refuse, written}
 use Rattle.wire_writer.specs.Encode.{number_field}
-use Rattle.packed.specs.declared.Packed.TheVariants as packed
 use Rattle.packed.specs.Answers.{whole_read}
 use Rattle.packed.specs.Assignment.{AssignedSegment, num, decode_segments, decode_assignment}
 use Rattle.packed.proofs.WholeLaws.{Whole, not-assignment}
 use Rattle.writer_message.specs.Message.{segment_fields, assignment_message}
 use Rattle.intake_content.specs.Content.{outside_in}
-use Rattle.writer.specs.declared.Held.TheVariants as held
 use Rattle.writer.specs.Write.{with_parent, write_outcome, held_of, room_of}
-use Rattle.writer.specs.declared.Room.TheVariants.{Size, Beyond}
 
 -- ---- a name that fits into o
 
 module _ (text o last : List ℕ) (h : length text ≤ length o) where
-  name-fits : (a : NameAnswer) → build.name_outcome a last ≡ build.written text o → (a ≡ name.Written (length text)) × (last ≡ put o 0 text)
+  name-fits : (a : Result ℕ Refusal) → build.name_outcome a last ≡ build.written text o → (a ≡ Ok (length text)) × (last ≡ put o 0 text)
   unfolding build.written
   name-fits a e =
-      let f : build.name_outcome a last ≡ build.name_outcome (name.Written (length text)) (put o 0 text) = e ∙ rw (le-leb (length text) (length o) h) in
+      let f : build.name_outcome a last ≡ build.name_outcome (Ok (length text)) (put o 0 text) = e ∙ rw (le-leb (length text) (length o) h) in
       (ap (λ (x : build.NameOutcome). x.answer) f, ap (λ (x : build.NameOutcome). x.out) f)
 
-  pub name-written : (n : ℕ) → build.name_outcome (name.Written n) last ≡ build.written text o → (n ≡ length text) × (last ≡ put o 0 text)
+  pub name-written : (n : ℕ) → build.name_outcome (Ok n) last ≡ build.written text o → (n ≡ length text) × (last ≡ put o 0 text)
   name-written n e =
-      let f : (name.Written n ≡ name.Written (length text)) × (last ≡ put o 0 text) = name-fits (name.Written n) e in
+      let f : (Ok n ≡ Ok (length text)) × (last ≡ put o 0 text) = name-fits (Ok n) e in
       let k : n ≡ length text = cc in
       (k, f.1)
 
-  pub name-refused : (x : Refusal) → build.name_outcome (name.Refused x) last ≡ build.written text o → ⊥
+  pub name-refused : (x : Refusal) → build.name_outcome (Err x) last ≡ build.written text o → ⊥
   name-refused x e =
-      let f : (name.Refused x ≡ name.Written (length text)) × (last ≡ put o 0 text) = name-fits (name.Refused x) e in
+      let f : (Err x ≡ Ok (length text)) × (last ≡ put o 0 text) = name-fits (Err x) e in
       let z : ◌≡◌ {A = ℕ} 0 1 = cc in
       omega arith
 
@@ -76,13 +70,13 @@ module _ (path : List ℕ) (gs : List AssignedSegment) (epoch o : List ℕ) wher
   message-no-head h = too_long (omega arith)
 
   module _ (head : ℕ) (e : head ≡ length epoch) (h : head ≤ length o) where
-    pub message-beyond : Beyond ≡ room_of (length o - head) path gs → refuse ResultTooLong o ≡ written (epoch ++ segment_fields path gs) o
+    pub message-beyond : None ≡ room_of (length o - head) path gs → refuse ResultTooLong o ≡ written (epoch ++ segment_fields path gs) o
     unfolding room_of
     message-beyond r =
         let p = cond-second (leb (length (segment_fields path gs)) (length o - head)) _ _ _ (λ q. let o : ◌≡◌ {A = ℕ} 0 1 = cc in omega arith) (sym r) in
         too_long (omega (arith, leb-false (length (segment_fields path gs)) (length o - head) p.0))
 
-    pub message-room : (n : ℕ) → Size n ≡ room_of (length o - head) path gs → Fits path gs epoch o head n
+    pub message-room : (n : ℕ) → Some n ≡ room_of (length o - head) path gs → Fits path gs epoch o head n
     unfolding room_of
     message-room n r =
         let p = cond-first (leb (length (segment_fields path gs)) (length o - head)) _ _ _ (λ q. let o : ◌≡◌ {A = ℕ} 0 1 = cc in omega arith) (sym r) in
@@ -93,7 +87,7 @@ module _ (path : List ℕ) (gs : List AssignedSegment) (epoch o : List ℕ) wher
         record { whole = omega arith; size = omega arith; room = omega arith }
 
   pub message-written : (head n : ℕ) → Fits path gs epoch o head n → (q : List ℕ) → q ≡ put o 0 (epoch ++ segment_fields path gs)
-      → outcome (Written (head + n)) q ≡ written (epoch ++ segment_fields path gs) o
+      → outcome (Ok (head + n)) q ≡ written (epoch ++ segment_fields path gs) o
   unfolding written
   message-written head n w q f =
       let m : length (epoch ++ segment_fields path gs) ≤ length o = omega (arith, w.room) in
@@ -114,7 +108,7 @@ with-parent parent [] x o h = absurd (not-suc-le-zero h)
 with-parent parent (g ∷ gs) x o h = refl
 
 module _ (s parent o : List ℕ) where
-  pub write-malformed : packed.Malformed ≡ whole_read s → refuse MalformedInput o ≡ write_outcome s parent o
+  pub write-malformed : None ≡ whole_read s → refuse MalformedInput o ≡ write_outcome s parent o
   unfolding write_outcome
   write-malformed e = rw (not-assignment s e)
 
@@ -129,23 +123,23 @@ module _ (s parent o : List ℕ) where
     outside-is : outside_in (decode_assignment s).segments ≡ outside_in (decode_segments n (drop 10 s))
     outside-is = ap outside_in w.segments-are
 
-    pub write-outside : (x : Refusal) → held.Refused x ≡ held_of (outside_in (decode_segments n (drop 10 s))) → refuse x o ≡ write_outcome s parent o
+    pub write-outside : (x : Refusal) → Err x ≡ held_of (outside_in (decode_segments n (drop 10 s))) → refuse x o ≡ write_outcome s parent o
     unfolding write_outcome
     write-outside x e =
-        let q : outside_in (decode_assignment s).segments ≡ some x = outside-is ∙ found (outside_in (decode_segments n (drop 10 s))) e in
+        let q : outside_in (decode_assignment s).segments ≡ Some x = outside-is ∙ found (outside_in (decode_segments n (drop 10 s))) e in
         sym (rw (w.is-assignment, q))
       where
-        found : (v : Option Refusal) → held.Refused x ≡ held_of v → v ≡ some x
-        found none f = cc
-        found (some y) f = cc
+        found : (v : Option Refusal) → Err x ≡ held_of v → v ≡ Some x
+        found None f = cc
+        found (Some y) f = cc
 
-    module _ (h : 0 < n) (i : held.Inside ≡ held_of (outside_in (decode_segments n (drop 10 s)))) where
-      none-outside : outside_in (decode_assignment s).segments ≡ none
+    module _ (h : 0 < n) (i : (Ok record {}) ≡ held_of (outside_in (decode_segments n (drop 10 s)))) where
+      none-outside : outside_in (decode_assignment s).segments ≡ None
       none-outside = outside-is ∙ go (outside_in (decode_segments n (drop 10 s))) i
         where
-          go : (v : Option Refusal) → held.Inside ≡ held_of v → v ≡ none
-          go none f = refl
-          go (some y) f = cc
+          go : (v : Option Refusal) → (Ok record {}) ≡ held_of v → v ≡ None
+          go None f = refl
+          go (Some y) f = cc
 
       behind : write_outcome s parent o
           ≡ cond (is_utf8 parent)

@@ -3,22 +3,19 @@
 -- In order: a segment's buckets one by one (`Within`: `within-start`, `within_low`, `within-high`, `within-next`, `within_end`); a record
 -- (`outside-at`); the records one by one (`Held`: `held_start`, `held_found`, `held_next`, `held-end`).
 -- Assumes nothing.
+use Rattle.std.specs.Prelude.{Option, Some, None, Ok, Err}
 use Prim.Native.Nat.{ℕ, ◌+◌, ◌-◌, ◌*◌, ◌≤◌, ◌<◌}
 use native.Mathlib.Omega.{arith}
 use mathlib.Core.Path.{◌≡◌, refl, sym, ap, ◌∙◌}
 use mathlib.Core.List.{List, ◌∷◌}
-use mathlib.Core.Option.{Option}
 use lib.ListN.{drop}
 use Rattle.topic_types.specs.declared.KeyRange.{KeyRange}
 use Rattle.refusal.specs.declared.Refusal.TheVariants.{BucketOutsideSegment}
 use Rattle.slice_int.specs.Be.{be_at}
 use Rattle.packed.specs.Assignment.{AssignedSegment, decode_range, decode_ranges, decode_segment, decode_segments, size_segment}
 use Rattle.packed.proofs.AssignmentLaws.{ranges-at, ranges-none, segment-at, segments-at, Rest, rest-next}
-use Rattle.intake_content.specs.declared.Outside.{Outside}
-use Rattle.intake_content.specs.declared.Outside.TheVariants.{At, Nothing}
 use Rattle.intake_content.specs.Content.{first_outside, outside_in, outside_of}
 use Rattle.intake_content.proofs.OutsideLaws.{outside_low, outside_high, outside-next, place_found, place_none}
-use Rattle.writer.specs.declared.Held.TheVariants as held
 use Rattle.writer.specs.Write.{outside_at, held_of}
 
 -- ---- a segment's buckets
@@ -39,7 +36,7 @@ within-start s at n range =
     }
 
 module _ {s : List ℕ} {at n : ℕ} {range : KeyRange} {index p : ℕ} (W : Within s at n range index p) where
-  pub within_end : n ≤ index → Nothing ≡ outside_of (first_outside range 0 (decode_ranges n (drop at s)))
+  pub within_end : n ≤ index → None ≡ outside_of (first_outside range 0 (decode_ranges n (drop at s)))
   unfolding first_outside
   within_end h =
       sym (ap outside_of (W.left ∙ ap (first_outside range index) (ranges-none (n - index) (drop p s) (omega arith))))
@@ -51,11 +48,11 @@ module _ {s : List ℕ} {at n : ℕ} {range : KeyRange} {index p : ℕ} (W : Wit
     range-opened : first_outside range 0 (decode_ranges n (drop at s)) ≡ first_outside range index (k ∷ decode_ranges (n - index - 1) (drop (p + 4) s))
     range-opened = W.left ∙ ap (first_outside range index) next-is
 
-    pub within_low : k.start < range.start → At index ≡ outside_of (first_outside range 0 (decode_ranges n (drop at s)))
+    pub within_low : k.start < range.start → Some index ≡ outside_of (first_outside range 0 (decode_ranges n (drop at s)))
     within_low l = sym (ap outside_of (range-opened ∙ outside_low range index k _ l))
 
     module _ (l : range.start ≤ k.start) where
-      pub within-high : range.end < k.end → At index ≡ outside_of (first_outside range 0 (decode_ranges n (drop at s)))
+      pub within-high : range.end < k.end → Some index ≡ outside_of (first_outside range 0 (decode_ranges n (drop at s)))
       within-high i = sym (ap outside_of (range-opened ∙ outside_high range index k _ l i))
 
       pub within-next : k.end ≤ range.end → Within s at n range (index + 1) (p + 4)
@@ -66,7 +63,7 @@ module _ {s : List ℕ} {at n : ℕ} {range : KeyRange} {index p : ℕ} (W : Wit
 -- ---- a record
 
 -- with the range r and n buckets
-pub outside-at : (s : List ℕ) (p : ℕ) (r : KeyRange) (n : ℕ) {x : Outside} → r ≡ decode_range (drop (p + 8) s) → n ≡ be_at 2 s (p + 12)
+pub outside-at : (s : List ℕ) (p : ℕ) (r : KeyRange) (n : ℕ) {x : Option ℕ} → r ≡ decode_range (drop (p + 8) s) → n ≡ be_at 2 s (p + 12)
     → x ≡ outside_of (first_outside r 0 (decode_ranges n (drop (p + 14) s))) → x ≡ outside_at (decode_segment (drop p s))
 outside-at s p r n er en q = q ∙ sym (ap outside_at (segment-at s p (be_at 8 s p) r n refl er en))
 
@@ -81,7 +78,7 @@ pub held_start : (s : List ℕ) (at m : ℕ) → Rest s at m → Held s at m at 
 held_start s at m r = record { rest = r; others = refl }
 
 module _ {s : List ℕ} {at m p left : ℕ} (H : Held s at m p left) where
-  pub held-end : left ≤ 0 → held.Inside ≡ held_of (outside_in (decode_segments m (drop at s)))
+  pub held-end : left ≤ 0 → (Ok record {}) ≡ held_of (outside_in (decode_segments m (drop at s)))
   unfolding outside_in decode_segments
   held-end h =
       let e : left ≡ 0 = omega arith in
@@ -98,12 +95,12 @@ module _ {s : List ℕ} {at m p left : ℕ} (H : Held s at m p left) where
         → outside_in (decode_segments m (drop at s)) ≡ outside_in (here ∷ decode_segments (left - 1) (drop (p + z) s))
     opened z e = H.others ∙ ap outside_in (segments-at s p left z h e)
 
-    pub held_found : {i : ℕ} {id : ℕ} → At i ≡ outside_at here → id ≡ here.segment_id
-        → held.Refused (BucketOutsideSegment (record { 0 = id }) i) ≡ held_of (outside_in (decode_segments m (drop at s)))
+    pub held_found : {i : ℕ} {id : ℕ} → Some i ≡ outside_at here → id ≡ here.segment_id
+        → Err (BucketOutsideSegment (record { 0 = id }) i) ≡ held_of (outside_in (decode_segments m (drop at s)))
     unfolding outside_in
     held_found {i} {id} e f = sym (ap held_of (opened (size_segment here) refl) ∙ rw (place_found place i e, ← f))
 
-    pub held_next : Nothing ≡ outside_at here → (z : ℕ) → z ≡ size_segment here → Held s at m (p + z) (left - 1)
+    pub held_next : None ≡ outside_at here → (z : ℕ) → z ≡ size_segment here → Held s at m (p + z) (left - 1)
     unfolding outside_in
     held_next e z f =
         record {

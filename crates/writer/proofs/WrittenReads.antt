@@ -2,13 +2,13 @@
 -- (`passed`, by `from-test`, `from-inside`, `from-parent`, `from-room`) and what stands at the output's front
 -- (`front`), and what passed them reads back.
 -- Assumes nothing.
+use Rattle.std.specs.Prelude.{Option, Some, None, Ok, Err}
 use Prim.Native.Nat.{ℕ, ◌≤◌, ◌<◌, ◌^◌}
 use native.Mathlib.Omega.{arith}
 use mathlib.Core.Logic.{◌⊎◌, inl, inr}
 use mathlib.Core.Path.{◌≡◌, refl, sym, ap, ◌∙◌, subst}
 use mathlib.Core.Bool.{Bool, true, false, cond}
 use mathlib.Core.List.{List, [], ◌∷◌}
-use mathlib.Core.Option.{Option, some, none}
 use lib.ListN.{length, take}
 use lib.Dec.{leb}
 use borrow.Author.Tests.{leb-true}
@@ -20,7 +20,6 @@ use Rattle.slice_int.specs.Put.{put}
 use Rattle.slice_int.proofs.PutLaws.{take_put}
 use Rattle.utf8.specs.Table.{is_utf8}
 use Rattle.name_parents.specs.Parents.{is_parent, path_of}
-use Rattle.output.specs.declared.WriteAnswer.TheVariants.{Written, Refused}
 use Rattle.output.specs.Output.{Outcome, outcome, refuse, unwritten, written}
 use Rattle.packed.specs.Assignment.{AssignedSegment, ConsumerAssignment, size_assignment, ok_assignment, decode_assignment, starts_assignment, is_assignment}
 use Rattle.packed.proofs.RoundLaws.{fit-assignment}
@@ -30,36 +29,36 @@ use Rattle.writer_message.proofs.ReadBack as back
 use Rattle.writer.specs.Write.{with_parent, write_outcome}
 use Rattle.writer.specs.Read.{Reads, WrittenReads}
 
-no-refusal : {A : Type 0} {x : Refusal} {n : ℕ} → Refused x ≡ Written n → A
+no-refusal : {A : Type 0} {x : Refusal} {n : ℕ} → Err x ≡ Ok n → A
 no-refusal e = let z : ◌≡◌ {A = ℕ} 0 1 = cc in absurd (omega arith)
 
 module _ (o : List ℕ) (n : ℕ) where
-  from-test : (t : Bool) (r : Outcome) (x : Refusal) → (cond t r (refuse x o)).answer ≡ Written n → (t ≡ true) × (r.answer ≡ Written n)
+  from-test : (t : Bool) (r : Outcome) (x : Refusal) → (cond t r (refuse x o)).answer ≡ Ok n → (t ≡ true) × (r.answer ≡ Ok n)
   from-test true r x e = (refl, e)
   from-test false r x e = no-refusal e
 
-  from-inside : (v : Option Refusal) (r : Outcome) → (refuse_due (unwritten o) v r).answer ≡ Written n → (v ≡ none) × (r.answer ≡ Written n)
-  from-inside none r e = (refl, e)
-  from-inside (some x) r e = no-refusal e
+  from-inside : (v : Option Refusal) (r : Outcome) → (refuse_due (unwritten o) v r).answer ≡ Ok n → (v ≡ None) × (r.answer ≡ Ok n)
+  from-inside None r e = (refl, e)
+  from-inside (Some x) r e = no-refusal e
 
-  from-parent : (parent : List ℕ) (gs : List AssignedSegment) (r : Outcome) → (with_parent o parent gs r).answer ≡ Written n
-      → ((gs ≡ []) ⊎ ((is_parent parent ≡ true) × (is_utf8 parent ≡ true))) × (r.answer ≡ Written n)
+  from-parent : (parent : List ℕ) (gs : List AssignedSegment) (r : Outcome) → (with_parent o parent gs r).answer ≡ Ok n
+      → ((gs ≡ []) ⊎ ((is_parent parent ≡ true) × (is_utf8 parent ≡ true))) × (r.answer ≡ Ok n)
   from-parent parent [] r e = (inl refl, e)
   from-parent parent (g ∷ gs) r e =
       let u = from-test (is_utf8 parent) (cond (is_parent parent) r (refuse InvalidParent o)) InvalidUtf8 e in
       let p = from-test (is_parent parent) r InvalidParent u.1 in
       (inr (p.0, u.0), p.1)
 
-  from-room : (m : List ℕ) → (written m o).answer ≡ Written n → length m ≤ length o
+  from-room : (m : List ℕ) → (written m o).answer ≡ Ok n → length m ≤ length o
   unfolding written
   from-room m e =
       leb-true (length m) (length o)
-      (from-test (leb (length m) (length o)) (outcome (Written (length m)) (put o 0 m)) ResultTooLong e).0
+      (from-test (leb (length m) (length o)) (outcome (Ok (length m)) (put o 0 m)) ResultTooLong e).0
 
 -- what an answer `Written` says of the bytes, the parent and the output
 pub record Passed (s parent o : List ℕ) : Type 0 where
   pub ok : ok_assignment (decode_assignment s) ≡ true
-  pub inside : outside_in (decode_assignment s).segments ≡ none
+  pub inside : outside_in (decode_assignment s).segments ≡ None
   pub named : ((decode_assignment s).segments ≡ []) ⊎ ((is_parent parent ≡ true) × (is_utf8 parent ≡ true))
   pub room : length (assignment_message (path_of parent) (decode_assignment s)) ≤ length o
   pub is : write_outcome s parent o ≡ written (assignment_message (path_of parent) (decode_assignment s)) o
@@ -77,7 +76,7 @@ module _ (s parent o : List ℕ) where
   behind-parent (g ∷ gs) r (inl e) = cc
   behind-parent (g ∷ gs) r (inr p) = rw (p.1, p.0)
 
-  pub passed : (n : ℕ) → (write_outcome s parent o).answer ≡ Written n → Passed s parent o
+  pub passed : (n : ℕ) → (write_outcome s parent o).answer ≡ Ok n → Passed s parent o
   unfolding write_outcome is_assignment starts_assignment
   passed n e =
       let below_all : Outcome = with_parent o parent a.segments (written message o) in
@@ -94,15 +93,15 @@ module _ (s parent o : List ℕ) where
       }
 
   -- what stands at the output's front
-  pub front : (n : ℕ) → Passed s parent o → (write_outcome s parent o).answer ≡ Written n
+  pub front : (n : ℕ) → Passed s parent o → (write_outcome s parent o).answer ≡ Ok n
       → take n (write_outcome s parent o).out ≡ assignment_message (path_of parent) (decode_assignment s)
   unfolding written
   front n p e = go (leb (length message) (length o)) refl
     where
       go : (t : Bool) → leb (length message) (length o) ≡ t → take n (write_outcome s parent o).out ≡ message
       go true h =
-          let w : write_outcome s parent o ≡ outcome (Written (length message)) (put o 0 message) = p.is ∙ rw h in
-          let k : Written (length message) ≡ Written n = sym (ap (λ (x : Outcome). x.answer) w) ∙ e in
+          let w : write_outcome s parent o ≡ outcome (Ok (length message)) (put o 0 message) = p.is ∙ rw h in
+          let k : Ok (length message) ≡ Ok n = sym (ap (λ (x : Outcome). x.answer) w) ∙ e in
           let z : length message ≡ n = cc in
           ap (λ (x : Outcome). take n x.out) w ∙ ap (λ (m : ℕ). take m (put o 0 message)) (sym z) ∙ take_put o 0 message (omega arith)
       go false h =

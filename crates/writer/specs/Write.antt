@@ -1,8 +1,7 @@
 -- Public: the writer (01: 20, then where it has a segment 7 and 12, then 21; 02 e: 34 "in the writer after 20"), over
 -- any bytes.
 -- Assumes nothing.
-use Rattle.std.specs.Prelude.{ℕ, cond, List, [], ◌∷◌, length, leb}
-use Rattle.std.proofs.Math.Option.{Option, some, none}
+use Rattle.std.specs.Prelude.{ℕ, cond, List, [], ◌∷◌, length, leb, Option, Some, None, ⊤, Result, Ok, Err}
 use Rattle.refusal.specs.declared.Refusal.{Refusal}
 use Rattle.refusal.specs.declared.Refusal.TheVariants.{MalformedInput, InvalidUtf8, InvalidParent}
 use Rattle.refusal.specs.Steps.{◌>>◌, refuse_unless, refuse_due}
@@ -11,12 +10,7 @@ use Rattle.name_parents.specs.Parents.{is_parent, path_of}
 use Rattle.output.specs.Output.{Outcome, unwritten, written}
 use Rattle.packed.specs.Assignment.{AssignedSegment, decode_assignment, is_assignment}
 use Rattle.writer_message.specs.Message.{segment_fields, assignment_message}
-use Rattle.intake_content.specs.declared.Outside.{Outside}
 use Rattle.intake_content.specs.Content.{first_outside, outside_in, outside_of}
-use Rattle.writer.specs.declared.Held.{Held}
-use Rattle.writer.specs.declared.Held.TheVariants as held
-use Rattle.writer.specs.declared.Room.{Room}
-use Rattle.writer.specs.declared.Room.TheVariants.{Size, Beyond}
 
 -- "where it has a segment 7 and 12"
 abbrev pub with_parent : (out parent : List ℕ) → List AssignedSegment → Outcome → Outcome
@@ -37,13 +31,13 @@ write_outcome s parent out = do
 
 -- ---- Internal: what the functions below the call answer
 
-abbrev pub outside_at : AssignedSegment → Outside
+abbrev pub outside_at : AssignedSegment → Option ℕ
 outside_at g = outside_of (first_outside g.range 0 g.buckets)
 
-abbrev pub held_of : Option Refusal → Held
-held_of none = held.Inside
-held_of (some x) = held.Refused x
+abbrev pub held_of : Option Refusal → Result ⊤ Refusal
+held_of None = Ok record {}
+held_of (Some x) = Err x
 
 -- how many bytes the segments' fields have, if those are within the limit
-unfoldable pub room_of : ℕ → List ℕ → List AssignedSegment → Room
-room_of limit path gs = cond (leb (length (segment_fields path gs)) limit) (Size (length (segment_fields path gs))) Beyond
+unfoldable pub room_of : ℕ → List ℕ → List AssignedSegment → Option ℕ
+room_of limit path gs = cond (leb (length (segment_fields path gs)) limit) (Some (length (segment_fields path gs))) None

@@ -15,32 +15,12 @@ ghost use Rattle.writer_message.specs.Message.{range_message, bucket_fields, seg
 ghost use Rattle.intake_content.specs.Content.{first_outside, outside_in, outside_of};
 ghost use Rattle.writer.specs.Write.{outside_at, held_of, room_of, write_outcome};
 
-use intake_content::Outside;
 use name_parents::SCHEME;
-use name_topic::NameAnswer;
-use output::WriteAnswer;
-use packed::Packed;
 use refusal::Refusal;
 use topic_types::{KeyRange, SegmentId};
 
-// How many bytes the segments need.
-#[derive(Clone, Copy)]
-enum Room {
-    Size(usize),
-    // More than the limit.
-    Beyond,
-}
-
-// Whether every bucket lies wholly inside its segment's range.
-#[derive(Clone, Copy)]
-enum Held {
-    Inside,
-    // 34, of the first that does not.
-    Refused(Refusal),
-}
-
 // The first of the n buckets from a place on that lies not wholly inside the range.
-fn bucket_outside(s: &[u8], at: usize, n: usize, range: KeyRange) -> Outside
+fn bucket_outside(s: &[u8], at: usize, n: usize, range: KeyRange) -> Option<usize>
     requires { at + bucket_size * n ≤ length s.now }
     ensures { result ≡ outside_of (first_outside range 0 (decode_ranges n (drop at s.now))) }
 {
@@ -49,19 +29,19 @@ fn bucket_outside(s: &[u8], at: usize, n: usize, range: KeyRange) -> Outside
     while index < n {
         let bucket = packed::range_at(s, p);
         if bucket.start < range.start {
-            return Outside::At(index);
+            return Some(index);
         }
         if range.end < bucket.end {
-            return Outside::At(index);
+            return Some(index);
         }
         p = p + packed::BUCKET;
         index = index + 1;
     }
-    Outside::Nothing
+    None
 }
 
 // The same of the segment whose record stands at the place p.
-fn segment_outside(s: &[u8], p: usize) -> Outside
+fn segment_outside(s: &[u8], p: usize) -> Option<usize>
     requires { p + size_segment (decode_segment (drop p s.now)) ≤ length s.now }
     ensures { result ≡ outside_at (decode_segment (drop p s.now)) }
 {
@@ -71,21 +51,21 @@ fn segment_outside(s: &[u8], p: usize) -> Outside
 }
 
 // The same of the m segments from a place on, the lowest id first.
-fn segments_outside(s: &[u8], at: usize, m: usize) -> Held
+fn segments_outside(s: &[u8], at: usize, m: usize) -> Result<(), Refusal>
     requires { Rest s.now at m }
     ensures { result ≡ held_of (outside_in (decode_segments m (drop at s.now))) }
 {
     let mut p = at;
     let mut left = m;
     while 0 < left {
-        if let Outside::At(index) = segment_outside(s, p) {
+        if let Some(index) = segment_outside(s, p) {
             let segment_id = SegmentId(packed_records::id_at(s, p));
-            return Held::Refused(Refusal::BucketOutsideSegment { segment_id, index });
+            return Err(Refusal::BucketOutsideSegment { segment_id, index });
         }
         p = p + packed_records::size_at(s, p);
         left = left - 1;
     }
-    Held::Inside
+    Ok(())
 }
 
 // How many digits v has in decimal.
@@ -150,7 +130,7 @@ fn segment_size(s: &[u8], p: usize, path: &[u8]) -> usize
 }
 
 // How many bytes the fields of the m segments from a place on have.
-fn segments_room(s: &[u8], at: usize, m: usize, path: &[u8], limit: usize) -> Room
+fn segments_room(s: &[u8], at: usize, m: usize, path: &[u8], limit: usize) -> Option<usize>
     requires { Rest s.now at m }
     ensures { result ≡ room_of limit path.now (decode_segments m (drop at s.now)) }
 {
@@ -161,13 +141,13 @@ fn segments_room(s: &[u8], at: usize, m: usize, path: &[u8], limit: usize) -> Ro
         let len = segment_size(s, p, path);
         let more = wire_writer::part_head_size(2, len) + len;
         if limit - size < more {
-            return Room::Beyond;
+            return None;
         }
         size = size + more;
         p = p + packed_records::size_at(s, p);
         left = left - 1;
     }
-    Room::Size(size)
+    Some(size)
 }
 
 // Writes the fields of the n buckets from a place on to out, and answers the place behind them.
@@ -198,8 +178,8 @@ fn write_topic(path: &[u8], range: KeyRange, id: u64, out: &mut [u8], to: usize)
         × (out.new ≡ put out.old to (segment_topic path.now range (record { 0 = id }))) }
 {
     match name_topic::write_segment_topic(path, range, SegmentId(id), &mut out[to..]) {
-        NameAnswer::Written(len) => to + len,
-        NameAnswer::Refused(_) => to,
+        Ok(len) => to + len,
+        Err(_) => to,
     }
 }
 
@@ -242,43 +222,42 @@ fn write_segments(s: &[u8], at: usize, m: usize, path: &[u8], out: &mut [u8], to
 }
 
 // Writes the message of the m segments of the packed assignment s, where it fits.
-fn write_message(s: &[u8], m: usize, path: &[u8], out: &mut [u8]) -> WriteAnswer
+fn write_message(s: &[u8], m: usize, path: &[u8], out: &mut [u8]) -> Result<usize, Refusal>
     requires { Rest s.now assignment_head m }
     ensures { outcome result out.new ≡ written (number_field 1 (num 8 s.now) ++ segment_fields path.now (decode_segments m (drop assignment_head s.now))) out.old }
 {
     let epoch = slice_int::read_u64(s, 0);
     let head = wire_writer::number_size(1, epoch);
     if out.len() < head {
-        return WriteAnswer::Refused(Refusal::ResultTooLong);
+        return Err(Refusal::ResultTooLong);
     }
-    let Room::Size(size) = segments_room(s, packed::ASSIGNMENT_HEAD, m, path, out.len() - head)
-    else {
-        return WriteAnswer::Refused(Refusal::ResultTooLong);
+    let Some(size) = segments_room(s, packed::ASSIGNMENT_HEAD, m, path, out.len() - head) else {
+        return Err(Refusal::ResultTooLong);
     };
     let next = wire_writer::write_number(out, 0, 1, epoch);
     write_segments(s, packed::ASSIGNMENT_HEAD, m, path, out, next);
-    WriteAnswer::Written(head + size)
+    Ok(head + size)
 }
 
 // Writes the packed assignment, whose segments lie below the parent, as a message. Tested in order: the lent form (20), each bucket inside its
 // segment's range (34), where it has a segment the parent's UTF-8 (7) and form (12), the room (21). A refusal leaves the output as it was.
-pub fn to_pb(assignment: &[u8], parent: &[u8], out: &mut [u8]) -> WriteAnswer
+pub fn to_pb(assignment: &[u8], parent: &[u8], out: &mut [u8]) -> Result<usize, Refusal>
     ensures { outcome result out.new ≡ write_outcome assignment.now parent.now out.old }
 {
-    let Packed::Assignment(_, count) = packed::read_whole(assignment) else {
-        return WriteAnswer::Refused(Refusal::MalformedInput);
+    let Some((_, count)) = packed::read_whole(assignment) else {
+        return Err(Refusal::MalformedInput);
     };
     if count == 0 {
         return write_message(assignment, 0, parent, out);
     }
-    if let Held::Refused(x) = segments_outside(assignment, packed::ASSIGNMENT_HEAD, count) {
-        return WriteAnswer::Refused(x);
+    if let Err(x) = segments_outside(assignment, packed::ASSIGNMENT_HEAD, count) {
+        return Err(x);
     }
     if !utf8::is_utf8(parent) {
-        return WriteAnswer::Refused(Refusal::InvalidUtf8);
+        return Err(Refusal::InvalidUtf8);
     }
     if !name_topic::is_parent(parent) {
-        return WriteAnswer::Refused(Refusal::InvalidParent);
+        return Err(Refusal::InvalidParent);
     }
     write_message(assignment, count, &parent[SCHEME..], out)
 }

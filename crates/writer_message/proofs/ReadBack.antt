@@ -7,13 +7,13 @@
 -- The message has fewer than 2 ^ 64 bytes, as every slice has; under a parent of fewer than 2 ^ 56 bytes, or without a segment, it always
 -- does (`message-short`, `message-none` of proofs/SizeLaws).
 -- Assumes nothing.
+use Rattle.std.specs.Prelude.{None, Ok}
 use Prim.Native.Nat.{ℕ, ◌^◌, ◌<◌}
 use native.Mathlib.Omega.{arith}
 use mathlib.Core.Logic.{◌⊎◌, inl, inr}
 use mathlib.Core.Path.{◌≡◌, ap, ◌∙◌}
 use mathlib.Core.Bool.{true}
 use mathlib.Core.List.{List, [], append-nil}
-use mathlib.Core.Option.{none}
 use lib.ListN.{length}
 use lib.Dec.{leb}
 use Rattle.slice.specs.BoolLaws.{both_true}
@@ -21,10 +21,8 @@ use Rattle.utf8.specs.Table.{is_utf8}
 use Rattle.name_parents.specs.Parents.{is_parent, path_of}
 use Rattle.wire.specs.Fields.{Field, fields_of}
 use Rattle.wire_schema.specs.declared.MessageKind.TheVariants.{CommandScalableTopicAssignmentUpdate, CommandScalableTopicSubscribeResponse}
-use Rattle.wire_schema.specs.declared.Checked.TheVariants.{Valid}
 use Rattle.wire_schema.specs.FirstFault.{first_fault}
 use Rattle.wire_schema.proofs.SoundLaws.{update-row, response-row}
-use Rattle.wire_readers.specs.declared.ErrorCode.TheVariants as code
 use Rattle.wire_readers.specs.Messages.{read_assignment, WireUpdate, update_of, WireResponse, response_of}
 use Rattle.packed.specs.Assignment.{ConsumerAssignment, slot_size, size_assignment, ok_from, ok_assignment}
 use Rattle.packed.proofs.RoundLaws.{FitAssignment}
@@ -38,7 +36,7 @@ use Rattle.writer_message.proofs.WireLaws.{assignment-says, content-says}
 use Rattle.writer_message.proofs.ValidLaws.{assignment-valid}
 
 module _ (parent : List ℕ) (a : ConsumerAssignment) (f : FitAssignment a) (o : ok_assignment a ≡ true)
-    (i : outside_in a.segments ≡ none) (n : (a.segments ≡ []) ⊎ ((is_parent parent ≡ true) × (is_utf8 parent ≡ true)))
+    (i : outside_in a.segments ≡ None) (n : (a.segments ≡ []) ⊎ ((is_parent parent ≡ true) × (is_utf8 parent ≡ true)))
     (s : length (assignment_message (path_of parent) a) < 2 ^ 64) where
   abbrev message : List ℕ
   message = assignment_message (path_of parent) a
@@ -67,7 +65,7 @@ module _ (parent : List ℕ) (a : ConsumerAssignment) (f : FitAssignment a) (o :
 
   module _ (consumer : ℕ) (c : consumer < 2 ^ 64) where
     pub update-valid : first_fault CommandScalableTopicAssignmentUpdate (update_message consumer (assignment_message (path_of parent) a))
-        ≡ Valid
+        ≡ Ok record {}
     unfolding update_message
     update-valid =
         update-row _ consumer message (assignment-valid parent a written f.epoch s)
@@ -89,7 +87,7 @@ module _ (parent : List ℕ) (a : ConsumerAssignment) (f : FitAssignment a) (o :
 
   module _ (request : ℕ) (r : request < 2 ^ 64) where
     pub response-valid : first_fault CommandScalableTopicSubscribeResponse (response_message request (assignment_message (path_of parent) a))
-        ≡ Valid
+        ≡ Ok record {}
     unfolding response_message
     response-valid =
         response-row _ request message (assignment-valid parent a written f.epoch s)
@@ -99,7 +97,7 @@ module _ (parent : List ℕ) (a : ConsumerAssignment) (f : FitAssignment a) (o :
     pub response-says : response_of (response_message request (assignment_message (path_of parent) a))
         ≡ record {
           request_id = request;
-          error = code.Absent;
+          error = None;
           message = [];
           has_assignment = true;
           assignment = wire_assignment (path_of parent) a;

@@ -4,6 +4,7 @@
 -- (`segment-row-valid`, `assignment-row-valid`), and as they are written (`segment-valid`, `assignment-valid`).
 -- Not here: a range, and the messages that hold an assignment (SoundLaws of the crate schema).
 -- Assumes nothing.
+use Rattle.std.specs.Prelude.{Ok}
 use Prim.Native.Nat.{ℕ, suc, ◌^◌, ◌<◌}
 use mathlib.Core.Path.{◌≡◌, refl, ap, ◌∙◌}
 use mathlib.Core.Bool.{true}
@@ -17,7 +18,6 @@ use Rattle.wire.specs.Fields.{fields_of}
 use Rattle.wire_schema.specs.declared.MessageKind.{MessageKind}
 use Rattle.wire_schema.specs.declared.MessageKind.TheVariants.{ScalableConsumerAssignment, ScalableAssignedSegment, IntRange}
 use Rattle.wire_schema.specs.declared.ValueKind.TheVariants as value
-use Rattle.wire_schema.specs.declared.Checked.TheVariants.{Valid}
 use Rattle.wire_schema.specs.Schema.{value_for}
 use Rattle.wire_schema.specs.Required.{all_complete, complete_within}
 use Rattle.wire_schema.specs.FirstFault.{check_fields, fault_within, Sound}
@@ -34,7 +34,7 @@ use Rattle.writer_message.proofs.WireLaws.{Written}
 -- a field of messages that may come again
 module _ (d : ℕ) (k j : MessageKind) (f : ℕ) where
   pub parts-valid : value_for k f ≡ value.Message j → (ps : List (List ℕ)) → Each (Sound d j) ps
-      → check_fields (fault_within d) k (part_row f ps) ≡ Valid
+      → check_fields (fault_within d) k (part_row f ps) ≡ Ok record {}
   parts-valid r [] v = refl
   parts-valid r (p ∷ ps) v = rw (r, v.0.read) (parts-valid r ps v.1)
 

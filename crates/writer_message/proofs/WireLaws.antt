@@ -6,12 +6,12 @@
 -- `segments-back`); a valid segment passes (`valid-passes`), and so a written one (`Written`, `each-written`, `written-passes`); what is read of an
 -- assignment, by its row (`assignment-row-says`) and as it is written (`assignment-says`), and what it comes to (`content-says`).
 -- Assumes nothing.
+use Rattle.std.specs.Prelude.{None}
 use Prim.Native.Nat.{ℕ, suc, ◌+◌, ◌%◌, ◌^◌, ◌≤◌, ◌<◌}
 use native.Mathlib.Omega.{arith}
 use mathlib.Core.Path.{◌≡◌, refl, ap, ◌∙◌}
 use mathlib.Core.Bool.{Bool, true, false, not, false≢true}
 use mathlib.Core.List.{List, [], ◌∷◌, map}
-use mathlib.Core.Option.{none}
 use lib.IntN.{pos}
 use lib.ListN.{length}
 use lib.Dec.{eqb}
@@ -111,12 +111,12 @@ pub record Written (parent : List ℕ) (g : AssignedSegment) : Type 0 where
   pub fit : FitSegment g
   pub valid : ok_segment g ≡ true
   pub short : length (segment_message (path_of parent) g) < 2 ^ 64
-  pub inside : first_outside g.range 0 g.buckets ≡ none
+  pub inside : first_outside g.range 0 g.buckets ≡ None
   pub parent-ok : is_parent parent ≡ true
   pub text : is_utf8 parent ≡ true
 
 module _ (parent : List ℕ) (p : is_parent parent ≡ true) (u : is_utf8 parent ≡ true) where
-  pub each-written : (low : ℕ) (gs : List AssignedSegment) → FitSegments gs → ok_from low gs ≡ true → outside_in gs ≡ none
+  pub each-written : (low : ℕ) (gs : List AssignedSegment) → FitSegments gs → ok_from low gs ≡ true → outside_in gs ≡ None
       → length (segment_fields (path_of parent) gs) < 2 ^ 64 → Each (Written parent) gs
   unfolding outside_in
   each-written low [] f o i s = tt
@@ -130,7 +130,7 @@ module _ (parent : List ℕ) (p : is_parent parent ≡ true) (u : is_utf8 parent
 -- ---- it passes
 
 bucket-none : (id : SegmentId) (index : ℕ) (rs : List KeyRange) → FitRanges rs → all_in_order rs ≡ true
-    → bucket_fault id index (map wire_range rs) ≡ none
+    → bucket_fault id index (map wire_range rs) ≡ None
 unfolding bucket_fault all_in_order
 bucket-none id index [] f o = refl
 bucket-none id index (r ∷ rs) f o =
@@ -144,7 +144,7 @@ no-overlap false e = refl
 
 module _ (parent : List ℕ) (g : AssignedSegment) where
   pub valid-passes : is_parent parent ≡ true → ok_segment g ≡ true → FitRange g.range → FitRanges g.buckets
-      → first_outside g.range 0 g.buckets ≡ none → segment_fault parent (wire_segment (path_of parent) g) ≡ none
+      → first_outside g.range 0 g.buckets ≡ None → segment_fault parent (wire_segment (path_of parent) g) ≡ None
   unfolding ok_segment ok_buckets
   valid-passes p valid fit fits i =
       let r : KeyRange = g.range in
@@ -161,7 +161,7 @@ module _ (parent : List ℕ) (g : AssignedSegment) where
         topic = same_refl (segment_topic (path_of parent) r id);
       })
 
-  pub written-passes : Written parent g → segment_fault parent (wire_segment (path_of parent) g) ≡ none
+  pub written-passes : Written parent g → segment_fault parent (wire_segment (path_of parent) g) ≡ None
   written-passes w = valid-passes w.parent-ok w.valid w.fit.range w.fit.buckets w.inside
 
 -- ---- the assignment

@@ -8,19 +8,19 @@ use Rattle.slice.proofs.PartLaws.{rest}
 use Rattle.packed_delta.specs.Answers.{front_answer}
 use Rattle.packed_delta.proofs.RoundLaws.{Front, front-answer, not-front}
 use Rattle.attach_log.proofs.WalkLaws.{long, fits, walk_start, walk-bad, walk-next, walk_end}
-use Rattle.attach_log.proofs.deltas_ok.Goals.{In-Delta}
+use Rattle.attach_log.proofs.deltas_ok.Goals.{In-Some}
 use Rattle.attach_log.proofs.deltas_ok.Goals as goal
 
 -- what the delta that was read at the place says
-front-there : (k : In-Delta)
+front-there : (k : In-Some)
     → let l = k in
-    Front (drop l.loop-p.p l.args.s.now) k.in-Delta.field-0 k.in-Delta.field-1 k.in-Delta.size
+    Front (drop l.loop-p.p l.args.s.now) k.in-Some.field-0 k.in-Some.field-1 k.in-Some.size
 front-there k =
     let r = k in
     let l = r in
     let s = l.args.s.now in
-    front-answer (drop l.loop-p.p s) k.in-Delta.field-0 k.in-Delta.field-1 k.in-Delta.size
-    (sym k.in-Delta.is ∙ r.read_front.ensures ∙ ap front_answer (rest s l.loop-p.p))
+    front-answer (drop l.loop-p.p s) k.in-Some.field-0 k.in-Some.field-1 k.in-Some.size
+    (sym k.in-Some.is ∙ r.read_front.ensures ∙ ap front_answer (rest s l.loop-p.p))
 
 pub loop-p-init : goal.loop-p-init
 loop-p-init c = walk_start c.args.s.now
@@ -37,17 +37,17 @@ returns-in_default c = let r = c in
 pub overflow_add-p : goal.overflow_add-p
 overflow_add-p c = let l = c in
     let s = l.args.s.now in
-    omega (arith, fits (front-there (goal.at.overflow_add-p c).In-Delta), length-drop l.loop-p.p s, l.well_formed)
+    omega (arith, fits (front-there (goal.at.overflow_add-p c).In-Some), length-drop l.loop-p.p s, l.well_formed)
 
 pub loop-p-smaller : goal.loop-p-smaller
-loop-p-smaller c = omega (arith, long (front-there (goal.at.loop-p-smaller c).In-Delta))
+loop-p-smaller c = omega (arith, long (front-there (goal.at.loop-p-smaller c).In-Some))
 
 pub loop-p-preserved : goal.loop-p-preserved
 loop-p-preserved c = let k = c in
     let t = k in
     let l = t in
-    walk-next l.args.s.now l.loop-p.p l.loop-p.invariant t.loop-p-test.true k.in-Delta.field-0 k.in-Delta.field-1
-    k.in-Delta.size (front-there (goal.at.loop-p-preserved c).In-Delta)
+    walk-next l.args.s.now l.loop-p.p l.loop-p.invariant t.loop-p-test.true k.in-Some.field-0 k.in-Some.field-1
+    k.in-Some.size (front-there (goal.at.loop-p-preserved c).In-Some)
 
 pub returns : goal.returns
 returns c = let l = c in walk_end l.args.s.now l.loop-p.p l.loop-p.invariant c.loop-p-test.false

@@ -15,34 +15,34 @@ returns-in_default c = let v = c in
 pub returns-then-remainder-ge-DIVISOR : goal.returns-then-remainder-ge-DIVISOR
 returns-then-remainder-ge-DIVISOR c = let k = c in
     let a = k.args in
-    refused-remainder a.segment.now a.seconds a.rate a.remainder k.in-Values.values ((let it : (Held k.args.segment.now k.in-Values.values) = held k.args.segment.now k.in-Values.values (sym k.in-Values.is ∙ k.values_held.ensures) in it)) c.if-remainder-ge-DIVISOR.true
+    refused-remainder a.segment.now a.seconds a.rate a.remainder k.in-Some.values ((let it : (Held k.args.segment.now k.in-Some.values) = held k.args.segment.now k.in-Some.values (sym k.in-Some.is ∙ k.values_held.ensures) in it)) c.if-remainder-ge-DIVISOR.true
 
 pub returns-in_default-cost : goal.returns-in_default-cost
 returns-in_default-cost c = let o = c in
     let k = o in
     let a = k.args in
-    let v = k.in-Values.values in
+    let v = k.in-Some.values in
     let h : 2 ^ 64 ≤ v * a.seconds * a.rate = product-not (v * a.seconds * a.rate) (sym c.in_default-cost.is ∙ o.cost.ensures) in
-    refused-sum a.segment.now a.seconds a.rate a.remainder v ((let it : (Held k.args.segment.now k.in-Values.values) = held k.args.segment.now k.in-Values.values (sym k.in-Values.is ∙ k.values_held.ensures) in it)) (omega arith)
+    refused-sum a.segment.now a.seconds a.rate a.remainder v ((let it : (Held k.args.segment.now k.in-Some.values) = held k.args.segment.now k.in-Some.values (sym k.in-Some.is ∙ k.values_held.ensures) in it)) (omega arith)
 
 pub returns-then-remainder-n : goal.returns-then-remainder-n
 returns-then-remainder-n c = let n = c in
     let k = n in
     let a = k.args in
-    refused-sum a.segment.now a.seconds a.rate a.remainder k.in-Values.values ((let it : (Held k.args.segment.now k.in-Values.values) = held k.args.segment.now k.in-Values.values (sym k.in-Values.is ∙ k.values_held.ensures) in it)) (omega (
+    refused-sum a.segment.now a.seconds a.rate a.remainder k.in-Some.values ((let it : (Held k.args.segment.now k.in-Some.values) = held k.args.segment.now k.in-Some.values (sym k.in-Some.is ∙ k.values_held.ensures) in it)) (omega (
       arith,
       (let it : (let k = n in
-          n.in-Fits.n ≡ k.in-Values.values * k.args.seconds * k.args.rate) = let k = n in
-          product_is (k.in-Values.values * k.args.seconds * k.args.rate) n.in-Fits.n
-          (sym n.in-Fits.is ∙ n.cost.ensures) in it),
+          n.in-Some.n ≡ k.in-Some.values * k.args.seconds * k.args.rate) = let k = n in
+          product_is (k.in-Some.values * k.args.seconds * k.args.rate) n.in-Some.n
+          (sym n.in-Some.is ∙ n.cost.ensures) in it),
     ))
 
 pub returns : goal.returns
 returns c = let n = c in
     let k = n in
     let a = k.args in
-    charged a.segment.now a.seconds a.rate a.remainder k.in-Values.values ((let it : (Held k.args.segment.now k.in-Values.values) = held k.args.segment.now k.in-Values.values (sym k.in-Values.is ∙ k.values_held.ensures) in it)) (let it : (a.remainder < 235929600) = omega arith in it)
-    n.in-Fits.n ((let it : (let k = n in
-    n.in-Fits.n ≡ k.in-Values.values * k.args.seconds * k.args.rate) = let k = n in
-    product_is (k.in-Values.values * k.args.seconds * k.args.rate) n.in-Fits.n
-    (sym n.in-Fits.is ∙ n.cost.ensures) in it)) (omega arith)
+    charged a.segment.now a.seconds a.rate a.remainder k.in-Some.values ((let it : (Held k.args.segment.now k.in-Some.values) = held k.args.segment.now k.in-Some.values (sym k.in-Some.is ∙ k.values_held.ensures) in it)) (let it : (a.remainder < 235929600) = omega arith in it)
+    n.in-Some.n ((let it : (let k = n in
+    n.in-Some.n ≡ k.in-Some.values * k.args.seconds * k.args.rate) = let k = n in
+    product_is (k.in-Some.values * k.args.seconds * k.args.rate) n.in-Some.n
+    (sym n.in-Some.is ∙ n.cost.ensures) in it)) (omega arith)

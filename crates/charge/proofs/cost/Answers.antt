@@ -12,16 +12,16 @@ use Rattle.charge.proofs.cost.Goals as goal
 pub returns-then-rate-eq0 : goal.returns-then-rate-eq0
 returns-then-rate-eq0 c = let a = c.args in product-none (a.values * a.seconds) a.rate c.if-rate-eq0.true
 
-pub returns-in-Fits : goal.returns-in-Fits
-returns-in-Fits c = let k = c in
+pub returns-in-Some : goal.returns-in-Some
+returns-in-Some c = let k = c in
     let m = k in
     let a = m.args in
-    c.multiply-in-Fits.ensures
-    ∙ ap (λ (x : ℕ). product_of (x * a.rate)) (product_is (a.values * a.seconds) k.in-Fits.n (sym k.in-Fits.is ∙ m.multiply.ensures))
+    c.multiply-in-Some.ensures
+    ∙ ap (λ (x : ℕ). product_of (x * a.rate)) (product_is (a.values * a.seconds) k.in-Some.n (sym k.in-Some.is ∙ m.multiply.ensures))
 
-pub returns-in-TooLarge : goal.returns-in-TooLarge
-returns-in-TooLarge c = let m = c in
+pub returns-in-None : goal.returns-in-None
+returns-in-None c = let m = c in
     let a = m.args in
     product-large (a.values * a.seconds * a.rate)
-    (factor-large (a.values * a.seconds) a.rate (product-not (a.values * a.seconds) (sym c.in-TooLarge.is ∙ m.multiply.ensures))
+    (factor-large (a.values * a.seconds) a.rate (product-not (a.values * a.seconds) (sym c.in-None.is ∙ m.multiply.ensures))
     (λ z. omega (arith, z)))

@@ -16,21 +16,21 @@ returns-in_default c = let r = c in
     (not-shaped a.contract.now (sym c.in_default.is ∙ r.read_contract.ensures))
 
 pub first_of-first-requires : goal.first_of-first-requires
-first_of-first-requires c = let h = (let it : (Shaped ((let it : (List ℕ) = c.args.contract.now in it)) c.in-Counts.terms c.in-Counts.windows) = shaped ((let it : (List ℕ) = c.args.contract.now in it)) c.in-Counts.terms c.in-Counts.windows
-    (sym c.in-Counts.is ∙ c.read_contract.ensures) in it) in (h.inside, h.windows-ok)
+first_of-first-requires c = let h = (let it : (Shaped ((let it : (List ℕ) = c.args.contract.now in it)) c.in-Some.terms c.in-Some.windows) = shaped ((let it : (List ℕ) = c.args.contract.now in it)) c.in-Some.terms c.in-Some.windows
+    (sym c.in-Some.is ∙ c.read_contract.ensures) in it) in (h.inside, h.windows-ok)
 
 pub returns-then-first : goal.returns-then-first
 returns-then-first c = let f = c in
     let k = f in
-    earliest-none ((let it : (List ℕ) = k.args.contract.now in it)) k.args.second k.in-Counts.terms
-    k.in-Counts.windows ((let it : (Shaped ((let it : (List ℕ) = k.args.contract.now in it)) k.in-Counts.terms k.in-Counts.windows) = shaped ((let it : (List ℕ) = k.args.contract.now in it)) k.in-Counts.terms k.in-Counts.windows
-    (sym k.in-Counts.is ∙ k.read_contract.ensures) in it))
+    earliest-none ((let it : (List ℕ) = k.args.contract.now in it)) k.args.second k.in-Some.terms
+    k.in-Some.windows ((let it : (Shaped ((let it : (List ℕ) = k.args.contract.now in it)) k.in-Some.terms k.in-Some.windows) = shaped ((let it : (List ℕ) = k.args.contract.now in it)) k.in-Some.terms k.in-Some.windows
+    (sym k.in-Some.is ∙ k.read_contract.ensures) in it))
     f.first_of-first.result f.first_of-first.ensures c.if-first.true
 
 pub returns-else-first : goal.returns-else-first
 returns-else-first c = let f = c in
     let k = f in
-    earliest-at ((let it : (List ℕ) = k.args.contract.now in it)) k.args.second k.in-Counts.terms
-    k.in-Counts.windows ((let it : (Shaped ((let it : (List ℕ) = k.args.contract.now in it)) k.in-Counts.terms k.in-Counts.windows) = shaped ((let it : (List ℕ) = k.args.contract.now in it)) k.in-Counts.terms k.in-Counts.windows
-    (sym k.in-Counts.is ∙ k.read_contract.ensures) in it))
+    earliest-at ((let it : (List ℕ) = k.args.contract.now in it)) k.args.second k.in-Some.terms
+    k.in-Some.windows ((let it : (Shaped ((let it : (List ℕ) = k.args.contract.now in it)) k.in-Some.terms k.in-Some.windows) = shaped ((let it : (List ℕ) = k.args.contract.now in it)) k.in-Some.terms k.in-Some.windows
+    (sym k.in-Some.is ∙ k.read_contract.ensures) in it))
     f.first_of-first.result f.first_of-first.ensures (omega (arith, c.if-first.false))

@@ -7,19 +7,19 @@ use Rattle.intake_buckets.proofs.load_row.Goals as goal
 pub loop-count-init : goal.loop-count-init
 loop-count-init c = loading-start _ _ _ refl
 
-pub returns-in-Absent : goal.returns-in-Absent
-returns-in-Absent c =
-    loaded-none c.loop-count.invariant (c.in-Absent.ensures)
+pub returns-in-None : goal.returns-in-None
+returns-in-None c =
+    loaded-none c.loop-count.invariant (c.in-None.ensures)
 
 pub overflow_add-start : goal.overflow_add-start
-overflow_add-start c = let q = c.in-Found.ensures in omega (arith, q.0, q.1, q.2)
+overflow_add-start c = let q = c.in-Some.ensures in omega (arith, q.0, q.1, q.2)
 
 pub slice_bounds-read_bucket-end : goal.slice_bounds-read_bucket-end
-slice_bounds-read_bucket-end c = let q = c.in-Found.ensures in omega (arith, q.0, q.1, q.2)
+slice_bounds-read_bucket-end c = let q = c.in-Some.ensures in omega (arith, q.0, q.1, q.2)
 
 pub loop-count-preserved : goal.loop-count-preserved
 loop-count-preserved c =
-    loading-next c.loop-count.invariant c.in-Found.start c.in-Found.len c.in-Found.after (c.in-Found.ensures)
+    loading-next c.loop-count.invariant c.in-Some.start c.in-Some.len c.in-Some.after (c.in-Some.ensures)
     c.read_bucket-r.ensures c.key_range_of.ensures (omega arith)
 
 pub returns : goal.returns

@@ -15,12 +15,12 @@ returns c =
     let b : to_z w32 (of_z w32 c.int32-b.result) ≡ c.int32-b.result = search rules in
     let h = c.if-p-lt4.false in
     rw (a, b, c.int32-a.ensures, c.int32-b.ensures)
-    (usual-range (omega arith) c.if-p-ne8.false (varint-at _ _ _ _ (sym c.read_short_varint.ensures ∙ c.in-Value.is)) c.if-p-second.false c.if-p-second-ne16.false (varint-at _ _ _ _ (sym c.read_short_varint-2.ensures ∙ c.in-Value-read_short_varint.is))
+    (usual-range (omega arith) c.if-p-ne8.false (varint-at _ _ _ _ (sym c.read_short_varint.ensures ∙ c.in-Some.is)) c.if-p-second.false c.if-p-second-ne16.false (varint-at _ _ _ _ (sym c.read_short_varint-2.ensures ∙ c.in-Some-read_short_varint.is))
     c.if-third-n.false)
 
 pub overflow_add-second : goal.overflow_add-second
-overflow_add-second c = let h = varint-at c.args.p.now 1 c.in-Value.start c.in-Value.m (sym c.read_short_varint.ensures ∙ c.in-Value.is) in omega arith
+overflow_add-second c = let h = varint-at c.args.p.now 1 c.in-Some.start c.in-Some.m (sym c.read_short_varint.ensures ∙ c.in-Some.is) in omega arith
 
 pub overflow_add-third-2 : goal.overflow_add-third-2
-overflow_add-third-2 c = let k = c.in-Value-read_short_varint in
-    let h = varint-at c.args.p.now (1 + c.in-Value.m + 1) k.end k.n (sym c.read_short_varint-2.ensures ∙ k.is) in omega arith
+overflow_add-third-2 c = let k = c.in-Some-read_short_varint in
+    let h = varint-at c.args.p.now (1 + c.in-Some.m + 1) k.end k.n (sym c.read_short_varint-2.ensures ∙ k.is) in omega arith

@@ -3,13 +3,13 @@
 use mathlib.Core.Path.{sym, ◌∙◌}
 use Rattle.key_in_segment.proofs.WalkLaws.{key-malformed, key-whole}
 use Rattle.packed.proofs.WholeLaws.{Whole, whole-read, not-assignment}
-use Rattle.key_in_segment.proofs.key_in_segment.Goals.{In-Assignment}
+use Rattle.key_in_segment.proofs.key_in_segment.Goals.{In-Some}
 use Rattle.key_in_segment.proofs.key_in_segment.Goals as goal
 
-whole_in : (c : In-Assignment) → Whole c.args.assignment.now c.in-Assignment.count
+whole_in : (c : In-Some) → Whole c.args.assignment.now c.in-Some.count
 whole_in c =
     let r = c in
-    whole-read r.args.assignment.now _ _ (sym c.in-Assignment.is ∙ r.read_whole.ensures)
+    whole-read r.args.assignment.now _ _ (sym c.in-Some.is ∙ r.read_whole.ensures)
 
 pub returns-in_default : goal.returns-in_default
 returns-in_default c =
@@ -18,10 +18,10 @@ returns-in_default c =
     key-malformed a.assignment.now a.id.0 (not-assignment a.assignment.now (sym c.in_default.is ∙ r.read_whole.ensures))
 
 pub key_among-requires : goal.key_among-requires
-key_among-requires c = (whole_in (goal.at.key_among-requires c).In-Assignment).records
+key_among-requires c = (whole_in (goal.at.key_among-requires c).In-Some).records
 
 pub returns : goal.returns
 returns c =
     let k = c in
     let a = k.args in
-    c.key_among.ensures ∙ key-whole a.assignment.now a.id.0 k.in-Assignment.count (whole_in (goal.at.returns c).In-Assignment)
+    c.key_among.ensures ∙ key-whole a.assignment.now a.id.0 k.in-Some.count (whole_in (goal.at.returns c).In-Some)

@@ -1,10 +1,10 @@
 -- `lookup::first_taking` meets its contract. The invariant is `Turn` of packed_records/proofs/WalkLaws; the measure is how
 -- many records are left. Assumes nothing.
+use Rattle.std.specs.Prelude.{Some, Ok}
 use native.Mathlib.Omega.{arith}
 use mathlib.Core.Path.{refl, sym, ap, ◌∙◌}
 use Rattle.packed_records.proofs.WalkLaws.{turn-start, turn_end, turn-head, turn_inside, turn-found, turn-next}
 use Rattle.key_lookup.specs.Lookup.{first_taking}
-use Rattle.key_lookup.specs.declared.SegmentAnswer.TheVariants.{Segment}
 use Rattle.key_lookup.proofs.TakesLaws.{first_found, first-further, first-none}
 use Rattle.key_lookup.proofs.first_taking.Goals as goal
 
@@ -22,7 +22,7 @@ returns-then-segment_takes c =
     let t = c in
     let i = t in
     let l = i in
-    ap (λ id. Segment (record { 0 = id })) c.id_at.ensures
+    ap (λ id. Ok (Some (record { 0 = id }))) c.id_at.ensures
     ∙ turn-found l.loop-left.invariant i.loop-left-test.true
     (λ gs. first_found l.args.hash _ gs (sym t.segment_takes.ensures ∙ c.if-segment_takes.true))
 

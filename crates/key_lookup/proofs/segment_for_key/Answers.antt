@@ -20,16 +20,16 @@ returns-in_default c =
     (not-assignment a.assignment.now (sym c.in_default.is ∙ r.read_whole.ensures))
 
 pub first_taking-requires : goal.first_taking-requires
-first_taking-requires c = ((let it : (Whole c.args.assignment.now c.in-Assignment.count) = let r = c in
-    whole-read r.args.assignment.now _ _ (sym c.in-Assignment.is ∙ r.read_whole.ensures) in it)).records
+first_taking-requires c = ((let it : (Whole c.args.assignment.now c.in-Some.count) = let r = c in
+    whole-read r.args.assignment.now _ _ (sym c.in-Some.is ∙ r.read_whole.ensures) in it)).records
 
 pub returns : goal.returns
 returns c =
     let k = c in
     let e = k in
     let a = e.args in
-    let n = k.in-Assignment.count in
+    let n = k.in-Some.count in
     c.first_taking.ensures
     ∙ ap (λ (h : ℕ). first_taking (h % 65536) (decode_segments n (drop 10 a.assignment.now))) c.hash.ensures
-    ∙ for-whole a.key.now a.assignment.now e.if-key-gt-LONGEST_KEY.false n ((let it : (Whole k.args.assignment.now k.in-Assignment.count) = let r = k in
-    whole-read r.args.assignment.now _ _ (sym k.in-Assignment.is ∙ r.read_whole.ensures) in it))
+    ∙ for-whole a.key.now a.assignment.now e.if-key-gt-LONGEST_KEY.false n ((let it : (Whole k.args.assignment.now k.in-Some.count) = let r = k in
+    whole-read r.args.assignment.now _ _ (sym k.in-Some.is ∙ r.read_whole.ensures) in it))

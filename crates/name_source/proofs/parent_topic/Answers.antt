@@ -9,50 +9,50 @@ use Rattle.name_source.proofs.parent_topic.Goals as goal
 pub overflow_sub-n : goal.overflow_sub-n
 overflow_sub-n c = omega (
   arith,
-  parent_place c.args.topic.now c.args.out.now _ _ _ (sym c.parse_text.ensures ∙ c.in-Name.is),
+  parent_place c.args.topic.now c.args.out.now _ _ _ (sym c.parse_text.ensures ∙ c.in-Ok.is),
 )
 
 pub returns-then-out-n : goal.returns-then-out-n
 returns-then-out-n c =
     let a = c.args in
-    let e = sym c.parse_text.ensures ∙ c.in-Name.is in
+    let e = sym c.parse_text.ensures ∙ c.in-Ok.is in
     sym (parent-no-room a.topic.now a.out.now _ _ _ e (omega arith))
 
 pub put_bytes-requires : goal.put_bytes-requires
 put_bytes-requires c = omega (
   arith,
-  parent_place c.args.topic.now c.args.out.now _ _ _ (sym c.parse_text.ensures ∙ c.in-Name.is),
+  parent_place c.args.topic.now c.args.out.now _ _ _ (sym c.parse_text.ensures ∙ c.in-Ok.is),
 )
 
 pub slice_bounds-put_bytes-count : goal.slice_bounds-put_bytes-count
-slice_bounds-put_bytes-count c = omega (arith, parent_place c.args.topic.now c.args.out.now _ _ _ (sym c.parse_text.ensures ∙ c.in-Name.is))
+slice_bounds-put_bytes-count c = omega (arith, parent_place c.args.topic.now c.args.out.now _ _ _ (sym c.parse_text.ensures ∙ c.in-Ok.is))
 
 pub slice_bounds-put_bytes-start : goal.slice_bounds-put_bytes-start
 slice_bounds-put_bytes-start c = omega (
   arith,
-  parent_place c.args.topic.now c.args.out.now _ _ _ (sym c.parse_text.ensures ∙ c.in-Name.is),
+  parent_place c.args.topic.now c.args.out.now _ _ _ (sym c.parse_text.ensures ∙ c.in-Ok.is),
 )
 
-pub slice_bounds-put_bytes-end-in-Name : goal.slice_bounds-put_bytes-end-in-Name
-slice_bounds-put_bytes-end-in-Name c = omega (arith, parent_place c.args.topic.now c.args.out.now _ _ _ (sym c.parse_text.ensures ∙ c.in-Name.is))
+pub slice_bounds-put_bytes-end-in-Ok : goal.slice_bounds-put_bytes-end-in-Ok
+slice_bounds-put_bytes-end-in-Ok c = omega (arith, parent_place c.args.topic.now c.args.out.now _ _ _ (sym c.parse_text.ensures ∙ c.in-Ok.is))
 
-pub put_bytes-requires-in-Name : goal.put_bytes-requires-in-Name
-put_bytes-requires-in-Name c =
+pub put_bytes-requires-in-Ok : goal.put_bytes-requires-in-Ok
+put_bytes-requires-in-Ok c =
     omega (
       arith,
-      parent_place c.args.topic.now c.args.out.now _ _ _ (sym c.parse_text.ensures ∙ c.in-Name.is),
-      path-length c.args.topic.now c.args.out.now _ _ _ (sym c.parse_text.ensures ∙ c.in-Name.is),
+      parent_place c.args.topic.now c.args.out.now _ _ _ (sym c.parse_text.ensures ∙ c.in-Ok.is),
+      path-length c.args.topic.now c.args.out.now _ _ _ (sym c.parse_text.ensures ∙ c.in-Ok.is),
     )
 
-pub returns-in-Refused : goal.returns-in-Refused
-returns-in-Refused c =
+pub returns-in-Err : goal.returns-in-Err
+returns-in-Err c =
     let a = c.args in
-    let e = sym c.parse_text.ensures ∙ c.in-Refused.is in
+    let e = sym c.parse_text.ensures ∙ c.in-Err.is in
     sym (parent-refused a.topic.now a.out.now _ e)
 
 pub returns-else-out-n : goal.returns-else-out-n
 returns-else-out-n c =
     let a = c.args in
-    let e = sym c.parse_text.ensures ∙ c.in-Name.is in
-    let wrote = rw c.put_bytes.ensures at c.put_bytes-in-Name.ensures in
+    let e = sym c.parse_text.ensures ∙ c.in-Ok.is in
+    let wrote = rw c.put_bytes.ensures at c.put_bytes-in-Ok.ensures in
     ap (name_outcome _) wrote ∙ sym (parent-written a.topic.now a.out.now _ _ _ e (omega arith))

@@ -46,37 +46,37 @@ returns-in_default-segment_id c =
 pub overflow_cast-start : goal.overflow_cast-start
 overflow_cast-start c =
     let part = start_part c.args.d.now in
-    let p = word-told part _ (sym c.hex_word.ensures ∙ c.in-Is.is) in
+    let p = word-told part _ (sym c.hex_word.ensures ∙ c.in-Some.is) in
     omega (arith, word_bound part p.0, p.1)
 
 pub overflow_cast-end : goal.overflow_cast-end
 overflow_cast-end c =
     let part = end_part c.args.d.now in
-    let p = word-told part _ (sym c.hex_word-2.ensures ∙ c.in-Is-hex_word.is) in
+    let p = word-told part _ (sym c.hex_word-2.ensures ∙ c.in-Some-hex_word.is) in
     omega (arith, word_bound part p.0, p.1)
 
-pub returns-in-Invalid : goal.returns-in-Invalid
-returns-in-Invalid c =
-    let e = sym c.new.ensures ∙ c.in-Invalid.is in
+pub returns-in-Err : goal.returns-in-Err
+returns-in-Err c =
+    let e = sym c.new.ensures ∙ c.in-Err.is in
     sym ((let it : (
     descriptor_stage c.args.path_end c.args.d.now
-    ≡ range_stage c.args.path_end c.in-Is-segment_id.id (new_key_range c.in-Is.start c.in-Is-hex_word.end)) =
+    ≡ range_stage c.args.path_end c.in-Some-segment_id.id (new_key_range c.in-Some.start c.in-Some-hex_word.end)) =
     let dash4 = sym c.class_of.ensures ∙ c.if-class_of-ne-DASH.false in
     let dash9 = sym c.class_of-2.ensures ∙ c.if-class_of-ne-DASH-2.false in
     let id = sym ((let it : (
     c.segment_id.result ≡ segment_id_of (id_part c.args.d.now)) =
-    c.segment_id.ensures ∙ ap segment_id_of (rest c.args.d.now 10) in it)) ∙ c.in-Is-segment_id.is in
-    descriptor-range c.args.path_end c.args.d.now _ _ _ (sym c.hex_word.ensures ∙ c.in-Is.is) dash4 (sym c.hex_word-2.ensures ∙ c.in-Is-hex_word.is) dash9 id in it) ∙ range-invalid _ _ _ _ e)
+    c.segment_id.ensures ∙ ap segment_id_of (rest c.args.d.now 10) in it)) ∙ c.in-Some-segment_id.is in
+    descriptor-range c.args.path_end c.args.d.now _ _ _ (sym c.hex_word.ensures ∙ c.in-Some.is) dash4 (sym c.hex_word-2.ensures ∙ c.in-Some-hex_word.is) dash9 id in it) ∙ range-invalid _ _ _ _ e)
 
-pub returns-in-Valid : goal.returns-in-Valid
-returns-in-Valid c =
-    let e = sym c.new.ensures ∙ c.in-Valid.is in
+pub returns-in-Ok : goal.returns-in-Ok
+returns-in-Ok c =
+    let e = sym c.new.ensures ∙ c.in-Ok.is in
     sym ((let it : (
     descriptor_stage c.args.path_end c.args.d.now
-    ≡ range_stage c.args.path_end c.in-Is-segment_id.id (new_key_range c.in-Is.start c.in-Is-hex_word.end)) =
+    ≡ range_stage c.args.path_end c.in-Some-segment_id.id (new_key_range c.in-Some.start c.in-Some-hex_word.end)) =
     let dash4 = sym c.class_of.ensures ∙ c.if-class_of-ne-DASH.false in
     let dash9 = sym c.class_of-2.ensures ∙ c.if-class_of-ne-DASH-2.false in
     let id = sym ((let it : (
     c.segment_id.result ≡ segment_id_of (id_part c.args.d.now)) =
-    c.segment_id.ensures ∙ ap segment_id_of (rest c.args.d.now 10) in it)) ∙ c.in-Is-segment_id.is in
-    descriptor-range c.args.path_end c.args.d.now _ _ _ (sym c.hex_word.ensures ∙ c.in-Is.is) dash4 (sym c.hex_word-2.ensures ∙ c.in-Is-hex_word.is) dash9 id in it) ∙ range-valid _ _ _ _ e)
+    c.segment_id.ensures ∙ ap segment_id_of (rest c.args.d.now 10) in it)) ∙ c.in-Some-segment_id.is in
+    descriptor-range c.args.path_end c.args.d.now _ _ _ (sym c.hex_word.ensures ∙ c.in-Some.is) dash4 (sym c.hex_word-2.ensures ∙ c.in-Some-hex_word.is) dash9 id in it) ∙ range-valid _ _ _ _ e)

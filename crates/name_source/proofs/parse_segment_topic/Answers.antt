@@ -30,38 +30,38 @@ returns-in_default c =
 
 pub overflow_add-path_end : goal.overflow_add-path_end
 overflow_add-path_end c =
-    let told = sym (c.last_slash.ensures ∙ ap last_slash (rest c.args.t.now 10)) ∙ c.in-At.is in
+    let told = sym (c.last_slash.ensures ∙ ap last_slash (rest c.args.t.now 10)) ∙ c.in-Some.is in
     omega (arith, name-inside c.args.t.now (sym c.starts_with.ensures ∙ c.if-not-starts_with.false) _ told)
 
 pub slice_bounds-is_path-end : goal.slice_bounds-is_path-end
 slice_bounds-is_path-end c =
-    let told = sym (c.last_slash.ensures ∙ ap last_slash (rest c.args.t.now 10)) ∙ c.in-At.is in
+    let told = sym (c.last_slash.ensures ∙ ap last_slash (rest c.args.t.now 10)) ∙ c.in-Some.is in
     omega (arith, name-inside c.args.t.now (sym c.starts_with.ensures ∙ c.if-not-starts_with.false) _ told)
 
 pub returns-then-not-is_path : goal.returns-then-not-is_path
 returns-then-not-is_path c =
     let t = c.args.t.now in
-    let n = c.in-At.n in
-    let told = sym (c.last_slash.ensures ∙ ap last_slash (rest t 10)) ∙ c.in-At.is in
+    let n = c.in-Some.n in
+    let told = sym (c.last_slash.ensures ∙ ap last_slash (rest t 10)) ∙ c.in-Some.is in
     let e : 10 + n - 10 ≡ n = omega arith in
     let path = sym (c.is_path.ensures ∙ ap (λ (m : ℕ). is_path (take m (drop 10 t))) e) ∙ c.if-not-is_path.true in
     sym (name-no-path t (sym c.starts_with.ensures ∙ c.if-not-starts_with.false) n told path)
 
 pub slice_bounds-parse_descriptor-count : goal.slice_bounds-parse_descriptor-count
 slice_bounds-parse_descriptor-count c =
-    let told = sym (c.last_slash.ensures ∙ ap last_slash (rest c.args.t.now 10)) ∙ c.in-At.is in
+    let told = sym (c.last_slash.ensures ∙ ap last_slash (rest c.args.t.now 10)) ∙ c.in-Some.is in
     omega (arith, name-inside c.args.t.now (sym c.starts_with.ensures ∙ c.if-not-starts_with.false) _ told)
 
 pub slice_bounds-parse_descriptor-start : goal.slice_bounds-parse_descriptor-start
 slice_bounds-parse_descriptor-start c =
-    let told = sym (c.last_slash.ensures ∙ ap last_slash (rest c.args.t.now 10)) ∙ c.in-At.is in
+    let told = sym (c.last_slash.ensures ∙ ap last_slash (rest c.args.t.now 10)) ∙ c.in-Some.is in
     omega (arith, name-inside c.args.t.now (sym c.starts_with.ensures ∙ c.if-not-starts_with.false) _ told)
 
 pub returns : goal.returns
 returns c =
     let t = c.args.t.now in
-    let n = c.in-At.n in
-    let told = sym (c.last_slash.ensures ∙ ap last_slash (rest t 10)) ∙ c.in-At.is in
+    let n = c.in-Some.n in
+    let told = sym (c.last_slash.ensures ∙ ap last_slash (rest t 10)) ∙ c.in-Some.is in
     let e : 10 + n - 10 ≡ n = omega arith in
     let path = sym (c.is_path.ensures ∙ ap (λ (m : ℕ). is_path (take m (drop 10 t))) e) ∙ c.if-not-is_path.false in
     c.parse_descriptor.ensures

@@ -21,10 +21,10 @@ slice_bounds-write_segment_topic-count c =
 pub slice_bounds-write_segment_topic-start : goal.slice_bounds-write_segment_topic-start
 slice_bounds-write_segment_topic-start c = omega (arith, parent-long c.args.parent.now (sym c.is_parent.ensures ∙ c.if-is_parent.true))
 
-pub returns-in-Invalid : goal.returns-in-Invalid
-returns-in-Invalid c =
+pub returns-in-Err : goal.returns-in-Err
+returns-in-Err c =
     let a = c.args in
-    let none = sym c.new.ensures ∙ c.in-Invalid.is in
+    let none = sym c.new.ensures ∙ c.in-Err.is in
     sym (canonical-no-range a.parent.now a.start a.end a.id a.out.now (sym c.is_utf8.ensures ∙ c.if-not-is_utf8.false) _ none)
 
 pub returns-then-is_parent : goal.returns-then-is_parent
@@ -32,10 +32,10 @@ returns-then-is_parent c =
     let a = c.args in
     let valid = sym c.is_parent.ensures ∙ c.if-is_parent.true in
     (rw (rest a.parent.now 8) at c.write_segment_topic.ensures)
-    ∙ sym (canonical-written a.parent.now a.start a.end a.id a.out.now (sym c.is_utf8.ensures ∙ c.if-not-is_utf8.false) _ (sym c.new.ensures ∙ c.in-Valid.is) valid)
+    ∙ sym (canonical-written a.parent.now a.start a.end a.id a.out.now (sym c.is_utf8.ensures ∙ c.if-not-is_utf8.false) _ (sym c.new.ensures ∙ c.in-Ok.is) valid)
 
 pub returns-else-is_parent : goal.returns-else-is_parent
 returns-else-is_parent c =
     let a = c.args in
     let other = sym c.is_parent.ensures ∙ c.if-is_parent.false in
-    sym (canonical-no-parent a.parent.now a.start a.end a.id a.out.now (sym c.is_utf8.ensures ∙ c.if-not-is_utf8.false) _ (sym c.new.ensures ∙ c.in-Valid.is) other)
+    sym (canonical-no-parent a.parent.now a.start a.end a.id a.out.now (sym c.is_utf8.ensures ∙ c.if-not-is_utf8.false) _ (sym c.new.ensures ∙ c.in-Ok.is) other)

@@ -19,11 +19,11 @@ pub returns-then-not-ids_rise : goal.returns-then-not-ids_rise
 returns-then-not-ids_rise c =
     front-falls (counts (goal.at.returns-then-not-ids_rise c).After-read_u16-gained) (sym (c.if-not-ids_rise.true) ∙ c.ids_rise.ensures)
 
-pub returns-in-End : goal.returns-in-End
-returns-in-End c =
-    front-valid (counts (goal.at.returns-in-End c).After-read_u16-gained) (sym (c.if-not-ids_rise.false) ∙ c.ids_rise.ensures) c.in-End.size
-    (sym c.in-End.is ∙ c.records_to.ensures)
+pub returns-in-Some : goal.returns-in-Some
+returns-in-Some c =
+    front-valid (counts (goal.at.returns-in-Some c).After-read_u16-gained) (sym (c.if-not-ids_rise.false) ∙ c.ids_rise.ensures) c.in-Some.size
+    (sym c.in-Some.is ∙ c.records_to.ensures)
 
-pub returns-in-Malformed : goal.returns-in-Malformed
-returns-in-Malformed c =
-    front-bad (counts (goal.at.returns-in-Malformed c).After-read_u16-gained) (sym c.in-Malformed.is ∙ c.records_to.ensures)
+pub returns-in-None : goal.returns-in-None
+returns-in-None c =
+    front-bad (counts (goal.at.returns-in-None c).After-read_u16-gained) (sym c.in-None.is ∙ c.records_to.ensures)

@@ -9,12 +9,12 @@ use Rattle.packed.proofs.AssignmentLaws.{RecordIs, record_is}
 use Rattle.packed_delta.proofs.ReadLaws.{lowest-first, lowest-above, lowest-stale}
 use Rattle.packed_delta.proofs.ReadLaws.{records-start, records-cut, records-stale, records-next, records-end}
 use Rattle.packed_delta.proofs.records_to.Goals as goal
-use Rattle.packed_delta.proofs.records_to.Goals.{In-Record, then-not-first+else-id-prev, else-not-first}
+use Rattle.packed_delta.proofs.records_to.Goals.{In-Some, then-not-first+else-id-prev, else-not-first}
 
 -- what the record that was read says
-record-here : (k : In-Record) → RecordIs k.args.s.now k.loop-left.p (length k.args.s.now) k.in-Record.id k.in-Record.size
+record-here : (k : In-Some) → RecordIs k.args.s.now k.loop-left.p (length k.args.s.now) k.in-Some.id k.in-Some.size
 record-here k =
-    let r = k.in-Record in
+    let r = k.in-Some in
     record_is k.args.s.now k.loop-left.p (length k.args.s.now) r.id r.size (sym r.is ∙ k.record_at.ensures)
 
 pub loop-left-init : goal.loop-left-init
@@ -27,19 +27,19 @@ returns-in_default c =
 pub returns-then-id-prev : goal.returns-then-id-prev
 returns-then-id-prev c =
     let l = c.loop-left in
-    let i = c.in-Record.id in
-    records-stale l.invariant c.loop-left-test.true (record-here (goal.at.returns-then-id-prev c).In-Record)
+    let i = c.in-Some.id in
+    records-stale l.invariant c.loop-left-test.true (record-here (goal.at.returns-then-id-prev c).In-Some)
     (lowest-stale l.first l.prev i (ap not c.if-not-first.true) c.if-id-prev.true)
 
 pub overflow_add-p : goal.overflow_add-p
 overflow_add-p c =
-    let g = record-here (goal.at.overflow_add-p c).In-Record in omega (arith, g.fits, g.size_is, c.well_formed)
+    let g = record-here (goal.at.overflow_add-p c).In-Some in omega (arith, g.fits, g.size_is, c.well_formed)
 
 pub loop-left-preserved : goal.loop-left-preserved
 loop-left-preserved c =
     let l = c.loop-left in
-    let i = c.in-Record.id in
-    records-next l.invariant c.loop-left-test.true (record-here (goal.at.loop-left-preserved c).In-Record)
+    let i = c.in-Some.id in
+    records-next l.invariant c.loop-left-test.true (record-here (goal.at.loop-left-preserved c).In-Some)
     (elim c.if-not-first.branch [
       | then-not-first+else-id-prev w ↦ lowest-above l.first l.prev i (ap not w.if-not-first.true) w.if-id-prev.false
       | else-not-first w ↦ lowest-first l.first l.prev i (ap not w.if-not-first.false)

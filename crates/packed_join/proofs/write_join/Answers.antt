@@ -8,18 +8,18 @@ use Rattle.packed_overlay.specs.Overlay.{overlay, records_in, ids_in}
 use Rattle.packed_overlay.proofs.FitLaws.{Fits, fit-size}
 use Rattle.packed_join.proofs.JoinLaws.{Walks, walks, many-lost, no-head, no-records, many-gained, all-written}
 use Rattle.packed_join.proofs.write_join.Goals as goal
-use Rattle.packed_join.proofs.write_join.Goals.{Start, In-Size}
+use Rattle.packed_join.proofs.write_join.Goals.{Start, In-Some}
 
-fit-in : (c : In-Size) → Fits (length c.args.out.now - (12 + 8 * c.union_count-losses.result))
+fit-in : (c : In-Some) → Fits (length c.args.out.now - (12 + 8 * c.union_count-losses.result))
     (overlay (ids_in c.args.e.now c.args.b.lost) (records_in c.args.e.now c.args.b.gained) (records_in c.args.d.now c.args.a.gained))
-    c.in-Size.gains c.in-Size.size
-fit-in c = fit-size _ _ _ _ (sym c.in-Size.is ∙ c.overlay_fit.ensures)
+    c.in-Some.gains c.in-Some.size
+fit-in c = fit-size _ _ _ _ (sym c.in-Some.is ∙ c.overlay_fit.ensures)
 
 -- the head, the ids and the records have room
-room : (c : In-Size) → 12 + 8 * c.union_count-losses.result + c.in-Size.size ≤ length c.args.out.now
+room : (c : In-Some) → 12 + 8 * c.union_count-losses.result + c.in-Some.size ≤ length c.args.out.now
 room c = omega (arith, (fit-in c).size, (fit-in c).within, c.if-out-head.false)
 
-end_fits : (c : In-Size) → 12 + 8 * c.union_count-losses.result + c.in-Size.size < 2 ^ 64
+end_fits : (c : In-Some) → 12 + 8 * c.union_count-losses.result + c.in-Some.size < 2 ^ 64
 end_fits c = omega (arith, room c)
 
 -- a walk over the rows of each delta
@@ -69,21 +69,21 @@ returns-then-gains-gt-MAX_COUNT c =
     let s = (goal.at.returns-then-gains-gt-MAX_COUNT c).Start in
     let first = first-walks s in
     let second = second-walks s in
-    many-gained first second c.args.out.now c.union_count-losses.ensures (fit-in (goal.at.returns-then-gains-gt-MAX_COUNT c).In-Size) c.if-gains-gt-MAX_COUNT.true
+    many-gained first second c.args.out.now c.union_count-losses.ensures (fit-in (goal.at.returns-then-gains-gt-MAX_COUNT c).In-Some) c.if-gains-gt-MAX_COUNT.true
 
 pub write_overlay-requires : goal.write_overlay-requires
 write_overlay-requires c =
     let s = (goal.at.write_overlay-requires c).Start in
     let first = first-walks s in
     let second = second-walks s in
-    record { record_row = first.records; id_row = second.ids; record_row_2 = second.records; kept_in_bounds = omega (arith, (fit-in (goal.at.write_overlay-requires c).In-Size).size, room (goal.at.write_overlay-requires c).In-Size) }
+    record { record_row = first.records; id_row = second.ids; record_row_2 = second.records; kept_in_bounds = omega (arith, (fit-in (goal.at.write_overlay-requires c).In-Some).size, room (goal.at.write_overlay-requires c).In-Some) }
 
 pub write_union-requires : goal.write_union-requires
 write_union-requires c =
     let s = (goal.at.write_union-requires c).Start in
     let first = first-walks s in
     let second = second-walks s in
-    record { id_row = first.ids; id_row_2 = second.ids; b_in_bounds = omega (arith, room (goal.at.write_union-requires c).In-Size, c.union_count-losses.ensures, c.write_overlay.auto.out) }
+    record { id_row = first.ids; id_row_2 = second.ids; b_in_bounds = omega (arith, room (goal.at.write_union-requires c).In-Some, c.union_count-losses.ensures, c.write_overlay.auto.out) }
 
 pub read_u64-requires : goal.read_u64-requires
 read_u64-requires c =
@@ -94,14 +94,14 @@ read_u64-requires c =
 
 pub overflow_add-result : goal.overflow_add-result
 overflow_add-result c =
-    omega (arith, end_fits (goal.at.overflow_add-result c).In-Size)
+    omega (arith, end_fits (goal.at.overflow_add-result c).In-Some)
 
 pub returns : goal.returns
 returns c =
     let s = (goal.at.returns c).Start in
     let first = first-walks s in
     let second = second-walks s in
-    all-written first second c.args.out.now c.union_count-losses.ensures (fit-in (goal.at.returns c).In-Size) c.if-losses-gt-MAX_COUNT.false c.if-gains-gt-MAX_COUNT.false (room (goal.at.returns c).In-Size)
+    all-written first second c.args.out.now c.union_count-losses.ensures (fit-in (goal.at.returns c).In-Some) c.if-losses-gt-MAX_COUNT.false c.if-gains-gt-MAX_COUNT.false (room (goal.at.returns c).In-Some)
     c.write_overlay.new.out c.write_union.new.out c.write_u16.new.out c.write_u16-2.new.out
     c.write_u64.new.out c.read_u64.result c.write_overlay.ensures c.write_union.ensures c.write_u16.ensures
     c.write_u16-2.ensures c.read_u64.ensures c.write_u64.ensures

@@ -4,20 +4,20 @@ use mathlib.Core.Path.{sym, ◌∙◌}
 use Rattle.ranges_calls.specs.Calls.{pair_by}
 use Rattle.ranges_calls.proofs.both.Goals as goal
 
-pub returns-in-Invalid : goal.returns-in-Invalid
+pub returns-in-Err : goal.returns-in-Err
 unfolding pair_by
-returns-in-Invalid c = let e = sym c.new.ensures ∙ c.in-Invalid.is in rw e
+returns-in-Err c = let e = sym c.new.ensures ∙ c.in-Err.is in rw e
 
-pub returns-in-Invalid-new : goal.returns-in-Invalid-new
+pub returns-in-Err-new : goal.returns-in-Err-new
 unfolding pair_by
-returns-in-Invalid-new c =
-    let e = sym c.new.ensures ∙ c.in-Valid.is in
-    let f = sym c.new-in-Valid.ensures ∙ c.in-Invalid-new.is in
+returns-in-Err-new c =
+    let e = sym c.new.ensures ∙ c.in-Ok.is in
+    let f = sym c.new-in-Ok.ensures ∙ c.in-Err-new.is in
     rw (e, f)
 
-pub returns-in-Valid-new : goal.returns-in-Valid-new
+pub returns-in-Ok-new : goal.returns-in-Ok-new
 unfolding pair_by
-returns-in-Valid-new c =
-    let e = sym c.new.ensures ∙ c.in-Valid.is in
-    let f = sym c.new-in-Valid.ensures ∙ c.in-Valid-new.is in
+returns-in-Ok-new c =
+    let e = sym c.new.ensures ∙ c.in-Ok.is in
+    let f = sym c.new-in-Ok.ensures ∙ c.in-Ok-new.is in
     rw (e, f)

@@ -4,12 +4,12 @@ use mathlib.Core.Path.{sym, ◌∙◌}
 use Rattle.ranges_calls.specs.Calls.{contains_of}
 use Rattle.ranges_calls.proofs.contains.Goals as goal
 
-pub returns-in-Invalid : goal.returns-in-Invalid
+pub returns-in-Err : goal.returns-in-Err
 unfolding contains_of
-returns-in-Invalid c = let e = sym c.new.ensures ∙ c.in-Invalid.is in rw e
+returns-in-Err c = let e = sym c.new.ensures ∙ c.in-Err.is in rw e
 
-pub returns-in-Valid : goal.returns-in-Valid
+pub returns-in-Ok : goal.returns-in-Ok
 unfolding contains_of
-returns-in-Valid c =
-    let e = sym c.new.ensures ∙ c.in-Valid.is in
+returns-in-Ok c =
+    let e = sym c.new.ensures ∙ c.in-Ok.is in
     rw (e, c.holds_hash.ensures)

@@ -8,18 +8,18 @@ use Rattle.ranges_calls.proofs.len.Goals as goal
 
 pub overflow_sub-result : goal.overflow_sub-result
 overflow_sub-result c =
-    let e = sym c.new.ensures ∙ c.in-Valid.is in
+    let e = sym c.new.ensures ∙ c.in-Ok.is in
     omega (arith, new-valid _ _ _ e)
 
 pub overflow_add-result : goal.overflow_add-result
 overflow_add-result c =
-    let e = sym c.new.ensures ∙ c.in-Valid.is in
+    let e = sym c.new.ensures ∙ c.in-Ok.is in
     omega (arith, new-valid _ _ _ e)
 
-pub returns-in-Invalid : goal.returns-in-Invalid
+pub returns-in-Err : goal.returns-in-Err
 unfolding length_of
-returns-in-Invalid c = let e = sym c.new.ensures ∙ c.in-Invalid.is in rw e
+returns-in-Err c = let e = sym c.new.ensures ∙ c.in-Err.is in rw e
 
-pub returns-in-Valid : goal.returns-in-Valid
+pub returns-in-Ok : goal.returns-in-Ok
 unfolding length_of
-returns-in-Valid c = let e = sym c.new.ensures ∙ c.in-Valid.is in rw e
+returns-in-Ok c = let e = sym c.new.ensures ∙ c.in-Ok.is in rw e

@@ -1,5 +1,6 @@
 -- `session_link::begun` meets its contract.
 -- Assumes nothing.
+use Rattle.std.specs.Prelude.{Ok}
 use native.Mathlib.Omega.{arith}
 use mathlib.Core.Path.{ap}
 use borrow.Author.Tests.{le-ltb, lt-ltb}
@@ -17,4 +18,4 @@ pub returns : goal.returns
 unfolding begin_of
 returns c =
     rw (lt-ltb c.args.r.incarnation.0 c.args.incarnation.0 (omega (arith, c.if-incarnation-prev.false)))
-    (ap (λ (next : SessionRecord). record { next = next; answer = Accepted }) c.unregister-next.ensures)
+    (ap (λ (next : SessionRecord). record { next = next; answer = (Ok Accepted) }) c.unregister-next.ensures)

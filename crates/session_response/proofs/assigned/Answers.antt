@@ -20,23 +20,23 @@ first_stale-requires c =
 
 pub register-requires : goal.register-requires
 register-requires c =
-    record { min_store_in_bounds = c.requires.min_store_in_bounds; scratch = c.requires.scratch; count_value = c.replay_count-count.ensures; last_begins = last_begins c.args.store.now _ _ _ (sym c.in-Nowhere.is ∙ c.first_stale.ensures) }
+    record { min_store_in_bounds = c.requires.min_store_in_bounds; scratch = c.requires.scratch; count_value = c.replay_count-count.ensures; last_begins = last_begins c.args.store.now _ _ _ (sym c.in-Ok.is ∙ c.first_stale.ensures) }
 
-pub returns-in-At : goal.returns-in-At
-returns-in-At c =
-    refused-out c.args.r c.args.store.now c.refuse-in-At.result _ _ c.refuse-in-At.ensures
+pub returns-in-Err : goal.returns-in-Err
+returns-in-Err c =
+    refused-out c.args.r c.args.store.now c.refuse-in-Err.result _ _ c.refuse-in-Err.ensures
     (assignment-stale c.args.r c.args.store.now (decode_assignment c.args.b.now) c.first_stale.result (let it : (Decided c.args.r c.args.store.now (decode_assignment c.args.b.now) c.first_stale.result) = queue-decides c.args.r c.args.store.now (decode_assignment c.args.b.now) c.read_u64-epoch.result
     (buffer-epoch c.args.b.now c.read_u64-epoch.result c.read_u64-epoch.ensures)
     c.below_floor.result c.below_floor.ensures c.if-below_floor.false c.replay_count-count.result c.replay_count-count.ensures
     c.first_stale.result c.first_stale.ensures in it)
-    c.in-At.got c.in-At.prev c.in-At.is)
+    c.in-Err.got c.in-Err.prev c.in-Err.is)
 
-pub returns-in-Nowhere : goal.returns-in-Nowhere
-returns-in-Nowhere c =
+pub returns-in-Ok : goal.returns-in-Ok
+returns-in-Ok c =
     given_out c.args.r c.args.store.now c.register.result c.register.new.store _ _
     (assignment-on c.args.r c.args.store.now (decode_assignment c.args.b.now) c.first_stale.result (let it : (Decided c.args.r c.args.store.now (decode_assignment c.args.b.now) c.first_stale.result) = queue-decides c.args.r c.args.store.now (decode_assignment c.args.b.now) c.read_u64-epoch.result
     (buffer-epoch c.args.b.now c.read_u64-epoch.result c.read_u64-epoch.ensures)
     c.below_floor.result c.below_floor.ensures c.if-below_floor.false c.replay_count-count.result c.replay_count-count.ensures
     c.first_stale.result c.first_stale.ensures in it)
-    _ c.in-Nowhere.is)
+    _ c.in-Ok.is)
     c.register.ensures

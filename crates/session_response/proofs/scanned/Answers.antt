@@ -15,18 +15,18 @@ pub returns-then-incarnation-expected : goal.returns-then-incarnation-expected
 returns-then-incarnation-expected c =
     refused-out c.args.r c.args.store.now c.refuse-then-incarnation-expected.result _ _ c.refuse-then-incarnation-expected.ensures
     (message-valid c.args.r c.args.store.now c.args.message.now c.args.incarnation
-    (sym c.first_fault.ensures ∙ c.in-Valid.is)
+    (sym c.first_fault.ensures ∙ c.in-Ok.is)
     ∙ valid-mismatch c.args.r c.args.store.now (response_of c.args.message.now) c.args.incarnation c.if-incarnation-expected.true)
 
-pub returns-in-Refused : goal.returns-in-Refused
-returns-in-Refused c =
+pub returns-in-Err : goal.returns-in-Err
+returns-in-Err c =
     refused-out c.args.r c.args.store.now c.refuse.result _ _ c.refuse.ensures
-    (message-bad c.args.r c.args.store.now c.args.message.now c.args.incarnation c.in-Refused.x
-    (sym c.first_fault.ensures ∙ c.in-Refused.is))
+    (message-bad c.args.r c.args.store.now c.args.message.now c.args.incarnation c.in-Err.x
+    (sym c.first_fault.ensures ∙ c.in-Err.is))
 
 pub returns-else-incarnation-expected : goal.returns-else-incarnation-expected
 returns-else-incarnation-expected c =
     given_out c.args.r c.args.store.now c.answered.result c.answered.new.store _ _
     (message-valid c.args.r c.args.store.now c.args.message.now c.args.incarnation
-    (sym c.first_fault.ensures ∙ c.in-Valid.is))
+    (sym c.first_fault.ensures ∙ c.in-Ok.is))
     (c.answered.ensures (response_of c.args.message.now) c.take_response-intake.ensures.is)

@@ -53,13 +53,13 @@ overflow_add-end c =
         arith,
         ((let it : (let s = k in
             (damaged (view s.args.r s.args.store.now) ≡ false)
-            × QueueEnds s.args.store.now s.args.r.queue_count (6144 + k.in-End.size)) = let a = k in
+            × QueueEnds s.args.store.now s.args.r.queue_count (6144 + k.in-Some.size)) = let a = k in
             let l = a in
             let m = l in
             let n = m in
             let k = n in
             let s = k in
-            let e = sym k.in-End.is ∙ a.read_entries.ensures in (
+            let e = sym k.in-Some.is ∙ a.read_entries.ensures in (
               queue-valid s.args.r s.args.store.now k.if-r-gt-MAX_QUEUE.false (within (goal.at.overflow_add-end c).Else-any_beyond) m.is_identity.result
                   (named (goal.at.overflow_add-end c).After-is_identity) (ap not m.if-not-is_identity.false) l.lists_start.result l.lists_start.ensures (ap not l.if-not-lists_start.false) _ e,
               queue-ended s.args.r s.args.store.now k.if-r-gt-MAX_QUEUE.false (within (goal.at.overflow_add-end c).Else-any_beyond) m.is_identity.result
@@ -69,30 +69,30 @@ overflow_add-end c =
       );
     }
 
-pub returns-in-End : goal.returns-in-End
-returns-in-End c = (let it : (let s = c in
+pub returns-in-Some : goal.returns-in-Some
+returns-in-Some c = (let it : (let s = c in
     (damaged (view s.args.r s.args.store.now) ≡ false)
-    × QueueEnds s.args.store.now s.args.r.queue_count (6144 + c.in-End.size)) = let a = c in
+    × QueueEnds s.args.store.now s.args.r.queue_count (6144 + c.in-Some.size)) = let a = c in
     let l = a in
     let m = l in
     let n = m in
     let k = n in
     let s = k in
-    let e = sym c.in-End.is ∙ a.read_entries.ensures in (
-      queue-valid s.args.r s.args.store.now k.if-r-gt-MAX_QUEUE.false (within (goal.at.returns-in-End c).Else-any_beyond) m.is_identity.result
-          (named (goal.at.returns-in-End c).After-is_identity) (ap not m.if-not-is_identity.false) l.lists_start.result l.lists_start.ensures (ap not l.if-not-lists_start.false) _ e,
-      queue-ended s.args.r s.args.store.now k.if-r-gt-MAX_QUEUE.false (within (goal.at.returns-in-End c).Else-any_beyond) m.is_identity.result
-          (named (goal.at.returns-in-End c).After-is_identity) (ap not m.if-not-is_identity.false) l.lists_start.result l.lists_start.ensures (ap not l.if-not-lists_start.false) _ e s.requires,
+    let e = sym c.in-Some.is ∙ a.read_entries.ensures in (
+      queue-valid s.args.r s.args.store.now k.if-r-gt-MAX_QUEUE.false (within (goal.at.returns-in-Some c).Else-any_beyond) m.is_identity.result
+          (named (goal.at.returns-in-Some c).After-is_identity) (ap not m.if-not-is_identity.false) l.lists_start.result l.lists_start.ensures (ap not l.if-not-lists_start.false) _ e,
+      queue-ended s.args.r s.args.store.now k.if-r-gt-MAX_QUEUE.false (within (goal.at.returns-in-Some c).Else-any_beyond) m.is_identity.result
+          (named (goal.at.returns-in-Some c).After-is_identity) (ap not m.if-not-is_identity.false) l.lists_start.result l.lists_start.ensures (ap not l.if-not-lists_start.false) _ e s.requires,
     ) in it)
 
-pub returns-in-Malformed : goal.returns-in-Malformed
-returns-in-Malformed c =
+pub returns-in-None : goal.returns-in-None
+returns-in-None c =
     let a = c in
     let l = a in
     let m = l in
     let n = m in
     let k = n in
     let s = k in
-    queue-bad s.args.r s.args.store.now k.if-r-gt-MAX_QUEUE.false (within (goal.at.returns-in-Malformed c).Else-any_beyond) m.is_identity.result
-    (named (goal.at.returns-in-Malformed c).After-is_identity) (ap not m.if-not-is_identity.false) l.lists_start.result l.lists_start.ensures (ap not l.if-not-lists_start.false)
-    (sym c.in-Malformed.is ∙ a.read_entries.ensures)
+    queue-bad s.args.r s.args.store.now k.if-r-gt-MAX_QUEUE.false (within (goal.at.returns-in-None c).Else-any_beyond) m.is_identity.result
+    (named (goal.at.returns-in-None c).After-is_identity) (ap not m.if-not-is_identity.false) l.lists_start.result l.lists_start.ensures (ap not l.if-not-lists_start.false)
+    (sym c.in-None.is ∙ a.read_entries.ensures)

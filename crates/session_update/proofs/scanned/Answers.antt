@@ -16,28 +16,28 @@ pub take_assignment-intake-requires : goal.take_assignment-intake-requires
 take_assignment-intake-requires c =
     record { min_store_in_bounds = (c.requires.min_store_in_bounds.0, identity-valid c.args.r c.args.store.now c.requires.store_tested.0); assignment_field = (inl refl, c.requires.b_len); epoch_value = update-epoch c.args.message.now _ c.read_update-head.ensures.epoch }
 
-pub returns-in-Refused : goal.returns-in-Refused
-returns-in-Refused c =
+pub returns-in-Err : goal.returns-in-Err
+returns-in-Err c =
     told c.args.store.now c.args.out.now c.refuse.ensures
-    (message-bad c.args.r c.args.store.now c.args.message.now c.args.incarnation c.args.out.now c.in-Refused.x
-    (sym c.first_fault.ensures ∙ c.in-Refused.is))
+    (message-bad c.args.r c.args.store.now c.args.message.now c.args.incarnation c.args.out.now c.in-Err.x
+    (sym c.first_fault.ensures ∙ c.in-Err.is))
 
-pub returns-in-Refused-address_of : goal.returns-in-Refused-address_of
-returns-in-Refused-address_of c =
+pub returns-in-Err-address_of : goal.returns-in-Err-address_of
+returns-in-Err-address_of c =
     let u = update_of c.args.message.now in
-    told c.args.store.now c.args.out.now c.refuse-in-Refused-address_of.ensures
+    told c.args.store.now c.args.out.now c.refuse-in-Err-address_of.ensures
     (message-valid c.args.r c.args.store.now c.args.message.now c.args.incarnation c.args.out.now
-    (sym c.first_fault.ensures ∙ c.in-Valid.is)
+    (sym c.first_fault.ensures ∙ c.in-Ok.is)
     (turned-away c.args.r c.args.store.now c.args.out.now c.args.incarnation u _
-    (c.address_of.ensures ∙ ap (address_of c.args.r c.args.incarnation) c.read_update-head.ensures.id) c.in-Refused-address_of.x c.in-Refused-address_of.is))
+    (c.address_of.ensures ∙ ap (address_of c.args.r c.args.incarnation) c.read_update-head.ensures.id) c.in-Err-address_of.x c.in-Err-address_of.is))
 
-pub returns-in-Here : goal.returns-in-Here
-returns-in-Here c =
+pub returns-in-Ok : goal.returns-in-Ok
+returns-in-Ok c =
     let u = update_of c.args.message.now in
     message-valid c.args.r c.args.store.now c.args.message.now c.args.incarnation c.args.out.now
-    (sym c.first_fault.ensures ∙ c.in-Valid.is)
+    (sym c.first_fault.ensures ∙ c.in-Ok.is)
     (let-in c.args.r c.args.store.now c.args.out.now c.args.incarnation u _
-    (c.address_of.ensures ∙ ap (address_of c.args.r c.args.incarnation) c.read_update-head.ensures.id) c.in-Here.is
+    (c.address_of.ensures ∙ ap (address_of c.args.r c.args.incarnation) c.read_update-head.ensures.id) c.in-Ok.is
     (c.received.ensures
     ∙ ap (λ (y : Content). effect_of (update_content (view c.args.r c.args.store.now) y) c.args.store.now c.args.out.now)
     (sym (update-content c.args.message.now c.args.store.now c.take_assignment-intake.ensures.is))))

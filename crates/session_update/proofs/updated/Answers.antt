@@ -1,9 +1,9 @@
 -- `session_update::updated` meets its contract: a test after the other.
 -- Assumes nothing.
+use Rattle.std.specs.Prelude.{ℕ, Option}
 use mathlib.Core.Path.{refl, subst}
 use mathlib.Core.Logic.{inl}
 use Rattle.wire_readers.specs.Messages.{update_of}
-use Rattle.session_store.specs.declared.Tested.{Tested}
 use Rattle.session_store.specs.Tests.{StoreTested}
 use Rattle.session_update.proofs.UpdateLaws.{told, store-short, output-short, store-bad, call-sound}
 use Rattle.session_update.proofs.UpdateLaws.{identity-valid, update-content, ordered-consumer, message-valid}
@@ -27,29 +27,29 @@ returns-in_default c =
     told c.args.store.now c.args.out.now c.refuse-in_default.ensures
     (store-bad c.args.r c.args.store.now c.args.message.now c.args.incarnation c.args.out.now
     c.if-store-lt-MIN_STORE.false c.if-out-lt-LONGEST.false
-    (subst (λ (x : Tested). StoreTested c.args.r c.args.store.now x) c.in_default.is c.test_store.ensures))
+    (subst (λ (x : Option ℕ). StoreTested c.args.r c.args.store.now x) c.in_default.is c.test_store.ensures))
 
 pub take_ordered_message-requires : goal.take_ordered_message-requires
 take_ordered_message-requires c =
-    record { min_store_in_bounds = (c.if-store-lt-MIN_STORE.false, identity-valid c.args.r c.args.store.now c.in-Sound.ensures.0); assignment_field = (inl refl, refl) }
+    record { min_store_in_bounds = (c.if-store-lt-MIN_STORE.false, identity-valid c.args.r c.args.store.now c.in-Some.ensures.0); assignment_field = (inl refl, refl) }
 
 pub addressed-requires : goal.addressed-requires
 addressed-requires c =
-    record { min_store_in_bounds = (c.if-store-lt-MIN_STORE.false, c.if-out-lt-LONGEST.false); store_tested = c.in-Sound.ensures; scratch = c.in-Taken.ensures.answers.ready }
+    record { min_store_in_bounds = (c.if-store-lt-MIN_STORE.false, c.if-out-lt-LONGEST.false); store_tested = c.in-Some.ensures; scratch = c.in-Some.ensures.answers.ready }
 
 pub scanned-requires : goal.scanned-requires
 scanned-requires c =
-    record { min_store_in_bounds = (c.if-store-lt-MIN_STORE.false, c.if-out-lt-LONGEST.false); store_tested = c.in-Sound.ensures; b_len = search rules }
+    record { min_store_in_bounds = (c.if-store-lt-MIN_STORE.false, c.if-out-lt-LONGEST.false); store_tested = c.in-Some.ensures; b_len = search rules }
 
-pub returns-in-Taken : goal.returns-in-Taken
-returns-in-Taken c =
+pub returns-in-Some : goal.returns-in-Some
+returns-in-Some c =
     call-sound c.args.r c.args.store.now c.args.message.now c.args.incarnation c.args.out.now
-    c.if-store-lt-MIN_STORE.false c.if-out-lt-LONGEST.false c.in-Sound.ensures.0
-    (message-valid c.args.r c.args.store.now c.args.message.now c.args.incarnation c.args.out.now c.in-Taken.ensures.valid
-    (c.addressed.ensures (update_of c.args.message.now) (ordered-consumer c.args.message.now c.args.store.now _ _ _ c.in-Taken.ensures)
-    (update-content c.args.message.now c.args.store.now c.in-Taken.ensures.answers.is)))
+    c.if-store-lt-MIN_STORE.false c.if-out-lt-LONGEST.false c.in-Some.ensures.0
+    (message-valid c.args.r c.args.store.now c.args.message.now c.args.incarnation c.args.out.now c.in-Some.ensures.valid
+    (c.addressed.ensures (update_of c.args.message.now) (ordered-consumer c.args.message.now c.args.store.now _ _ _ c.in-Some.ensures)
+    (update-content c.args.message.now c.args.store.now c.in-Some.ensures.answers.is)))
 
-pub returns-in-Other : goal.returns-in-Other
-returns-in-Other c =
+pub returns-in-None : goal.returns-in-None
+returns-in-None c =
     call-sound c.args.r c.args.store.now c.args.message.now c.args.incarnation c.args.out.now
-    c.if-store-lt-MIN_STORE.false c.if-out-lt-LONGEST.false c.in-Sound.ensures.0 c.scanned.ensures
+    c.if-store-lt-MIN_STORE.false c.if-out-lt-LONGEST.false c.in-Some.ensures.0 c.scanned.ensures

@@ -20,13 +20,13 @@ returns-then-not-is_set c = sym (set-bad _ _ _ _ _ (sym c.is_set.ensures ∙ c.i
 pub update-requires : goal.update-requires
 update-requires c = record { used_in_bounds = c.if-buffer-used.false; buffer_value = (let it : (let a = c.args in is_set (take a.used a.buffer.now) ≡ true) = sym c.is_set.ensures ∙ c.if-not-is_set.false in it) }
 
-pub returns-in-Refused : goal.returns-in-Refused
-returns-in-Refused c =
-    let e = sym c.in-Refused.is ∙ c.first_fault.ensures in
+pub returns-in-Err : goal.returns-in-Err
+returns-in-Err c =
+    let e = sym c.in-Err.is ∙ c.first_fault.ensures in
     sym (checked _ _ _ _ _ c.if-buffer-used.false (let it : (let a = c.args in is_set (take a.used a.buffer.now) ≡ true) = sym c.is_set.ensures ∙ c.if-not-is_set.false in it) _ e)
 
-pub returns-in-Valid : goal.returns-in-Valid
-returns-in-Valid c =
-    let e = sym c.in-Valid.is ∙ c.first_fault.ensures in
+pub returns-in-Ok : goal.returns-in-Ok
+returns-in-Ok c =
+    let e = sym c.in-Ok.is ∙ c.first_fault.ensures in
     let u = c.update.ensures in
     told-by _ _ _ _ _ (checked _ _ _ _ _ c.if-buffer-used.false (let it : (let a = c.args in is_set (take a.used a.buffer.now) ≡ true) = sym c.is_set.ensures ∙ c.if-not-is_set.false in it) _ e) u

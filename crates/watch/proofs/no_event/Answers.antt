@@ -7,10 +7,10 @@ use mir.Syntax.{w32}
 use Rattle.refusal.specs.declared.Refusal.TheVariants.{Broker}
 use Rattle.watch.proofs.no_event.Goals as goal
 
-pub returns-in-Given : goal.returns-in-Given
-returns-in-Given c =
-    let a : to_z w32 (of_z w32 c.in-Given.code) ≡ c.in-Given.code = search rules in
-    rw c.in-Given.is (ap Broker a)
+pub returns-in-Some : goal.returns-in-Some
+returns-in-Some c =
+    let a : to_z w32 (of_z w32 c.in-Some.code) ≡ c.in-Some.code = search rules in
+    rw c.in-Some.is (ap Broker a)
 
-pub returns-in-Absent : goal.returns-in-Absent
-returns-in-Absent c = rw c.in-Absent.is
+pub returns-in-None : goal.returns-in-None
+returns-in-None c = rw c.in-None.is

@@ -11,17 +11,17 @@ returns-in_default c = sym (part-broken _ (sym c.read_varint.ensures ∙ c.in_de
 
 pub overflow_sub-s : goal.overflow_sub-s
 overflow_sub-s c =
-    let e = sym c.read_varint.ensures ∙ c.in-Value.is in
+    let e = sym c.read_varint.ensures ∙ c.in-Some.is in
     (varint-size _ _ _ e).1
 
 pub returns-then-len-s : goal.returns-then-len-s
 returns-then-len-s c =
-    let e = sym c.read_varint.ensures ∙ c.in-Value.is in
+    let e = sym c.read_varint.ensures ∙ c.in-Some.is in
     let h = varint-size _ _ _ e in
     sym (part-fits _ _ _ e (omega arith))
 
 pub returns-else-len-s : goal.returns-else-len-s
 returns-else-len-s c =
-    let e = sym c.read_varint.ensures ∙ c.in-Value.is in
+    let e = sym c.read_varint.ensures ∙ c.in-Some.is in
     let h = varint-size _ _ _ e in
     sym (part-over _ _ _ e (omega arith))

@@ -3,14 +3,14 @@ use mathlib.Core.Path.{sym, ◌∙◌}
 use Rattle.wire.proofs.FieldLaws.{number-broken, number-value}
 use Rattle.wire.proofs.read_body.Goals as goal
 
-pub returns-in-Value : goal.returns-in-Value
-returns-in-Value c =
-    let e = sym c.read_long_varint.ensures ∙ c.in-Value.is in
+pub returns-in-Some : goal.returns-in-Some
+returns-in-Some c =
+    let e = sym c.read_long_varint.ensures ∙ c.in-Some.is in
     rw c.in-Varint.is (sym (number-value _ _ _ e))
 
-pub returns-in-Broken : goal.returns-in-Broken
-returns-in-Broken c =
-    let e = sym c.read_long_varint.ensures ∙ c.in-Broken.is in
+pub returns-in-None : goal.returns-in-None
+returns-in-None c =
+    let e = sym c.read_long_varint.ensures ∙ c.in-None.is in
     rw c.in-Varint.is (sym (number-broken _ e))
 
 pub returns-in-I64 : goal.returns-in-I64

@@ -8,9 +8,9 @@ use Rattle.wire.proofs.read_key.Goals.{Else-number-eq0}
 use Rattle.wire.proofs.read_key.Goals as goal
 
 -- where the number is known not to be 0
-typed : (c : Else-number-eq0) (t : ℕ) → c.in-Value.v % 8 ≡ t → typed_key (c.in-Value.v / 8) t c.in-Value.n ≡ key_read c.args.s.now
+typed : (c : Else-number-eq0) (t : ℕ) → c.in-Some.v % 8 ≡ t → typed_key (c.in-Some.v / 8) t c.in-Some.n ≡ key_read c.args.s.now
 typed c t g =
-    let e = sym c.read_varint.ensures ∙ c.in-Value.is in
+    let e = sym c.read_varint.ensures ∙ c.in-Some.is in
     sym (key-typed _ _ _ e (omega arith) c.if-number-eq0.false t g)
 
 pub returns-in_default : goal.returns-in_default
@@ -18,12 +18,12 @@ returns-in_default c = sym (key-broken _ (sym c.read_varint.ensures ∙ c.in_def
 
 pub returns-then-v-gt-MAX_KEY : goal.returns-then-v-gt-MAX_KEY
 returns-then-v-gt-MAX_KEY c =
-    let e = sym c.read_varint.ensures ∙ c.in-Value.is in
+    let e = sym c.read_varint.ensures ∙ c.in-Some.is in
     sym (key-large _ _ _ e (omega arith))
 
 pub returns-then-number-eq0 : goal.returns-then-number-eq0
 returns-then-number-eq0 c =
-    let e = sym c.read_varint.ensures ∙ c.in-Value.is in
+    let e = sym c.read_varint.ensures ∙ c.in-Some.is in
     sym (key-zero _ _ _ e (omega arith) c.if-number-eq0.true)
 
 pub returns-in-0 : goal.returns-in-0
@@ -40,4 +40,4 @@ returns-in-5 c = typed (goal.at.returns-in-5 c).Else-number-eq0 5 c.in-5.is
 
 pub returns-in_default-t : goal.returns-in_default-t
 returns-in_default-t c =
-    sym (typed-other _ (c.in-Value.v % 8) _ (omega arith) (omega arith) (omega arith) (omega arith)) ∙ typed (goal.at.returns-in_default-t c).Else-number-eq0 _ refl
+    sym (typed-other _ (c.in-Some.v % 8) _ (omega arith) (omega arith) (omega arith) (omega arith)) ∙ typed (goal.at.returns-in_default-t c).Else-number-eq0 _ refl

@@ -1,6 +1,7 @@
 -- `by_type` meets its contract: each of the three types, or another. The code compares the bits of two integers; `to_z-of_z` turns equal bits into
 -- equal integers.
 -- Assumes nothing.
+use Rattle.std.specs.Prelude.{Ok}
 use mathlib.Core.Path.{◌≡◌, refl, sym, ap, ◌∙◌}
 use lib.IntN.{ℤ}
 use mir.Syntax.{w32}
@@ -26,6 +27,6 @@ returns-then-t-eq77 c = c.watch_update.ensures ∙ by-watch _ _ (same c.ranges.t
 pub returns : goal.returns
 returns c =
     let s = c in
-    ap Other (to_z-of_z {w = w32} s.ranges.t)
+    ap Ok (Other (to_z-of_z {w = w32} s.ranges.t))
     ∙ by-other s.args.t s.args.s.now (λ e. c.if-t-eq74.false (ap (of_z w32) e)) (λ e. c.if-t-eq75.false (ap (of_z w32) e))
     (λ e. c.if-t-eq77.false (ap (of_z w32) e))

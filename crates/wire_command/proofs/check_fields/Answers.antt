@@ -1,33 +1,34 @@
 -- `check_fields` meets its contract. The invariant: the fields from `at` on decide. The measure is what is left of the command. Assumes nothing.
+use Rattle.std.specs.Prelude.{ℕ, Result}
 use native.Mathlib.Omega.{arith}
 use mathlib.Core.Path.{◌≡◌, refl, sym, ◌∙◌}
-use Rattle.wire_command.specs.declared.Step.{Step}
 use Rattle.wire_command.proofs.ShellLaws.{StepAt, step-at, shell-end}
 use Rattle.wire_command.proofs.check_fields.Goals.{After-read_step}
 use Rattle.wire_command.proofs.check_fields.Goals as goal
+use Rattle.refusal.specs.declared.Refusal.{Refusal}
 
 -- the place where the field is read
-step : (c : After-read_step) (q : Step) → c.read_step.result ≡ q
+step : (c : After-read_step) (q : Result ℕ Refusal) → c.read_step.result ≡ q
     → StepAt c.args.s.now c.loop-at.at q
 step c q e = step-at _ _ c.loop-at-test.true q (sym c.read_step.ensures ∙ e)
 
 pub loop-at-init : goal.loop-at-init
 loop-at-init c = refl
 
-pub returns-in-Refused : goal.returns-in-Refused
-returns-in-Refused c =
-    let q = step (goal.at.returns-in-Refused c).After-read_step _ c.in-Refused.is in
+pub returns-in-Err : goal.returns-in-Err
+returns-in-Err c =
+    let q = step (goal.at.returns-in-Err c).After-read_step _ c.in-Err.is in
     q ∙ sym c.loop-at.invariant
 
 pub overflow_add-at : goal.overflow_add-at
-overflow_add-at c = let q = step (goal.at.overflow_add-at c).After-read_step _ c.in-Next.is in omega (arith, q.1)
+overflow_add-at c = let q = step (goal.at.overflow_add-at c).After-read_step _ c.in-Ok.is in omega (arith, q.1)
 
 pub loop-at-smaller : goal.loop-at-smaller
-loop-at-smaller c = let q = step (goal.at.loop-at-smaller c).After-read_step _ c.in-Next.is in omega (arith, q.0, q.1)
+loop-at-smaller c = let q = step (goal.at.loop-at-smaller c).After-read_step _ c.in-Ok.is in omega (arith, q.0, q.1)
 
 pub loop-at-preserved : goal.loop-at-preserved
 loop-at-preserved c =
-    let q = step (goal.at.loop-at-preserved c).After-read_step _ c.in-Next.is in
+    let q = step (goal.at.loop-at-preserved c).After-read_step _ c.in-Ok.is in
     c.loop-at.invariant ∙ q.2
 
 pub returns : goal.returns

@@ -1,12 +1,13 @@
 -- `scan` meets its contract, by recursion on the depth. Each answer below cites a law of proofs/ScanLaws at the place's numbers.
 -- Assumes nothing.
+use Rattle.std.specs.Prelude.{Result, Ok, Err}
 use Rattle.std.proofs.Common.{◌≡◌, ℕ, sym, subst, ◌∙◌, arith}
-use Rattle.wire_schema.specs.declared.Checked.TheVariants.{Valid, Refused}
 use Rattle.wire_field_step.specs.declared.Step.{Step}
 use Rattle.wire_field_step.specs.declared.Step.TheVariants as step
 use Rattle.wire_messages.proofs.ScanLaws.{scanned-start, StepAt, FieldAt, field_at, end-at}
 use Rattle.wire_messages.proofs.+scan.Goals.{After-read_field-field}
 use Rattle.wire_messages.proofs.+scan.Goals as goal
+use Rattle.refusal.specs.declared.Refusal.{Refusal}
 
 module _ (t : ℕ) where
   -- a field is read
@@ -14,7 +15,7 @@ module _ (t : ℕ) where
   read c = field_at c.loop-at.invariant c.loop-at-test.true _ c.read_field-field.ensures
 
   -- what stands behind its key
-  behind : (c : After-read_field-field t) (q : Step) → c.read_field-field.result.step ≡ q
+  behind : (c : After-read_field-field t) (q : Result Step Refusal) → c.read_field-field.result.step ≡ q
       → StepAt c.loop-at.invariant c.read_field-field.result.size q
   behind c q e = subst (StepAt c.loop-at.invariant _) e (read c).stands
 
@@ -29,60 +30,60 @@ overflow_add-at t c = let h = read t (goal.at.overflow_add-at t c).After-read_fi
 
 -- the field is refused
 pub returns-in-Refused : goal.returns-in-Refused
-returns-in-Refused t c = behind t (goal.at.returns-in-Refused t c).After-read_field-field (step.Refused _) c.in-Refused.is
+returns-in-Refused t c = behind t (goal.at.returns-in-Refused t c).After-read_field-field (Err _) c.in-Refused.is
 
 -- the field is passed over
 pub overflow_add-at-in-Next : goal.overflow_add-at-in-Next
 overflow_add-at-in-Next t c =
-    let h = behind t (goal.at.overflow_add-at-in-Next t c).After-read_field-field (step.Next c.in-Next.m) c.in-Next.is in
+    let h = behind t (goal.at.overflow_add-at-in-Next t c).After-read_field-field (Ok (step.Next c.in-Next.m)) c.in-Next.is in
     omega arith
 
 pub loop-at-smaller-in-Next : goal.loop-at-smaller-in-Next
 loop-at-smaller-in-Next t c =
-    let h = behind t (goal.at.loop-at-smaller-in-Next t c).After-read_field-field (step.Next c.in-Next.m) c.in-Next.is in
+    let h = behind t (goal.at.loop-at-smaller-in-Next t c).After-read_field-field (Ok (step.Next c.in-Next.m)) c.in-Next.is in
     omega arith
 
 pub loop-at-preserved-in-Next : goal.loop-at-preserved-in-Next
 loop-at-preserved-in-Next t c =
-    (behind t (goal.at.loop-at-preserved-in-Next t c).After-read_field-field (step.Next c.in-Next.m) c.in-Next.is).1
+    (behind t (goal.at.loop-at-preserved-in-Next t c).After-read_field-field (Ok (step.Next c.in-Next.m)) c.in-Next.is).1
 
 -- the field is a message
 pub overflow_add-from : goal.overflow_add-from
 overflow_add-from t c =
     let i = c.in-Inner in
-    let h = behind t (goal.at.overflow_add-from t c).After-read_field-field (step.Inner i.k i.m i.len) i.is in
+    let h = behind t (goal.at.overflow_add-from t c).After-read_field-field (Ok (step.Inner i.k i.m i.len)) i.is in
     omega arith
 
 pub overflow_add-at-in-Inner : goal.overflow_add-at-in-Inner
 overflow_add-at-in-Inner t c =
     let i = c.in-Inner in
-    let h = behind t (goal.at.overflow_add-at-in-Inner t c).After-read_field-field (step.Inner i.k i.m i.len) i.is in
+    let h = behind t (goal.at.overflow_add-at-in-Inner t c).After-read_field-field (Ok (step.Inner i.k i.m i.len)) i.is in
     omega arith
 
 pub slice_bounds-scan-end : goal.slice_bounds-scan-end
 slice_bounds-scan-end t c =
     let i = c.in-Inner in
-    let h = behind t (goal.at.slice_bounds-scan-end t c).After-read_field-field (step.Inner i.k i.m i.len) i.is in
+    let h = behind t (goal.at.slice_bounds-scan-end t c).After-read_field-field (Ok (step.Inner i.k i.m i.len)) i.is in
     omega arith
 
 -- the message is refused
 pub returns-in-Refused-scan : goal.returns-in-Refused-scan
 returns-in-Refused-scan t c =
     let i = c.in-Inner in
-    let h = behind t (goal.at.returns-in-Refused-scan t c).After-read_field-field (step.Inner i.k i.m i.len) i.is in
-    h.2 (Refused _) (sym c.scan.ensures ∙ c.in-Refused-scan.is)
+    let h = behind t (goal.at.returns-in-Refused-scan t c).After-read_field-field (Ok (step.Inner i.k i.m i.len)) i.is in
+    h.2 (Err _) (sym c.scan.ensures ∙ c.in-Refused-scan.is)
 
 pub loop-at-smaller : goal.loop-at-smaller
 loop-at-smaller t c =
     let i = c.in-Inner in
-    let h = behind t (goal.at.loop-at-smaller t c).After-read_field-field (step.Inner i.k i.m i.len) i.is in
+    let h = behind t (goal.at.loop-at-smaller t c).After-read_field-field (Ok (step.Inner i.k i.m i.len)) i.is in
     omega arith
 
 pub loop-at-preserved : goal.loop-at-preserved
 loop-at-preserved t c =
     let i = c.in-Inner in
-    let h = behind t (goal.at.loop-at-preserved t c).After-read_field-field (step.Inner i.k i.m i.len) i.is in
-    h.2 Valid (sym c.scan.ensures ∙ c.in_default.is)
+    let h = behind t (goal.at.loop-at-preserved t c).After-read_field-field (Ok (step.Inner i.k i.m i.len)) i.is in
+    h.2 (Ok record {}) (sym c.scan.ensures ∙ c.in_default.is)
 
 -- the end
 pub returns : goal.returns

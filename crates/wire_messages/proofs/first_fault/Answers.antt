@@ -13,9 +13,9 @@ returns-else-is_complete c =
 pub returns-then-is_ordered_command : goal.returns-then-is_ordered_command
 returns-then-is_ordered_command c = sym (c.is_ordered_command.ensures c.if-is_ordered_command.true)
 
-pub returns-in-Refused : goal.returns-in-Refused
-returns-in-Refused c = let p = c in
-    first-refused _ _ _ p.nesting-depth.ensures _ (sym p.scan.ensures ∙ c.in-Refused.is)
+pub returns-in-Err : goal.returns-in-Err
+returns-in-Err c = let p = c in
+    first-refused _ _ _ p.nesting-depth.ensures _ (sym p.scan.ensures ∙ c.in-Err.is)
 
 pub returns-then-is_complete : goal.returns-then-is_complete
 returns-then-is_complete c = let p = c in

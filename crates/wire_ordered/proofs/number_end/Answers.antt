@@ -4,8 +4,8 @@ use Rattle.wire_ordered.specs.Ordered.{NumberAtIs}
 use Rattle.wire_ordered.proofs.OrderedLaws.{number-some, none_above}
 use Rattle.wire_ordered.proofs.number_end.Goals as goal
 
-pub returns-in-Found : goal.returns-in-Found
-returns-in-Found c = λ h. number-some (subst (NumberAtIs _ _ _) c.in-Found.is c.number_at.ensures)
+pub returns-in-Some : goal.returns-in-Some
+returns-in-Some c = λ h. number-some (subst (NumberAtIs _ _ _) c.in-Some.is c.number_at.ensures)
 
-pub returns-in-Absent : goal.returns-in-Absent
-returns-in-Absent c = none_above
+pub returns-in-None : goal.returns-in-None
+returns-in-None c = none_above

@@ -4,8 +4,8 @@ use borrow.Author.Rules.{rules}
 use Rattle.wire_readers.specs.Messages.{code_of}
 use Rattle.wire_readers.proofs.error_code.Goals as goal
 
-pub returns-in-Found : goal.returns-in-Found
-returns-in-Found c = rw (sym c.last_number.ensures ∙ c.in-Found.is) (search rules)
+pub returns-in-Some : goal.returns-in-Some
+returns-in-Some c = rw (sym c.last_number.ensures ∙ c.in-Some.is) (search rules)
 
-pub returns-in-Absent : goal.returns-in-Absent
-returns-in-Absent c = sym (ap code_of (sym c.last_number.ensures ∙ c.in-Absent.is))
+pub returns-in-None : goal.returns-in-None
+returns-in-None c = sym (ap code_of (sym c.last_number.ensures ∙ c.in-None.is))

@@ -4,8 +4,8 @@ use Rattle.wire_values.specs.Values.{present}
 use Rattle.wire_values.specs.Places.{NextPart}
 use Rattle.wire_values.proofs.has_part.Goals as goal
 
-pub returns-in-Found : goal.returns-in-Found
-returns-in-Found c = sym (ap present (subst (NextPart _ _ _) c.in-Found.is c.next_part.ensures).3)
+pub returns-in-Some : goal.returns-in-Some
+returns-in-Some c = sym (ap present (subst (NextPart _ _ _) c.in-Some.is c.next_part.ensures).3)
 
-pub returns-in-Absent : goal.returns-in-Absent
-returns-in-Absent c = sym (ap present (subst (NextPart _ _ _) c.in-Absent.is c.next_part.ensures))
+pub returns-in-None : goal.returns-in-None
+returns-in-None c = sym (ap present (subst (NextPart _ _ _) c.in-None.is c.next_part.ensures))

@@ -1,5 +1,6 @@
 -- `seek_inner` meets its contract. The invariant: the cursor lies inside the message, and has the same parts before it as the one that was given. The
 -- measure is what is left of the message behind this part of field n. Assumes nothing.
+use Rattle.std.specs.Prelude.{Option, None}
 use Prim.Native.Nat.{ℕ}
 use native.Mathlib.Omega.{arith}
 use mathlib.Core.Path.{◌≡◌, refl, sym, ap, subst, ◌∙◌}
@@ -7,8 +8,6 @@ use mathlib.Core.List.{List, ◌++◌}
 use lib.ListN.{length, take, drop}
 use lib.Seq.{length-take-le}
 use Rattle.wire.specs.Fields.{fields_of}
-use Rattle.wire_values.specs.declared.PartStep.{PartStep}
-use Rattle.wire_values.specs.declared.PartStep.TheVariants as step
 use Rattle.wire_values.specs.Values.{parts_of, join_fields}
 use Rattle.wire_values.specs.Places.{NextPart}
 use Rattle.wire_values.proofs.FrontLaws.{parts-end}
@@ -18,7 +17,7 @@ use Rattle.wire_values.proofs.seek_inner.Goals as goal
 
 -- this part has no more
 none : (c : After-next_part) → let t = c in
-    NextPart t.args.k (take t.loop-end.end (t.args.m.now)) t.loop-end.at step.Absent
+    NextPart t.args.k (take t.loop-end.end (t.args.m.now)) t.loop-end.at None
 none c =
     let s = c in
     let t = s in
@@ -26,7 +25,7 @@ none c =
     s.seek_part-found.ensures
     ∙ parts-end t.args.k (take t.loop-end.end (t.args.m.now)) s.seek_part-found.result (omega (arith, l))
 
-behind : (c : After-next_part) (q : PartStep) → c.next_part.result ≡ q
+behind : (c : After-next_part) (q : Option (ℕ × ℕ × ℕ)) → c.next_part.result ≡ q
     → let t = c in NextPart t.args.n (t.args.m.now) t.loop-end.outer q
 behind c q e = subst (NextPart _ _ _) e c.next_part.ensures
 
@@ -46,14 +45,14 @@ returns-then-found-end c =
       ap (λ (l : List (List ℕ)). l ++ o) (sym c.seek_part-found.ensures) ∙ i.1,
     )
 
-pub returns-in-Absent : goal.returns-in-Absent
-returns-in-Absent c = c.loop-end.invariant
+pub returns-in-None : goal.returns-in-None
+returns-in-None c = c.loop-end.invariant
 
 pub overflow_add-end : goal.overflow_add-end
-overflow_add-end c = let q = behind (goal.at.overflow_add-end c).After-next_part _ c.in-Found.is in omega (arith, q.1, q.2)
+overflow_add-end c = let q = behind (goal.at.overflow_add-end c).After-next_part _ c.in-Some.is in omega (arith, q.1, q.2)
 
 pub loop-end-smaller : goal.loop-end-smaller
-loop-end-smaller c = let q = behind (goal.at.loop-end-smaller c).After-next_part _ c.in-Found.is in omega (arith, q.0, q.1, q.2)
+loop-end-smaller c = let q = behind (goal.at.loop-end-smaller c).After-next_part _ c.in-Some.is in omega (arith, q.0, q.1, q.2)
 
 pub loop-end-preserved : goal.loop-end-preserved
 loop-end-preserved c =
@@ -61,6 +60,6 @@ loop-end-preserved c =
     let t = b in
     let a = t.args in
     let l = t.loop-end in
-    let q = behind (goal.at.loop-end-preserved c).After-next_part _ c.in-Found.is in
+    let q = behind (goal.at.loop-end-preserved c).After-next_part _ c.in-Some.is in
     let e = inner-later a.n a.k (t.args.m.now) l.outer l.at l.end (none (goal.at.loop-end-preserved c).After-next_part) _ _ _ q in
     (inside-later a.n (t.args.m.now) _ _ _ _ q, sym e ∙ l.invariant.1)

@@ -28,9 +28,9 @@ pub id_at-requires : goal.id_at-requires
 id_at-requires c =
     omega (arith, head-inside c.args.s.now c.loop-left.p (inside (goal.at.id_at-requires c).In-loop-left))
 
-pub returns-in-At : goal.returns-in-At
-returns-in-At c =
-    held_found c.loop-left.invariant c.loop-left-test.true (sym c.in-At.is ∙ c.segment_outside.ensures) c.id_at.ensures
+pub returns-in-Some : goal.returns-in-Some
+returns-in-Some c =
+    held_found c.loop-left.invariant c.loop-left-test.true (sym c.in-Some.is ∙ c.segment_outside.ensures) c.id_at.ensures
 
 pub size_at-p-requires : goal.size_at-p-requires
 size_at-p-requires c =

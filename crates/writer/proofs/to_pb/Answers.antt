@@ -19,34 +19,34 @@ returns-in_default c =
 
 pub write_message-requires : goal.write_message-requires
 write_message-requires c =
-    let whole = whole-read _ _ _ (sym c.in-Assignment.is ∙ c.read_whole.ensures) in
+    let whole = whole-read _ _ _ (sym c.in-Some.is ∙ c.read_whole.ensures) in
     subst (Rest c.args.assignment.now 10) c.if-count-eq0.true whole.records
 
 pub returns-then-count-eq0 : goal.returns-then-count-eq0
 returns-then-count-eq0 c =
     let a = c.args in
     c.write_message.ensures
-    ∙ write-empty a.assignment.now a.parent.now a.out.now _ (whole-read _ _ _ (sym c.in-Assignment.is ∙ c.read_whole.ensures)) c.if-count-eq0.true
+    ∙ write-empty a.assignment.now a.parent.now a.out.now _ (whole-read _ _ _ (sym c.in-Some.is ∙ c.read_whole.ensures)) c.if-count-eq0.true
 
 pub segments_outside-requires : goal.segments_outside-requires
-segments_outside-requires c = (whole-read _ _ _ (sym c.in-Assignment.is ∙ c.read_whole.ensures)).records
+segments_outside-requires c = (whole-read _ _ _ (sym c.in-Some.is ∙ c.read_whole.ensures)).records
 
-pub returns-in-Refused : goal.returns-in-Refused
-returns-in-Refused c =
+pub returns-in-Err : goal.returns-in-Err
+returns-in-Err c =
     let a = c.args in
-    write-outside a.assignment.now a.parent.now a.out.now _ (whole-read _ _ _ (sym c.in-Assignment.is ∙ c.read_whole.ensures)) _
-    (sym c.in-Refused.is ∙ c.segments_outside.ensures)
+    write-outside a.assignment.now a.parent.now a.out.now _ (whole-read _ _ _ (sym c.in-Some.is ∙ c.read_whole.ensures)) _
+    (sym c.in-Err.is ∙ c.segments_outside.ensures)
 
 pub returns-then-not-is_utf8 : goal.returns-then-not-is_utf8
 returns-then-not-is_utf8 c =
     let a = c.args in
-    write-not-utf8 a.assignment.now a.parent.now a.out.now _ (whole-read _ _ _ (sym c.in-Assignment.is ∙ c.read_whole.ensures)) (some _ c.if-count-eq0.false) (sym c.in_default-segments_outside.is ∙ c.segments_outside.ensures)
+    write-not-utf8 a.assignment.now a.parent.now a.out.now _ (whole-read _ _ _ (sym c.in-Some.is ∙ c.read_whole.ensures)) (some _ c.if-count-eq0.false) (sym c.in_default-segments_outside.is ∙ c.segments_outside.ensures)
     (sym c.is_utf8.ensures ∙ c.if-not-is_utf8.true)
 
 pub returns-then-not-is_parent : goal.returns-then-not-is_parent
 returns-then-not-is_parent c =
     let a = c.args in
-    write-no-parent a.assignment.now a.parent.now a.out.now _ (whole-read _ _ _ (sym c.in-Assignment.is ∙ c.read_whole.ensures)) (some _ c.if-count-eq0.false) (sym c.in_default-segments_outside.is ∙ c.segments_outside.ensures) (sym c.is_utf8.ensures ∙ c.if-not-is_utf8.false)
+    write-no-parent a.assignment.now a.parent.now a.out.now _ (whole-read _ _ _ (sym c.in-Some.is ∙ c.read_whole.ensures)) (some _ c.if-count-eq0.false) (sym c.in_default-segments_outside.is ∙ c.segments_outside.ensures) (sym c.is_utf8.ensures ∙ c.if-not-is_utf8.false)
     (sym c.is_parent.ensures ∙ c.if-not-is_parent.true)
 
 pub slice_bounds-write_message-count : goal.slice_bounds-write_message-count
@@ -56,10 +56,10 @@ pub slice_bounds-write_message-start : goal.slice_bounds-write_message-start
 slice_bounds-write_message-start c = omega (arith, parent-long c.args.parent.now (sym c.is_parent.ensures ∙ c.if-not-is_parent.false))
 
 pub write_message-requires-2 : goal.write_message-requires-2
-write_message-requires-2 c = (whole-read _ _ _ (sym c.in-Assignment.is ∙ c.read_whole.ensures)).records
+write_message-requires-2 c = (whole-read _ _ _ (sym c.in-Some.is ∙ c.read_whole.ensures)).records
 
 pub returns : goal.returns
 returns c =
     let a = c.args in
     (rw (rest a.parent.now 8) at c.write_message-2.ensures)
-    ∙ write-below a.assignment.now a.parent.now a.out.now _ (whole-read _ _ _ (sym c.in-Assignment.is ∙ c.read_whole.ensures)) (some _ c.if-count-eq0.false) (sym c.in_default-segments_outside.is ∙ c.segments_outside.ensures) (sym c.is_utf8.ensures ∙ c.if-not-is_utf8.false) (sym c.is_parent.ensures ∙ c.if-not-is_parent.false)
+    ∙ write-below a.assignment.now a.parent.now a.out.now _ (whole-read _ _ _ (sym c.in-Some.is ∙ c.read_whole.ensures)) (some _ c.if-count-eq0.false) (sym c.in_default-segments_outside.is ∙ c.segments_outside.ensures) (sym c.is_utf8.ensures ∙ c.if-not-is_utf8.false) (sym c.is_parent.ensures ∙ c.if-not-is_parent.false)

@@ -1,5 +1,6 @@
 -- `write_message` meets its contract: a message that does not fit is refused; another is written in two pieces (`Writing` of
 -- proofs/WritingLaws). Assumes nothing.
+use Rattle.std.specs.Prelude.{Some}
 use Prim.Native.Nat.{ℕ, ◌+◌, ◌-◌, ◌≤◌}
 use native.Mathlib.Omega.{arith}
 use mathlib.Core.Path.{◌≡◌, sym, ap, ◌∙◌}
@@ -11,7 +12,6 @@ use Rattle.wire_writer.specs.Encode.{number_field}
 use Rattle.packed.specs.Assignment.{AssignedSegment, num, decode_segments}
 use Rattle.writer_message.specs.Message.{segment_fields}
 use Rattle.writer.specs.Write.{room_of}
-use Rattle.writer.specs.declared.Room.TheVariants.{Size}
 use Rattle.writer.proofs.WritingLaws.{Writing, writing_start, writing-as, writing-room, writing-next, writing-end}
 use Rattle.writer.proofs.OutcomeLaws.{message-no-head, message-beyond, Fits, message-room, message-written}
 use Rattle.writer.proofs.write_message.Goals as goal
@@ -35,7 +35,7 @@ head-is s e head h k = k ∙ ap (λ (n : ℕ). length (number_field 1 n)) (epoch
 
 -- the room for the segments was known
 module _ (m : ℕ) (s path o : List ℕ) (e head n : ℕ) (h : e ≡ be_at 8 s 0) (k : head ≡ length (number_field 1 e)) (l : head ≤ length o)
-    (r : Size n ≡ room_of (length o - head) path (segments m s)) where
+    (r : Some n ≡ room_of (length o - head) path (segments m s)) where
   message-fits : Fits path (segments m s) (epoch s) o head n
   message-fits = message-room path (segments m s) (epoch s) o head (head-is s e head h k) l n r
 
@@ -67,18 +67,18 @@ returns-in_default c =
 pub write_segments-requires : goal.write_segments-requires
 write_segments-requires c =
     let a = c.args in
-    let room = sym c.in-Size.is ∙ c.segments_room.ensures in
+    let room = sym c.in-Some.is ∙ c.segments_room.ensures in
     record {
       rest = c.requires;
-      s_in_bounds = writing-room (wrote-epoch a.m a.s.now a.path.now a.out.now c.read_u64-epoch.result c.number_size-head.result c.in-Size.size
+      s_in_bounds = writing-room (wrote-epoch a.m a.s.now a.path.now a.out.now c.read_u64-epoch.result c.number_size-head.result c.in-Some.size
           c.read_u64-epoch.ensures c.number_size-head.ensures c.if-out-head.false room c.write_number-next.new.out c.write_number-next.result c.write_number-next.ensures);
     }
 
 pub overflow_add-result : goal.overflow_add-result
 overflow_add-result c =
     let a = c.args in
-    let room = sym c.in-Size.is ∙ c.segments_room.ensures in
-    let fits = message-fits a.m a.s.now a.path.now a.out.now c.read_u64-epoch.result c.number_size-head.result c.in-Size.size
+    let room = sym c.in-Some.is ∙ c.segments_room.ensures in
+    let fits = message-fits a.m a.s.now a.path.now a.out.now c.read_u64-epoch.result c.number_size-head.result c.in-Some.size
     c.read_u64-epoch.ensures c.number_size-head.ensures c.if-out-head.false room in
     omega (arith, c.well_formed, fits.size)
 
@@ -86,10 +86,10 @@ pub returns : goal.returns
 returns c =
     let a = c.args in
     let s = a.s.now in
-    let room = sym c.in-Size.is ∙ c.segments_room.ensures in
-    let fits = message-fits a.m s a.path.now a.out.now c.read_u64-epoch.result c.number_size-head.result c.in-Size.size
+    let room = sym c.in-Some.is ∙ c.segments_room.ensures in
+    let fits = message-fits a.m s a.path.now a.out.now c.read_u64-epoch.result c.number_size-head.result c.in-Some.size
     c.read_u64-epoch.ensures c.number_size-head.ensures c.if-out-head.false room in
-    let first = wrote-epoch a.m s a.path.now a.out.now c.read_u64-epoch.result c.number_size-head.result c.in-Size.size
+    let first = wrote-epoch a.m s a.path.now a.out.now c.read_u64-epoch.result c.number_size-head.result c.in-Some.size
     c.read_u64-epoch.ensures c.number_size-head.ensures c.if-out-head.false room c.write_number-next.new.out c.write_number-next.result c.write_number-next.ensures in
     let wrote = (writing-end (writing-next first _ _ c.write_segments.ensures)).1 in
     message-written a.path.now (segments a.m s) (epoch s) a.out.now _ _ fits _ wrote

@@ -4,10 +4,10 @@ use mathlib.Core.Path.{sym, ap, ◌∙◌}
 use Rattle.export.specs.Exports.{charge_reply}
 use Rattle.export.proofs.charge_calls.cuddrewyn_charge.Goals as goal
 
-pub returns-in-Charged : goal.returns-in-Charged
+pub returns-in-Ok : goal.returns-in-Ok
 unfolding charge_reply
-returns-in-Charged c = let k = c in c.two.ensures ∙ ap charge_reply (sym k.in-Charged.is ∙ k.charge.ensures)
+returns-in-Ok c = let k = c in c.two.ensures ∙ ap charge_reply (sym k.in-Ok.is ∙ k.charge.ensures)
 
-pub returns-in-Refused : goal.returns-in-Refused
+pub returns-in-Err : goal.returns-in-Err
 unfolding charge_reply
-returns-in-Refused c = let k = c in c.refused.ensures ∙ ap charge_reply (sym k.in-Refused.is ∙ k.charge.ensures)
+returns-in-Err c = let k = c in c.refused.ensures ∙ ap charge_reply (sym k.in-Err.is ∙ k.charge.ensures)

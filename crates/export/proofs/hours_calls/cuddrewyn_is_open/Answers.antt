@@ -4,12 +4,12 @@ use mathlib.Core.Path.{sym, ap, ◌∙◌}
 use Rattle.export.specs.Exports.{hours_reply}
 use Rattle.export.proofs.hours_calls.cuddrewyn_is_open.Goals as goal
 
-pub returns-in-Answered : goal.returns-in-Answered
+pub returns-in-Ok : goal.returns-in-Ok
 unfolding hours_reply
-returns-in-Answered c = c.test.ensures
-    ∙ ap hours_reply (sym c.in-Answered.is ∙ c.is_open.ensures)
+returns-in-Ok c = c.test.ensures
+    ∙ ap hours_reply (sym c.in-Ok.is ∙ c.is_open.ensures)
 
-pub returns-in-Refused : goal.returns-in-Refused
+pub returns-in-Err : goal.returns-in-Err
 unfolding hours_reply
-returns-in-Refused c = c.refused.ensures
-    ∙ ap hours_reply (sym c.in-Refused.is ∙ c.is_open.ensures)
+returns-in-Err c = c.refused.ensures
+    ∙ ap hours_reply (sym c.in-Err.is ∙ c.is_open.ensures)

@@ -4,14 +4,14 @@ use mathlib.Core.Path.{ap, sym, ◌∙◌}
 use Rattle.export.specs.Exports.{source_reply}
 use Rattle.export.proofs.name_calls.cuddrewyn_segment_source.Goals as goal
 
-pub returns-in-Source : goal.returns-in-Source
+pub returns-in-Ok : goal.returns-in-Ok
 unfolding source_reply
-returns-in-Source c =
+returns-in-Ok c =
     let k = c in
-    c.two.ensures ∙ ap source_reply (sym k.in-Source.is ∙ k.segment_source.ensures)
+    c.two.ensures ∙ ap source_reply (sym k.in-Ok.is ∙ k.segment_source.ensures)
 
-pub returns-in-Refused : goal.returns-in-Refused
+pub returns-in-Err : goal.returns-in-Err
 unfolding source_reply
-returns-in-Refused c =
+returns-in-Err c =
     let k = c in
-    c.refused.ensures ∙ ap source_reply (sym k.in-Refused.is ∙ k.segment_source.ensures)
+    c.refused.ensures ∙ ap source_reply (sym k.in-Err.is ∙ k.segment_source.ensures)

@@ -4,10 +4,10 @@ use mathlib.Core.Path.{ap, sym, ◌∙◌}
 use Rattle.export.specs.Exports.{answered_reply}
 use Rattle.export.proofs.range_calls.answered_reply.Goals as goal
 
-pub returns-in-Answered : goal.returns-in-Answered
+pub returns-in-Ok : goal.returns-in-Ok
 unfolding answered_reply
-returns-in-Answered c = c.test.ensures ∙ sym (ap answered_reply c.in-Answered.is)
+returns-in-Ok c = c.test.ensures ∙ sym (ap answered_reply c.in-Ok.is)
 
-pub returns-in-Refused : goal.returns-in-Refused
+pub returns-in-Err : goal.returns-in-Err
 unfolding answered_reply
-returns-in-Refused c = c.refused.ensures ∙ sym (ap answered_reply c.in-Refused.is)
+returns-in-Err c = c.refused.ensures ∙ sym (ap answered_reply c.in-Err.is)

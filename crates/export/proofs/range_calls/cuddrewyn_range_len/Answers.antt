@@ -4,10 +4,10 @@ use mathlib.Core.Path.{ap, sym, ◌∙◌}
 use Rattle.export.specs.Exports.{length_reply}
 use Rattle.export.proofs.range_calls.cuddrewyn_range_len.Goals as goal
 
-pub returns-in-Length : goal.returns-in-Length
+pub returns-in-Ok : goal.returns-in-Ok
 unfolding length_reply
-returns-in-Length c = c.one.ensures ∙ ap length_reply (sym c.in-Length.is ∙ c.len.ensures)
+returns-in-Ok c = c.one.ensures ∙ ap length_reply (sym c.in-Ok.is ∙ c.len.ensures)
 
-pub returns-in-Refused : goal.returns-in-Refused
+pub returns-in-Err : goal.returns-in-Err
 unfolding length_reply
-returns-in-Refused c = c.refused.ensures ∙ ap length_reply (sym c.in-Refused.is ∙ c.len.ensures)
+returns-in-Err c = c.refused.ensures ∙ ap length_reply (sym c.in-Err.is ∙ c.len.ensures)

@@ -1,16 +1,17 @@
 -- `cuddrewyn_matches_registration` meets its contract: what the call under it gives, in numbers.
 -- Assumes nothing.
+use Rattle.std.specs.Prelude.{Bool, Result, Ok}
 use mathlib.Core.Path.{◌≡◌, ap, sym, ◌∙◌}
 use mir.Facts.{to_z-of_z}
 use Rattle.topic_types.specs.ConsumerTypes.{from_wire}
-use Rattle.session.specs.declared.Match.{Match}
 use Rattle.session.specs.Calls.{match_of}
 use Rattle.export.specs.Exports.{match_reply}
 use Rattle.export.proofs.session_calls.cuddrewyn_matches_registration.Goals.{After-matches_registration}
 use Rattle.export.proofs.session_calls.cuddrewyn_matches_registration.Goals as goal
+use Rattle.refusal.specs.declared.Refusal.{Refusal}
 
 -- what the call under it gives
-abbrev called : After-matches_registration → Match
+abbrev called : After-matches_registration → Result Bool Refusal
 called k =
     let a = k.args in
     match_of a.store.now
@@ -23,18 +24,18 @@ called k =
 
 -- the arm of an answer m
 told :
-    (k : After-matches_registration) {m : Match} → k.matches_registration.result ≡ m →
+    (k : After-matches_registration) {m : Result Bool Refusal} → k.matches_registration.result ≡ m →
     match_reply m ≡ match_reply (called k)
 told k e = ap match_reply (sym e ∙ rw (k.from_pb_i32-kind.ensures, to_z-of_z k.ranges.kind) at k.matches_registration.ensures)
 
-pub returns-in-Same : goal.returns-in-Same
+pub returns-in-Ok-true : goal.returns-in-Ok-true
 unfolding match_reply
-returns-in-Same c = c.plain.ensures ∙ told (goal.at.returns-in-Same c).After-matches_registration c.in-Same.is
+returns-in-Ok-true c = c.plain.ensures ∙ told (goal.at.returns-in-Ok-true c).After-matches_registration (c.in-Ok-true.is ∙ ap Ok c.in-Ok-true.field-0-is)
 
-pub returns-in-Other : goal.returns-in-Other
+pub returns-in-Ok-false : goal.returns-in-Ok-false
 unfolding match_reply
-returns-in-Other c = c.plain-in-Other.ensures ∙ told (goal.at.returns-in-Other c).After-matches_registration c.in-Other.is
+returns-in-Ok-false c = c.plain-in-Ok-false.ensures ∙ told (goal.at.returns-in-Ok-false c).After-matches_registration (c.in-Ok-false.is ∙ ap Ok c.in-Ok-false.field-0-is)
 
-pub returns-in-Refused : goal.returns-in-Refused
+pub returns-in-Err : goal.returns-in-Err
 unfolding match_reply
-returns-in-Refused c = c.refused.ensures ∙ told (goal.at.returns-in-Refused c).After-matches_registration c.in-Refused.is
+returns-in-Err c = c.refused.ensures ∙ told (goal.at.returns-in-Err c).After-matches_registration c.in-Err.is

@@ -3,5 +3,5 @@
 use Rattle.test_vectors.proofs.VectorLaws.{starts-whole}
 use Rattle.test_vectors.proofs.delta_vectors.is_packed.Goals as goal
 
-pub returns-in-Assignment : goal.returns-in-Assignment
-returns-in-Assignment c t = starts-whole _ _ _ c.in-Assignment.ensures
+pub returns-in-Some : goal.returns-in-Some
+returns-in-Some c t = starts-whole _ _ _ c.in-Some.ensures
