@@ -65,7 +65,7 @@ fn updates(table: &[u32; 256], c: u32, s: &[u8]) -> u32
     let mut i: usize = 0;
     while i < s.len() {
         state = update(table, state, s[i]);
-        i = i + 1;
+        i += 1;
     }
     state
 }

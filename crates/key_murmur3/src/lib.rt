@@ -95,10 +95,10 @@ pub fn hash(key: &[u8]) -> u32
     let mut at: usize = 0;
     while 4 <= key.len() - at {
         h = mix(h, block_at(key, at));
-        at = at + 4;
+        at += 4;
     }
     if at < key.len() {
-        h = h ^ scramble(tail_at(key, at));
+        h ^= scramble(tail_at(key, at));
     }
     fmix(h ^ ((key.len() % 4294967296) as u32))
 }

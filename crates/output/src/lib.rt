@@ -1,4 +1,2 @@
-// What a call that writes to a lent output answers.
+// What a call that writes to a lent output gives: see specs/Output.antt. There is nothing to call.
 #![tactic(auto)]
-
-use refusal::Refusal;

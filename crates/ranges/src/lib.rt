@@ -12,22 +12,14 @@ use topic_types::KeyRange;
 pub fn overlaps(a: KeyRange, b: KeyRange) -> bool
     ensures { result ≡ overlap a b }
 {
-    if a.start <= b.end {
-        b.start <= a.end
-    } else {
-        false
-    }
+    a.start <= b.end && b.start <= a.end
 }
 
 // The range is not reversed and starts at low or above.
 pub fn starts_from(low: u64, range: KeyRange) -> bool
     ensures { result ≡ starts_from low range }
 {
-    if low <= (range.start as u64) {
-        range.start <= range.end
-    } else {
-        false
-    }
+    low <= (range.start as u64) && range.start <= range.end
 }
 
 // The lowest value above the range.

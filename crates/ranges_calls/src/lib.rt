@@ -10,38 +10,30 @@ ghost use Rattle.ranges_calls.specs.Calls.{pair_by, holds, holds_range, touches,
 use refusal::Refusal;
 use topic_types::{KeyRange, KeyRangeError};
 
-// How many values the range has.
+// How many values the range has, 1 to 65,536.
 pub fn len(start: u32, end: u32) -> Result<u32, Refusal>
     ensures { result ≡ length_of start end }
 {
-    match KeyRange::new(start, end) {
-        Err(source) => Err(Refusal::InvalidKeyRange { source }),
-        Ok(range) => Ok(range.end - range.start + 1),
-    }
+    let r = KeyRange::new(start, end)?;
+    Ok(r.end - r.start + 1)
 }
 
 // The hash lies in the range.
 pub fn holds_hash(range: KeyRange, hash: u32) -> bool
     ensures { result ≡ holds hash range }
 {
-    if range.start <= hash {
-        hash <= range.end
-    } else {
-        false
-    }
+    range.start <= hash && hash <= range.end
 }
 
 // The hash lies in the range; any number may be asked for.
 pub fn contains(start: u32, end: u32, hash: u32) -> Result<bool, Refusal>
     ensures { result ≡ contains_of start end hash }
 {
-    match KeyRange::new(start, end) {
-        Err(source) => Err(Refusal::InvalidKeyRange { source }),
-        Ok(range) => Ok(holds_hash(range, hash)),
-    }
+    let range = KeyRange::new(start, end)?;
+    Ok(holds_hash(range, hash))
 }
 
-// The two ranges; the first is tested first.
+// The two ranges, or the error of the first that is none.
 fn both(
     start: u32,
     end: u32,
@@ -50,23 +42,15 @@ fn both(
 ) -> Result<(KeyRange, KeyRange), KeyRangeError>
     ensures { result ≡ pair_by (new_key_range start end) (new_key_range other_start other_end) }
 {
-    match KeyRange::new(start, end) {
-        Err(source) => Err(source),
-        Ok(a) => match KeyRange::new(other_start, other_end) {
-            Err(source) => Err(source),
-            Ok(b) => Ok((a, b)),
-        },
-    }
+    let a = KeyRange::new(start, end)?;
+    let b = KeyRange::new(other_start, other_end)?;
+    Ok((a, b))
 }
 
 fn holds_range(a: KeyRange, b: KeyRange) -> bool
     ensures { result ≡ holds_range a b }
 {
-    if a.start <= b.start {
-        b.end <= a.end
-    } else {
-        false
-    }
+    a.start <= b.start && b.end <= a.end
 }
 
 // The first range has every value of the second.
@@ -78,20 +62,14 @@ pub fn contains_range(
 ) -> Result<bool, Refusal>
     ensures { result ≡ contains_range_of start end other_start other_end }
 {
-    match both(start, end, other_start, other_end) {
-        Err(source) => Err(Refusal::InvalidKeyRange { source }),
-        Ok((a, b)) => Ok(holds_range(a, b)),
-    }
+    let (a, b) = both(start, end, other_start, other_end)?;
+    Ok(holds_range(a, b))
 }
 
 fn touch(a: KeyRange, b: KeyRange) -> bool
     ensures { result ≡ touches a b }
 {
-    if (a.end as u64) + 1 == (b.start as u64) {
-        true
-    } else {
-        (b.end as u64) + 1 == (a.start as u64)
-    }
+    (a.end as u64) + 1 == (b.start as u64) || (b.end as u64) + 1 == (a.start as u64)
 }
 
 // One range ends right before the other starts.
@@ -103,8 +81,6 @@ pub fn is_adjacent_to(
 ) -> Result<bool, Refusal>
     ensures { result ≡ is_adjacent_of start end other_start other_end }
 {
-    match both(start, end, other_start, other_end) {
-        Err(source) => Err(Refusal::InvalidKeyRange { source }),
-        Ok((a, b)) => Ok(touch(a, b)),
-    }
+    let (a, b) = both(start, end, other_start, other_end)?;
+    Ok(touch(a, b))
 }

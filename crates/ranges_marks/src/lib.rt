@@ -38,7 +38,7 @@ pub fn mark(marks: &mut [u64], range: KeyRange) -> bool
             return true;
         }
         marks[i] = word | places;
-        at = at + count;
+        at += count;
     }
     false
 }
@@ -53,7 +53,7 @@ pub fn mark_row(row: &[KeyRange], marks: &mut [u64]) -> bool
         if mark(marks, row[i]) {
             return true;
         }
-        i = i + 1;
+        i += 1;
     }
     false
 }

@@ -8,6 +8,7 @@
 
 ghost use Rattle.std.specs.Prelude.{◌≡◌};
 ghost use Rattle.refusal.specs.Refusals.{number_of};
+ghost use Rattle.refusal.specs.declared.Refusal.TheVariants.{InvalidKeyRange};
 
 use topic_types::{ControllerIncarnation, KeyRangeError, SegmentId};
 
@@ -141,6 +142,15 @@ pub enum Refusal {
     InvalidWindow,
     // 64: a saved session has not the form, the length or the checksum of one.
     MalformedSave,
+}
+
+// Two numbers that are no range: `?` after `KeyRange::new` refuses with 9.
+impl From<KeyRangeError> for Refusal {
+    ghost from_gives = { λ source refusal. refusal ≡ InvalidKeyRange source };
+
+    fn from(source: KeyRangeError) -> Refusal {
+        Refusal::InvalidKeyRange { source }
+    }
 }
 
 // The specification's number of a refusal.

@@ -4,7 +4,7 @@
 -- (`same_next`, `same_differs`, `same_end`); a loop that counts the places where they are alike (`Alike`, from `alike-none` to `alike_end`); fronts that are known to be
 -- the same (`front-longer`, `same-last`); a part that differs (`same-part`); prefixes (`starts-short`, `starts-long`); a list that is two lists joined (`same-append`).
 -- Assumes nothing.
-use Prim.Native.Nat.{ℕ, zero, suc, ◌+◌, ◌-◌, ◌≤◌, ◌<◌}
+use Prim.Native.Nat.{ℕ, zero, suc, ◌+◌, ◌≤◌, ◌<◌}
 use native.Mathlib.Numerals.{add-one}
 use native.Mathlib.Omega.{arith}
 use native.Mathlib.Decide.{dec_le}

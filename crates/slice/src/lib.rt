@@ -16,9 +16,9 @@ fn same_at(a: &[u8], b: &[u8], at: usize, n: usize) -> bool
     let mut i: usize = 0;
     while i < n {
         if a[at + i] == b[at + i] {
-            alike = alike + 1;
+            alike += 1;
         }
-        i = i + 1;
+        i += 1;
     }
     alike == n
 }
@@ -34,7 +34,7 @@ fn same_by(a: &[u8], b: &[u8], n: usize) -> bool
         if !same_at(a, b, i, n) {
             return false;
         }
-        i = i + n;
+        i += n;
     }
     same_at(a, b, last, n)
 }
@@ -63,10 +63,7 @@ pub fn starts_with(s: &[u8], prefix: &[u8]) -> bool
     ensures { result ≡ starts_with prefix.now s.now }
 {
     let n = prefix.len();
-    if s.len() < n {
-        return false;
-    }
-    same(&s[..n], prefix)
+    n <= s.len() && same(&s[..n], prefix)
 }
 
 // The byte as a wider number.

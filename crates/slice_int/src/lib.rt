@@ -70,7 +70,7 @@ pub fn put_bytes(out: &mut [u8], at: usize, src: &[u8])
     let mut i: usize = 0;
     while i < src.len() {
         out[at + i] = src[i];
-        i = i + 1;
+        i += 1;
     }
 }
 

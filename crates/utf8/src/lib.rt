@@ -17,13 +17,7 @@ struct Span(u8, u8);
 fn in_span(s: &[u8], i: usize, byte: Span) -> bool
     ensures { result ≡ fits (span byte.0 byte.1 ∷ []) (drop i s.now) }
 {
-    if i < s.len() {
-        let b = s[i];
-        if byte.0 <= b {
-            return b <= byte.1;
-        }
-    }
-    false
+    i < s.len() && byte.0 <= s[i] && s[i] <= byte.1
 }
 
 // 2 where the second byte lies in its span, else 0.
@@ -38,12 +32,11 @@ fn three(s: &[u8], second: Span, third: Span) -> usize
     ensures { result ≡ cond
         (fits (span second.0 second.1 ∷ span third.0 third.1 ∷ []) (drop 1 s.now)) 3 0 }
 {
-    if in_span(s, 1, second) {
-        if in_span(s, 2, third) {
-            return 3;
-        }
+    if in_span(s, 1, second) && in_span(s, 2, third) {
+        3
+    } else {
+        0
     }
-    0
 }
 
 // 4 where the second, the third and the fourth byte lie in their spans, else 0.
@@ -52,14 +45,11 @@ fn four(s: &[u8], second: Span, third: Span, fourth: Span) -> usize
         (fits (span second.0 second.1 ∷ span third.0 third.1 ∷ span fourth.0 fourth.1 ∷ [])
         (drop 1 s.now)) 4 0 }
 {
-    if in_span(s, 1, second) {
-        if in_span(s, 2, third) {
-            if in_span(s, 3, fourth) {
-                return 4;
-            }
-        }
+    if in_span(s, 1, second) && in_span(s, 2, third) && in_span(s, 3, fourth) {
+        4
+    } else {
+        0
     }
-    0
 }
 
 // The length of the well-formed sequence at the front of the part, or 0 where there is none. A line of the match is a
@@ -95,9 +85,9 @@ fn eight_ascii(s: &[u8], at: usize) -> bool
     let mut i: usize = 0;
     while i < 8 {
         if 0x7F < s[at + i] {
-            others = others + 1;
+            others += 1;
         }
-        i = i + 1;
+        i += 1;
     }
     others == 0
 }
@@ -112,7 +102,7 @@ fn eights_end(s: &[u8], from: usize) -> usize
         if !eight_ascii(s, at) {
             return at;
         }
-        at = at + 8;
+        at += 8;
     }
     at
 }
@@ -127,7 +117,7 @@ fn ascii_end(s: &[u8], from: usize) -> usize
         if 0x7F < s[at] {
             return at;
         }
-        at = at + 1;
+        at += 1;
     }
     at
 }
@@ -136,7 +126,7 @@ fn ascii_end(s: &[u8], from: usize) -> usize
 fn stays_ascii(ascii: bool, b: u8) -> bool
     ensures { result ≡ (ascii && ltb b 128) }
 {
-    if ascii { b < 0x80 } else { false }
+    ascii && b < 0x80
 }
 
 // The 16 bytes from a place on are all of the first row. There is no way out of the loop, so that a machine may test them at once.
@@ -148,7 +138,7 @@ fn block_ascii(s: &[u8], at: usize) -> bool
     let mut i: usize = 0;
     while i < 16 {
         ascii = stays_ascii(ascii, s[at + i]);
-        i = i + 1;
+        i += 1;
     }
     ascii
 }
@@ -166,7 +156,7 @@ pub fn all_ascii(s: &[u8]) -> bool
         if !block_ascii(s, at) {
             return false;
         }
-        at = at + 16;
+        at += 16;
     }
     block_ascii(s, s.len() - 16)
 }
@@ -181,7 +171,7 @@ fn is_text(s: &[u8]) -> bool
         if n == 0 {
             return false;
         }
-        at = at + n;
+        at += n;
         if n == 1 {
             at = ascii_end(s, at);
         }
@@ -193,5 +183,5 @@ fn is_text(s: &[u8]) -> bool
 pub fn is_utf8(s: &[u8]) -> bool
     ensures { result ≡ is_utf8 s.now }
 {
-    if all_ascii(s) { true } else { is_text(s) }
+    all_ascii(s) || is_text(s)
 }

@@ -1,23 +1,28 @@
 -- `both` meets its contract: each return is the case of `pair_by` that the two answers of `KeyRange::new` pick.
 -- Assumes nothing.
 use mathlib.Core.Path.{sym, ◌∙◌}
+use Rattle.std.proofs.lemmas.Result.{err_from_is_err_and}
 use Rattle.ranges_calls.specs.Calls.{pair_by}
 use Rattle.ranges_calls.proofs.both.Goals as goal
 
-pub returns-in-Err : goal.returns-in-Err
+pub returns-in_err-a : goal.returns-in_err-a
 unfolding pair_by
-returns-in-Err c = let e = sym c.new.ensures ∙ c.in-Err.is in rw e
+returns-in_err-a c =
+    let e = sym c.new.ensures ∙ c.in_err-a.was in
+    let p = err_from_is_err_and c.from_residual.result c.from_residual.ensures.1 in
+    rw (e, p.1, p.2)
 
-pub returns-in-Err-new : goal.returns-in-Err-new
+pub returns-in_err-b : goal.returns-in_err-b
 unfolding pair_by
-returns-in-Err-new c =
-    let e = sym c.new.ensures ∙ c.in-Ok.is in
-    let f = sym c.new-in-Ok.ensures ∙ c.in-Err-new.is in
-    rw (e, f)
+returns-in_err-b c =
+    let e = sym c.new.ensures ∙ c.in_ok-a.was in
+    let f = sym c.new-2.ensures ∙ c.in_err-b.was in
+    let p = err_from_is_err_and c.from_residual-in_err-b.result c.from_residual-in_err-b.ensures.1 in
+    rw (e, f, p.1, p.2)
 
-pub returns-in-Ok-new : goal.returns-in-Ok-new
+pub returns : goal.returns
 unfolding pair_by
-returns-in-Ok-new c =
-    let e = sym c.new.ensures ∙ c.in-Ok.is in
-    let f = sym c.new-in-Ok.ensures ∙ c.in-Ok-new.is in
+returns c =
+    let e = sym c.new.ensures ∙ c.in_ok-a.was in
+    let f = sym c.new-2.ensures ∙ c.in_ok-b.was in
     rw (e, f)

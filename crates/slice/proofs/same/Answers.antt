@@ -2,7 +2,6 @@
 -- Assumes nothing.
 use native.Mathlib.Omega.{arith}
 use mathlib.Core.Path.{sym}
-use borrow.Author.Rules.{rules}
 use Rattle.slice.proofs.SameLaws.{same_length, same_end}
 use Rattle.slice.proofs.same.Goals as goal
 

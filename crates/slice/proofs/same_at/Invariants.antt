@@ -1,14 +1,9 @@
 -- `same_at` meets its contract. The invariant: `alike` of the first i places are alike. The measure is the bytes left of n.
 -- Assumes nothing.
-use Prim.Native.Nat.{ℕ, ◌+◌, ◌-◌, ◌≤◌, ◌<◌}
-use native.Mathlib.Omega.{arith}
-use mathlib.Core.Logic.{⊎_elim}
-use mathlib.Core.Path.{◌≡◌, sym, ap, ◌∙◌}
+use Prim.Native.Nat.{ℕ, ◌-◌, ◌≤◌}
 use mathlib.Core.List.{List}
-use lib.ListN.{length, take, drop, get_or, length-drop}
-use lib.Dec.{eqb}
-use lib.Seq.{length-take-le, get_or-take, get_or-drop}
-use Rattle.slice.proofs.SameLaws.{Alike, alike-none, alike_next, alike-differs, alike_end}
+use lib.ListN.{take, drop}
+use Rattle.slice.proofs.SameLaws.{Alike}
 use Rattle.slice.proofs.same_at.Given as goal
 
 -- the n bytes from a place on

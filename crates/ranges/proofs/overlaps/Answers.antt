@@ -1,9 +1,0 @@
--- `overlaps` meets its contract: each return is the case of `overlap` that the test before it leaves. Assumes nothing.
-use borrow.Author.Tests.{le-leb, lt-leb}
-use Rattle.ranges.proofs.overlaps.Goals as goal
-
-pub returns-then-a-b : goal.returns-then-a-b
-returns-then-a-b c = simp (le-leb _ _ c.if-a-b.true)
-
-pub returns-else-a-b : goal.returns-else-a-b
-returns-else-a-b c = simp (lt-leb _ _ c.if-a-b.false)
