@@ -20,7 +20,7 @@ fn hex_digit_value(b: u8) -> u64
     16
 }
 
-// Four lower-case hexadecimal digits.
+// The value of four lower-case hexadecimal digits, or None.
 pub fn hex_word(s: &[u8]) -> Option<u64>
     ensures { result ≡ hex_word s.now }
 {
@@ -35,12 +35,12 @@ pub fn hex_word(s: &[u8]) -> Option<u64>
             return None;
         }
         v = v * 16 + d;
-        i = i + 1;
+        i += 1;
     }
     Some(v)
 }
 
-// A decimal number below 2^64 without leading zeros.
+// The value of a decimal number below 2^64 without leading zeros, or None.
 pub fn segment_id(s: &[u8]) -> Option<u64>
     ensures { result ≡ segment_id_of s.now }
 {
@@ -64,7 +64,7 @@ pub fn segment_id(s: &[u8]) -> Option<u64>
             return None;
         }
         v = v * 10 + d;
-        i = i + 1;
+        i += 1;
     }
     Some(v)
 }

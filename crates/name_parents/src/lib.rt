@@ -26,12 +26,10 @@ fn stop_from(table: &[u8; 256], s: &[u8], from: usize, lowest: u8) -> usize
     let mut i = from;
     while i < s.len() {
         let class = class_in(table, s[i]);
-        if lowest <= class {
-            if class != DASH {
-                return i;
-            }
+        if lowest <= class && class != DASH {
+            return i;
         }
-        i = i + 1;
+        i += 1;
     }
     i
 }

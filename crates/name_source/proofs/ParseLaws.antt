@@ -1,14 +1,14 @@
 -- Laws of the readers of a name.
 --
--- In order: the cases of `descriptor_stage` (`descriptor-short` to `descriptor-range`), of `range_stage` (`range-invalid`, `range-valid`), of
+-- In order: what `ok_or` answers (`is-none`, `is-some`); the cases of `descriptor_stage` (`descriptor-short` to `descriptor-range`), of `range_stage` (`range-invalid`, `range-valid`), of
 -- `parse_segment_topic` (`name-no-scheme` to `name-descriptor`), of `parse_text` (`text-not-utf8`, `text-name`) and of `segment_source`
 -- (`source-refused`, `source-same`, `source-other`); what a text that is read has (`IsName`: `name-told`); the parent of a name
 -- (`parent_place`, `parent-refused`, `parent-no-room`, `parent-written`).
 -- Assumes nothing.
-use Rattle.std.specs.Prelude.{Some, None, Result, Ok, Err}
+use Rattle.std.specs.Prelude.{Option, Some, None, Result, Ok, Err, ok_or}
 use Prim.Native.Nat.{ℕ, ◌+◌, ◌-◌, ◌≤◌, ◌<◌}
 use native.Mathlib.Omega.{arith}
-use mathlib.Core.Path.{◌≡◌, sym, ap, ◌∙◌}
+use mathlib.Core.Path.{◌≡◌, refl, sym, ap, ◌∙◌}
 use mathlib.Core.Bool.{true, false, ◌&&◌, and-false}
 use mathlib.Core.List.{List, ◌++◌}
 use lib.ListN.{length, take, drop, get_or, length-append, length-drop}
@@ -38,6 +38,16 @@ use Rattle.name_source.specs.Parse.{source_stage, segment_source, parent_outcome
 use Rattle.slice.proofs.TestLaws.{cond-first}
 use Rattle.name_digits.proofs.DigitLaws.{word-told, word_none, id-empty, id-told, id-none}
 use Rattle.name_source.proofs.SlashLaws.{slash-told, slash-none, before-last-inside, before-last-take}
+
+-- ---- what `ok_or` answers
+
+pub is-none : (o : Option ℕ) (due x : Refusal) → ok_or o due ≡ Err x → (o ≡ None) × (x ≡ due)
+is-none None due x e = (refl, cc)
+is-none (Some n) due x e = absurd (let z : ◌≡◌ {A = ℕ} 0 1 = cc in omega arith)
+
+pub is-some : (o : Option ℕ) (due : Refusal) (n : ℕ) → ok_or o due ≡ Ok n → o ≡ Some n
+is-some None due n e = absurd (let z : ◌≡◌ {A = ℕ} 0 1 = cc in omega arith)
+is-some (Some m) due n e = cc
 
 -- ---- the descriptor d, behind a path that ends at n
 
@@ -170,14 +180,23 @@ pub record IsName (t : List ℕ) (n : ℕ) (range : KeyRange) (id : SegmentId) :
   pub ends : new_key_range (hex_value (start_part (descriptor_of t))) (hex_value (end_part (descriptor_of t))) ≡ Ok range
   pub number : id.0 ≡ decimal_value (id_part (descriptor_of t))
 
-refused-name : {x : Refusal} {n : ℕ} {r : KeyRange} {i : SegmentId} → Err x ≡ Ok (n, r, i) → ⊥
+refused-name : {x : Refusal} {n : ℕ} {r : KeyRange} {i : SegmentId} → ◌≡◌ {A = Result (ℕ × KeyRange × SegmentId) Refusal} (Err x) (Ok (n, r, i)) → ⊥
 refused-name q = let z : ◌≡◌ {A = ℕ} 0 1 = cc in omega arith
+
+abbrev Name : Type 0
+Name = ℕ × KeyRange × SegmentId
+
+abbrev answered : Name → Result Name Refusal → Name
+answered a (Err x) = a
+answered a (Ok b) = b
 
 range-told : (n i : ℕ) (x : Result KeyRange KeyRangeError) (m : ℕ) (r : KeyRange) (id : SegmentId) → range_stage n i x ≡ Ok (m, r, id)
     → (x ≡ Ok r) × (m ≡ n) × (id ≡ record { 0 = i })
 unfolding range_stage
 range-told n i (Err e) m r id q = absurd (refused-name q)
-range-told n i (Ok s) m r id q = (cc, cc, cc)
+range-told n i (Ok s) m r id q =
+    let p = ap (answered (n, s, record { 0 = i })) q in
+    (ap (λ (a : Name). Ok a.1) p, sym (ap (λ (a : Name). a.0) p), sym (ap (λ (a : Name). a.2) p))
 
 pub name-told : (t : List ℕ) (n : ℕ) (range : KeyRange) (id : SegmentId) → parse_segment_topic t ≡ Ok (n, range, id) → IsName t n range id
 unfolding parse_segment_topic range_stage

@@ -27,33 +27,24 @@ fn has_scheme(text: &[u8]) -> bool
     requires { segment_scheme_size ≤ length text.now }
     ensures { result ≡ starts_with segment_scheme text.now }
 {
-    if slice_int::read_u64(text, 0) != SEGMENT_COLON {
-        return false;
-    }
-    slice_int::read_u16(text, 8) == TWO_SLASHES
+    slice_int::read_u64(text, 0) == SEGMENT_COLON && slice_int::read_u16(text, 8) == TWO_SLASHES
 }
 
 // The text is the name of the segment with that range and id below the path. The shortest such name has 12 bytes behind the path.
 pub fn is_segment_topic(text: &[u8], path: &[u8], range: KeyRange, id: SegmentId) -> bool
     ensures { result ≡ same_bytes text.now (segment_topic path.now range id) }
 {
-    if text.len() < 22 {
-        return false;
-    }
-    if text.len() - 22 < path.len() {
+    if text.len() < 22 || text.len() - 22 < path.len() {
         return false;
     }
     if !has_scheme(text) {
         return false;
     }
     let n = SCHEME + path.len();
-    if !slice::same(&text[SCHEME..n], path) {
-        return false;
-    }
-    descriptor::is_descriptor(text, n, range, id)
+    slice::same(&text[SCHEME..n], path) && descriptor::is_descriptor(text, n, range, id)
 }
 
-// Writes the name of the segment with that range and id below the path, where it fits (21 where not).
+// Writes the name of the segment with that range and id below the path, where it fits (21 where not). Answers how many bytes it has.
 pub fn write_segment_topic(
     path: &[u8],
     range: KeyRange,
@@ -66,10 +57,7 @@ pub fn write_segment_topic(
     let from = tail.from;
     let bytes = tail.bytes;
     let rest = 42 - from;
-    if out.len() < rest {
-        return Err(Refusal::ResultTooLong);
-    }
-    if out.len() - rest < path.len() {
+    if out.len() < rest || out.len() - rest < path.len() {
         return Err(Refusal::ResultTooLong);
     }
     let n = SCHEME + path.len();
@@ -94,14 +82,9 @@ pub fn canonical_segment_topic(
     if !utf8::is_utf8(parent) {
         return Err(Refusal::InvalidUtf8);
     }
-    match KeyRange::new(start, end) {
-        Err(source) => Err(Refusal::InvalidKeyRange { source }),
-        Ok(range) => {
-            if is_parent(parent) {
-                write_segment_topic(&parent[name_parents::SCHEME..], range, id, out)
-            } else {
-                Err(Refusal::InvalidParent)
-            }
-        }
+    let range = KeyRange::new(start, end)?;
+    if !is_parent(parent) {
+        return Err(Refusal::InvalidParent);
     }
+    write_segment_topic(&parent[name_parents::SCHEME..], range, id, out)
 }

@@ -29,9 +29,9 @@ loop-i-preserved c =
     let class = c.class_in-class.ensures in
     let k : l.i < length s = omega arith in
     let next : passed a.lowest (drop l.i s) ≡ suc (passed a.lowest (drop (l.i + 1) s)) =
-    elim c.if-lowest-class.branch [
-      | goal.then-lowest-class+else-class-ne-DASH w ↦ passed-dash a.lowest s l.i k (sym class ∙ w.if-class-ne-DASH.false)
-      | goal.else-lowest-class w ↦ passed-low a.lowest s l.i k (omega (arith, class, w.if-lowest-class.false))
+    elim c.else-lowest-class.branch [
+      | goal.else-lowest-class-via-then-lowest-class+else-class-ne-DASH w ↦ passed-dash a.lowest s l.i k (sym class ∙ w.if-class-ne-DASH.false)
+      | goal.else-lowest-class-via-else-lowest-class w ↦ passed-low a.lowest s l.i k (omega (arith, class, w.if-lowest-class.false))
     ] in
     (omega arith, omega (arith, l.invariant.1, next))
 
