@@ -38,13 +38,11 @@ pub enum Body {
     Part(usize, usize),
 }
 
-// The key at the front of the part.
+// The key at the front of the part: the field's number and type, and the key's length in bytes; None where it is broken.
 pub fn read_key(s: &[u8]) -> Option<(u64, WireType, usize)>
     ensures { result ≡ key_read s.now }
 {
-    let Some((v, n)) = read_varint(s) else {
-        return None;
-    };
+    let (v, n) = read_varint(s)?;
     if MAX_KEY < v {
         return None;
     }
@@ -52,8 +50,7 @@ pub fn read_key(s: &[u8]) -> Option<(u64, WireType, usize)>
     if number == 0 {
         return None;
     }
-    let t = v % 8;
-    match t {
+    match v % 8 {
         0 => Some((number, WireType::Varint, n)),
         1 => Some((number, WireType::I64, n)),
         2 => Some((number, WireType::Len, n)),
@@ -75,9 +72,7 @@ fn fixed(s: &[u8], n: usize) -> Option<Body>
 fn part(s: &[u8]) -> Option<Body>
     ensures { result ≡ part_of s.now }
 {
-    let Some((v, n)) = read_varint(s) else {
-        return None;
-    };
+    let (v, n) = read_varint(s)?;
     let len = v as usize;
     if len <= s.len() - n {
         Some(Body::Part(n, len))
@@ -86,15 +81,15 @@ fn part(s: &[u8]) -> Option<Body>
     }
 }
 
-// What stands behind a key of that type. A number mostly has more than one byte, so it is read byte by byte.
+// What stands behind a key of that type; None where it is broken. A number mostly has more than one byte, so it is read byte by byte.
 pub fn read_body(w: WireType, s: &[u8]) -> Option<Body>
     ensures { result ≡ body_of w s.now }
 {
     match w {
-        WireType::Varint => match read_long_varint(s) {
-            Some((v, n)) => Some(Body::Number(v, n)),
-            None => None,
-        },
+        WireType::Varint => {
+            let (v, n) = read_long_varint(s)?;
+            Some(Body::Number(v, n))
+        }
         WireType::I64 => fixed(s, 8),
         WireType::Len => part(s),
         WireType::I32 => fixed(s, 4),

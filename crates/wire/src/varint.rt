@@ -7,7 +7,7 @@ ghost use Rattle.wire.specs.Varints.{varint_of};
 
 use slice::wide;
 
-// The varint at the front of the part, byte by byte. With two callers it stays a function of its own, and the one test of `read_varint` is
+// The varint at the front of the part, byte by byte: its value, and its length in bytes; None where it is broken. With two callers it stays a function of its own, and the one test of `read_varint` is
 // inlined where keys and lengths are read.
 pub fn read_long_varint(s: &[u8]) -> Option<(u64, usize)>
     ensures { result ≡ varint_of s.now }
@@ -23,9 +23,9 @@ pub fn read_long_varint(s: &[u8]) -> Option<(u64, usize)>
         if b < 128 {
             return Some((value + weight * b, i + 1));
         }
-        value = value + weight * (b - 128);
-        weight = weight * 128;
-        i = i + 1;
+        value += weight * (b - 128);
+        weight *= 128;
+        i += 1;
     }
     if s.len() <= 9 {
         return None;

@@ -64,22 +64,20 @@ fn shell_value(f: u64) -> ValueKind
     }
 }
 
-// The field at the front of a part of a command: its key (3), its type (4), its length or value (3).
+// The length of the field at the front of a part of a command: refused at its key (3), its type (4), its length or value (3).
 fn read_step(s: &[u8]) -> Result<usize, Refusal>
     ensures { result ≡ step_by (key_read s.now) s.now }
 {
-    let Some((f, w, n)) = wire::read_key(s) else {
-        return Err(Refusal::InvalidWireFormat);
-    };
+    let (f, w, n) = wire::read_key(s).ok_or(Refusal::InvalidWireFormat)?;
     let v = shell_value(f);
     if !wire_schema::fits_wire(v, w) {
         return Err(Refusal::WrongWireType);
     }
-    match wire::read_body(w, &s[n..]) {
-        Some(Body::Number(_, m)) => Ok(n + m),
-        Some(Body::Fixed(m)) => Ok(n + m),
-        Some(Body::Part(m, len)) => Ok(n + (m + len)),
-        None => Err(Refusal::InvalidWireFormat),
+    let body = wire::read_body(w, &s[n..]).ok_or(Refusal::InvalidWireFormat)?;
+    match body {
+        Body::Number(_, m) => Ok(n + m),
+        Body::Fixed(m) => Ok(n + m),
+        Body::Part(m, len) => Ok(n + (m + len)),
     }
 }
 
@@ -89,14 +87,7 @@ fn check_fields(s: &[u8]) -> Result<(), Refusal>
 {
     let mut at: usize = 0;
     while at < s.len() {
-        match read_step(&s[at..]) {
-            Err(x) => {
-                return Err(x);
-            }
-            Ok(m) => {
-                at = at + m;
-            }
-        }
+        at += read_step(&s[at..])?;
     }
     Ok(())
 }
@@ -118,21 +109,17 @@ fn find_parts(s: &[u8], n: u64) -> Found
                     length,
                 };
             }
-            Some(Front::Number(_, _, size)) => {
-                at = at + size;
-            }
+            Some(Front::Number(_, _, size)) => at += size,
             Some(Front::Part(f, from, len)) => {
                 let begin = at + from;
                 if f == n {
-                    count = count + 1;
+                    count += 1;
                     start = begin;
                     length = len;
                 }
                 at = begin + len;
             }
-            Some(Front::Fixed(size)) => {
-                at = at + size;
-            }
+            Some(Front::Fixed(size)) => at += size,
         }
     }
     Found {
@@ -158,7 +145,7 @@ fn find_message(s: &[u8], n: u64) -> Message
 
 // A command of the type SCALABLE_TOPIC_SUBSCRIBE_RESPONSE.
 fn response(s: &[u8]) -> Result<Command, Refusal>
-    ensures { result ≡ answer_for Command.Response (pos 74) (message_in 74 s.now) }
+    ensures { result ≡ answer_for (λ x y z. Ok (Command.Response x y z)) (pos 74) (message_in 74 s.now) }
 {
     match find_message(s, 74) {
         Message::At(start, len, id) => Ok(Command::Response(start, len, id)),
@@ -168,7 +155,7 @@ fn response(s: &[u8]) -> Result<Command, Refusal>
 
 // A command of the type SCALABLE_TOPIC_ASSIGNMENT_UPDATE.
 fn update(s: &[u8]) -> Result<Command, Refusal>
-    ensures { result ≡ answer_for Command.Update (pos 75) (message_in 75 s.now) }
+    ensures { result ≡ answer_for (λ x y z. Ok (Command.Update x y z)) (pos 75) (message_in 75 s.now) }
 {
     match find_message(s, 75) {
         Message::At(start, len, id) => Ok(Command::Update(start, len, id)),
@@ -178,7 +165,7 @@ fn update(s: &[u8]) -> Result<Command, Refusal>
 
 // A command of the type WATCH_SCALABLE_TOPICS_UPDATE.
 fn watch_update(s: &[u8]) -> Result<Command, Refusal>
-    ensures { result ≡ answer_for Command.Watch (pos 77) (message_in 77 s.now) }
+    ensures { result ≡ answer_for (λ x y z. Ok (Command.Watch x y z)) (pos 77) (message_in 77 s.now) }
 {
     match find_message(s, 77) {
         Message::At(start, len, id) => Ok(Command::Watch(start, len, id)),
@@ -206,13 +193,9 @@ fn by_type(s: &[u8], t: i32) -> Result<Command, Refusal>
 pub fn read_command(s: &[u8]) -> Result<Command, Refusal>
     ensures { result ≡ command_of s.now }
 {
-    if let Err(x) = check_fields(s) {
-        return Err(x);
-    }
-    match wire_values::last_number(s, 1) {
-        Some(v) => by_type(s, wire_values::int32(v)),
-        None => Err(Refusal::MissingField),
-    }
+    check_fields(s)?;
+    let v = wire_values::last_number(s, 1).ok_or(Refusal::MissingField)?;
+    by_type(s, wire_values::int32(v))
 }
 
 // A message of a type that was found: where it starts, its length, and the number by which it is routed.
@@ -234,16 +217,19 @@ fn found_reply(t: u64, start: usize, len: usize, id: u64) -> Reply
 pub fn command_reply(c: Result<Command, Refusal>) -> Reply
     ensures { result ≡ command_reply c }
 {
-    match c {
-        Ok(Command::Response(start, len, id)) => found_reply(74, start, len, id),
-        Ok(Command::Update(start, len, id)) => found_reply(75, start, len, id),
-        Ok(Command::Watch(start, len, id)) => found_reply(77, start, len, id),
-        Ok(Command::Parts(t, k)) => export_reply::two(
+    let command = match c {
+        Ok(command) => command,
+        Err(x) => return export_reply::refused(x),
+    };
+    match command {
+        Command::Response(start, len, id) => found_reply(74, start, len, id),
+        Command::Update(start, len, id) => found_reply(75, start, len, id),
+        Command::Watch(start, len, id) => found_reply(77, start, len, id),
+        Command::Parts(t, k) => export_reply::two(
             export_reply::NO,
             export_reply::word(t),
             k as u64,
         ),
-        Ok(Command::Other(t)) => export_reply::one(export_reply::NO, export_reply::word(t)),
-        Err(x) => export_reply::refused(x),
+        Command::Other(t) => export_reply::one(export_reply::NO, export_reply::word(t)),
     }
 }

@@ -11,7 +11,7 @@ use refusal::Refusal;
 use wire::{Body, WireType};
 use wire_schema::{MessageKind, ValueKind};
 
-// What stands behind a key: refused, passed over in this many bytes, or a message that starts at a place and has a length.
+// What stands behind a key: passed over in this many bytes, or a message that starts at a place and has a length.
 #[derive(Clone, Copy)]
 pub enum Step {
     Next(usize),
@@ -25,20 +25,16 @@ pub struct FieldStep {
     pub step: Result<Step, Refusal>,
 }
 
-// The key at the front of a part of a message of the kind.
+// The key at the front of a part of a message of the kind: its length, the field's type and what it holds.
 fn read_head(kind: MessageKind, s: &[u8]) -> Result<(usize, WireType, ValueKind), Refusal>
     ensures { result ≡ field_head kind (key_read s.now) }
 {
-    match wire::read_key(s) {
-        Some((f, w, n)) => {
-            let v = wire_schema::field_value(kind, f);
-            if wire_schema::fits_wire(v, w) {
-                Ok((n, w, v))
-            } else {
-                Err(Refusal::WrongWireType)
-            }
-        }
-        None => Err(Refusal::InvalidWireFormat),
+    let (f, w, n) = wire::read_key(s).ok_or(Refusal::InvalidWireFormat)?;
+    let v = wire_schema::field_value(kind, f);
+    if wire_schema::fits_wire(v, w) {
+        Ok((n, w, v))
+    } else {
+        Err(Refusal::WrongWireType)
     }
 }
 
@@ -65,11 +61,11 @@ fn part_step(v: ValueKind, n: usize, len: usize, p: &[u8]) -> Result<Step, Refus
 fn value_step(v: ValueKind, w: WireType, s: &[u8]) -> Result<Step, Refusal>
     ensures { result ≡ value_step v (body_of w s.now) s.now }
 {
-    match wire::read_body(w, s) {
-        Some(Body::Number(_, n)) => Ok(Step::Next(n)),
-        Some(Body::Fixed(n)) => Ok(Step::Next(n)),
-        Some(Body::Part(n, len)) => part_step(v, n, len, &s[n..n + len]),
-        None => Err(Refusal::InvalidWireFormat),
+    let body = wire::read_body(w, s).ok_or(Refusal::InvalidWireFormat)?;
+    match body {
+        Body::Number(_, n) => Ok(Step::Next(n)),
+        Body::Fixed(n) => Ok(Step::Next(n)),
+        Body::Part(n, len) => part_step(v, n, len, &s[n..n + len]),
     }
 }
 

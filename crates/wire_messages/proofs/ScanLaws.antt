@@ -80,7 +80,7 @@ module _ {depth : ℕ} {k : MessageKind} {s : List ℕ} {at : ℕ} (i : Scanned 
 
   -- a message that stands in a field, which ends at a place
   abbrev pub InnerAt : ℕ → Result ⊤ Refusal → Type 0
-  InnerAt to (Ok record {}) = Scanned depth k s to
+  InnerAt to (Ok u) = Scanned depth k s to
   InnerAt to (Err x) = Err x ≡ fault_within depth k s
 
   abbrev pub StepAt : ℕ → Result Step Refusal → Type 0
@@ -139,7 +139,7 @@ module _ {depth : ℕ} {k : MessageKind} {s : List ℕ} {at : ℕ} (i : Scanned 
     inner-at : (m len : ℕ) → m + len ≤ length s - (at + n) → (q p : Result ⊤ Refusal) → p ≡ q
         → fault_of inner k (drop at s) ≡ first p (fault_of inner k (drop (n + (m + len)) (drop at s)))
         → InnerAt (at + n + m + len) q
-    inner-at m len g (Ok record {}) p d e =
+    inner-at m len g (Ok u) p d e =
         let a : at + n + (m + len) ≡ at + n + m + len = omega arith in
         subst (λ (to : ℕ). Scanned depth k s to) a (on-at (m + len) g (e ∙ rw d))
     inner-at m len g (Err x) p d e = sym (i.stands ∙ e ∙ rw d)

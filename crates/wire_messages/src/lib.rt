@@ -25,21 +25,13 @@ fn scan(depth: usize, kind: MessageKind, s: &[u8]) -> Result<(), Refusal>
     let mut at: usize = 0;
     while at < s.len() {
         let field = wire_field_step::read_field(kind, &s[at..]);
-        let step = field.step;
-        at = at + field.size;
-        match step {
-            Err(x) => {
-                return Err(x);
-            }
-            Ok(Step::Next(m)) => {
-                at = at + m;
-            }
-            Ok(Step::Inner(k, m, len)) => {
+        at += field.size;
+        match field.step? {
+            Step::Next(m) => at += m,
+            Step::Inner(k, m, len) => {
                 let from = at + m;
                 at = from + len;
-                if let Err(x) = scan(depth - 1, k, &s[from..at]) {
-                    return Err(x);
-                }
+                scan(depth - 1, k, &s[from..at])?;
             }
         }
     }
@@ -54,9 +46,7 @@ pub fn first_fault(kind: MessageKind, s: &[u8]) -> Result<(), Refusal>
         return Ok(());
     }
     let depth = wire_schema::nesting(kind);
-    if let Err(x) = scan(depth, kind, s) {
-        return Err(x);
-    }
+    scan(depth, kind, s)?;
     if wire_required::is_complete(kind, s) {
         Ok(())
     } else {

@@ -12,7 +12,7 @@ ghost use Rattle.wire_ordered.specs.Ordered.{NumberField, NumberAtIs, PartIs, Pa
 use wire::{Body, WireType};
 use wire_schema::MessageKind;
 
-// The number of field f at a place.
+// The number of field f at a place, and the place behind the field; None where it does not stand there.
 pub fn number_at(f: u8, s: &[u8], at: usize) -> Option<(u64, usize)>
     requires { (0 < f) × (f < 16) }
     ensures { NumberAtIs f s.now at result }
@@ -24,10 +24,8 @@ pub fn number_at(f: u8, s: &[u8], at: usize) -> Option<(u64, usize)>
         return None;
     }
     let from = at + 1;
-    match wire::read_short_varint(&s[from..]) {
-        Some((v, n)) => Some((v, from + n)),
-        None => None,
-    }
+    let (v, n) = wire::read_short_varint(&s[from..])?;
+    Some((v, from + n))
 }
 
 // The place behind field f, a number, at a place; 0 where it does not stand there.
@@ -41,7 +39,7 @@ fn number_end(f: u8, s: &[u8], at: usize) -> usize
     }
 }
 
-// The part of field f at a place.
+// Where the part of field f at a place starts and where it ends; None where it does not stand there.
 pub fn part_at(f: u8, s: &[u8], at: usize) -> Option<(usize, usize)>
     requires { (0 < f) × (f < 16) }
     ensures { PartIs f s.now at result }

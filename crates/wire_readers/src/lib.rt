@@ -80,14 +80,12 @@ pub fn read_update(m: &[u8]) -> UpdateHead
     }
 }
 
-// The error code that field n of the message m holds.
+// The error code that field n of the message m holds; None where it is absent.
 fn error_code(m: &[u8], n: u64) -> Option<i32>
     ensures { result ≡ code_of (last_of (numbers_of n (fields_of m.now))) }
 {
-    match wire_values::last_number(m, n) {
-        Some(v) => Some(wire_values::int32(v)),
-        None => None,
-    }
+    let v = wire_values::last_number(m, n)?;
+    Some(wire_values::int32(v))
 }
 
 // A response's numbers, and whether it has an assignment.
@@ -122,7 +120,7 @@ pub fn response_text<'m, 's>(message: &'m [u8], store: &'s [u8]) -> &'m [u8]
     wire_values::text(message, store, 3)
 }
 
-// A watch update's numbers and its event.
+// A watch update's numbers and its event; None where it has no event, or no error.
 #[derive(Clone, Copy)]
 pub struct WatchHead {
     pub watch_id: u64,
@@ -160,12 +158,8 @@ fn read_event(m: &[u8]) -> Option<Event>
     let mut at: usize = 0;
     while at < m.len() {
         match wire_values::read_front(&m[at..]) {
-            None => {
-                return event;
-            }
-            Some(Front::Number(_, _, size)) => {
-                at = at + size;
-            }
+            None => return event,
+            Some(Front::Number(_, _, size)) => at += size,
             Some(Front::Part(f, from, len)) => {
                 let snapshot = snapshot_from(event, at);
                 let diff = diff_from(event, at);
@@ -177,9 +171,7 @@ fn read_event(m: &[u8]) -> Option<Event>
                 }
                 at = at + from + len;
             }
-            Some(Front::Fixed(size)) => {
-                at = at + size;
-            }
+            Some(Front::Fixed(size)) => at += size,
         }
     }
     event

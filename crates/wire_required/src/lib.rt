@@ -15,7 +15,7 @@ use wire_values::Front;
 fn both(a: bool, b: bool) -> bool
     ensures { result ≡ (a && b) }
 {
-    if a { b } else { false }
+    a && b
 }
 
 fn all_four(a: bool, b: bool, c: bool, d: bool) -> bool
@@ -27,17 +27,14 @@ fn all_four(a: bool, b: bool, c: bool, d: bool) -> bool
 fn either(a: bool, b: bool) -> bool
     ensures { result ≡ (a || b) }
 {
-    if a { true } else { b }
+    a || b
 }
 
 // Whether field n holds a number.
 fn has_number(s: &[u8], n: u64) -> bool
     ensures { result ≡ present (numbers_of n (fields_of s.now)) }
 {
-    match wire_values::last_number(s, n) {
-        Some(_) => true,
-        None => false,
-    }
+    wire_values::last_number(s, n).is_some()
 }
 
 fn range_complete(p: &[u8]) -> bool
@@ -65,14 +62,12 @@ fn segment_complete(s: &[u8]) -> bool
     let mut at: usize = 0;
     while at < s.len() {
         match wire_values::read_front(&s[at..]) {
-            None => {
-                return all_four(id, start, end, topic);
-            }
+            None => return all_four(id, start, end, topic),
             Some(Front::Number(f, _, size)) => {
                 id = either(id, f == 1);
                 start = either(start, f == 2);
                 end = either(end, f == 3);
-                at = at + size;
+                at += size;
             }
             Some(Front::Part(f, from, len)) => {
                 let begin = at + from;
@@ -82,9 +77,7 @@ fn segment_complete(s: &[u8]) -> bool
                 }
                 topic = either(topic, f == 4);
             }
-            Some(Front::Fixed(size)) => {
-                at = at + size;
-            }
+            Some(Front::Fixed(size)) => at += size,
         }
     }
     all_four(id, start, end, topic)
@@ -114,21 +107,17 @@ fn look(s: &[u8], before: Found) -> Found
     let mut at: usize = 0;
     while at < s.len() {
         match wire_values::read_front(&s[at..]) {
-            None => {
-                return Found { epoch, segments };
-            }
+            None => return Found { epoch, segments },
             Some(Front::Number(f, _, size)) => {
                 epoch = either(epoch, f == 1);
-                at = at + size;
+                at += size;
             }
             Some(Front::Part(f, from, len)) => {
                 let begin = at + from;
                 at = begin + len;
                 segments = both(segments, part_complete(f, &s[begin..at]));
             }
-            Some(Front::Fixed(size)) => {
-                at = at + size;
-            }
+            Some(Front::Fixed(size)) => at += size,
         }
     }
     Found { epoch, segments }
@@ -137,14 +126,14 @@ fn look(s: &[u8], before: Found) -> Found
 fn list_complete(s: &[u8]) -> bool
     ensures { result ≡ complete_within 3 MessageKind.ScalableConsumerAssignment (fields_of s.now) }
 {
-    let found = look(
+    let whole = look(
         s,
         Found {
             epoch: false,
             segments: true,
         },
     );
-    both(found.epoch, found.segments)
+    both(whole.epoch, whole.segments)
 }
 
 // The assignment in field n, merged from its parts.
@@ -156,17 +145,11 @@ fn assignment_complete(m: &[u8], n: u64) -> bool
         segments: true,
     };
     let mut at: usize = 0;
-    loop {
-        match wire_values::next_part(m, at, n) {
-            None => {
-                return both(found.epoch, found.segments);
-            }
-            Some((start, _, end)) => {
-                found = look(&m[start..end], found);
-                at = end;
-            }
-        }
+    while let Some((start, _, end)) = wire_values::next_part(m, at, n) {
+        found = look(&m[start..end], found);
+        at = end;
     }
+    both(found.epoch, found.segments)
 }
 
 fn update_complete(m: &[u8]) -> bool

@@ -19,7 +19,7 @@ use Rattle.refusal.specs.declared.Refusal.{Refusal}
 
 -- the first fault of two
 abbrev pub first : Result ⊤ Refusal → Result ⊤ Refusal → Result ⊤ Refusal
-first (Ok record {}) r = r
+first (Ok u) r = r
 first (Err x) r = Err x
 
 -- inner gives the first fault of a message that stands in a field

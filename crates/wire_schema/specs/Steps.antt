@@ -5,4 +5,4 @@ use Rattle.refusal.specs.declared.Refusal.{Refusal}
 
 abbrev pub refuse_fault : {R : Type 0} → (Refusal → R) → Result ⊤ Refusal → R → R
 refuse_fault refuse (Err x) rest = refuse x
-refuse_fault refuse (Ok record {}) rest = rest
+refuse_fault refuse (Ok u) rest = rest

@@ -90,12 +90,7 @@ pub fn field_value(kind: MessageKind, f: u64) -> ValueKind
 fn is_len(w: WireType) -> bool
     ensures { result ≡ fits_wire ValueKind.Text w }
 {
-    match w {
-        WireType::Varint => false,
-        WireType::I64 => false,
-        WireType::Len => true,
-        WireType::I32 => false,
-    }
+    matches!(w, WireType::Len)
 }
 
 // A field that holds such a value may have the wire type.
@@ -104,12 +99,7 @@ pub fn fits_wire(v: ValueKind, w: WireType) -> bool
 {
     match v {
         ValueKind::Any => true,
-        ValueKind::Number => match w {
-            WireType::Varint => true,
-            WireType::I64 => false,
-            WireType::Len => false,
-            WireType::I32 => false,
-        },
+        ValueKind::Number => matches!(w, WireType::Varint),
         ValueKind::Text => is_len(w),
         ValueKind::Message(_) => is_len(w),
     }

@@ -23,17 +23,15 @@ pub enum Front {
     Fixed(usize),
 }
 
+// None where its key, its length or its value is broken.
 pub fn read_front(s: &[u8]) -> Option<Front>
     ensures { result ≡ front_of s.now }
 {
-    let Some((f, w, n)) = wire::read_key(s) else {
-        return None;
-    };
-    match wire::read_body(w, &s[n..]) {
-        Some(Body::Number(v, m)) => Some(Front::Number(f, v, n + m)),
-        Some(Body::Part(m, len)) => Some(Front::Part(f, n + m, len)),
-        Some(Body::Fixed(m)) => Some(Front::Fixed(n + m)),
-        None => None,
+    let (f, w, n) = wire::read_key(s)?;
+    match wire::read_body(w, &s[n..])? {
+        Body::Number(v, m) => Some(Front::Number(f, v, n + m)),
+        Body::Part(m, len) => Some(Front::Part(f, n + m, len)),
+        Body::Fixed(m) => Some(Front::Fixed(n + m)),
     }
 }
 
@@ -41,10 +39,7 @@ pub fn read_front(s: &[u8]) -> Option<Front>
 fn or_zero(last: Option<u64>) -> u64
     ensures { result ≡ or_zero last }
 {
-    match last {
-        Some(v) => v,
-        None => 0,
-    }
+    last.unwrap_or(0)
 }
 
 // The last number of field n, or the one before.
@@ -55,21 +50,15 @@ fn last_after(s: &[u8], n: u64, before: Option<u64>) -> Option<u64>
     let mut at: usize = 0;
     while at < s.len() {
         match read_front(&s[at..]) {
-            None => {
-                return last;
-            }
+            None => return last,
             Some(Front::Number(f, v, size)) => {
                 if f == n {
                     last = Some(v);
                 }
-                at = at + size;
+                at += size;
             }
-            Some(Front::Part(_, start, len)) => {
-                at = at + start + len;
-            }
-            Some(Front::Fixed(size)) => {
-                at = at + size;
-            }
+            Some(Front::Part(_, start, len)) => at += start + len,
+            Some(Front::Fixed(size)) => at += size,
         }
     }
     last
@@ -89,20 +78,15 @@ pub fn number(s: &[u8], n: u64) -> u64
     or_zero(last_number(s, n))
 }
 
-// The next part of field n from a place on.
+// The next part of field n from a place on: where it starts, its length, and the place behind it; None where there is none.
 pub fn next_part(s: &[u8], from: usize, n: u64) -> Option<(usize, usize, usize)>
     ensures { NextPart n s.now from result }
 {
     let mut at = from;
     while at < s.len() {
-        match read_front(&s[at..]) {
-            None => {
-                return None;
-            }
-            Some(Front::Number(_, _, size)) => {
-                at = at + size;
-            }
-            Some(Front::Part(f, start, len)) => {
+        match read_front(&s[at..])? {
+            Front::Number(_, _, size) => at += size,
+            Front::Part(f, start, len) => {
                 let begin = at + start;
                 let end = begin + len;
                 if f == n {
@@ -110,9 +94,7 @@ pub fn next_part(s: &[u8], from: usize, n: u64) -> Option<(usize, usize, usize)>
                 }
                 at = end;
             }
-            Some(Front::Fixed(size)) => {
-                at = at + size;
-            }
+            Front::Fixed(size) => at += size,
         }
     }
     None
@@ -122,10 +104,7 @@ pub fn next_part(s: &[u8], from: usize, n: u64) -> Option<(usize, usize, usize)>
 pub fn has_part(s: &[u8], n: u64) -> bool
     ensures { result ≡ present (parts_of n (fields_of s.now)) }
 {
-    match next_part(s, 0, n) {
-        Some((_, _, _)) => true,
-        None => false,
-    }
+    next_part(s, 0, n).is_some()
 }
 
 // A part of a message: where it starts, and its length.
@@ -142,18 +121,12 @@ pub fn last_part(s: &[u8], n: u64) -> Span
     let mut at: usize = 0;
     let mut start: usize = 0;
     let mut length: usize = 0;
-    loop {
-        match next_part(s, at, n) {
-            None => {
-                return Span { start, length };
-            }
-            Some((from, len, next)) => {
-                start = from;
-                length = len;
-                at = next;
-            }
-        }
+    while let Some((from, len, next)) = next_part(s, at, n) {
+        start = from;
+        length = len;
+        at = next;
     }
+    Span { start, length }
 }
 
 // The last part of field n, empty where there is none: a part of the message, never of the store.
@@ -172,17 +145,11 @@ pub fn inner_number(m: &[u8], n: u64, k: u64) -> u64
 {
     let mut last = None;
     let mut at: usize = 0;
-    loop {
-        match next_part(m, at, n) {
-            None => {
-                return or_zero(last);
-            }
-            Some((start, _, end)) => {
-                last = last_after(&m[start..end], k, last);
-                at = end;
-            }
-        }
+    while let Some((start, _, end)) = next_part(m, at, n) {
+        last = last_after(&m[start..end], k, last);
+        at = end;
     }
+    or_zero(last)
 }
 
 // A place among the parts of a field in a singular message: the message's next part is looked for from `outer` on; in this one, the field's next part is looked
@@ -205,7 +172,7 @@ pub fn first_inner() -> Cursor
     }
 }
 
-// The next part of field k in the singular message of field n.
+// The next part of field k in the singular message of field n: where it starts, its length, and the cursor behind it; None where there is none.
 pub fn next_inner(m: &[u8], n: u64, k: u64, c: Cursor) -> Option<(usize, usize, Cursor)>
     requires { Inside m.now c }
     ensures { NextInner n k m.now c result }
@@ -214,29 +181,21 @@ pub fn next_inner(m: &[u8], n: u64, k: u64, c: Cursor) -> Option<(usize, usize, 
     let mut at = c.at;
     let mut end = c.end;
     loop {
-        match next_part(&m[..end], at, k) {
-            Some((start, len, next)) => {
-                return Some((
-                    start,
-                    len,
-                    Cursor {
-                        outer,
-                        at: next,
-                        end,
-                    },
-                ));
-            }
-            None => match next_part(m, outer, n) {
-                None => {
-                    return None;
-                }
-                Some((start, len, next)) => {
-                    at = start;
-                    end = start + len;
-                    outer = next;
-                }
-            },
+        if let Some((start, len, next)) = next_part(&m[..end], at, k) {
+            return Some((
+                start,
+                len,
+                Cursor {
+                    outer,
+                    at: next,
+                    end,
+                },
+            ));
         }
+        let (from, len, next) = next_part(m, outer, n)?;
+        at = from;
+        end = from + len;
+        outer = next;
     }
 }
 
@@ -247,21 +206,15 @@ fn seek_part(s: &[u8], from: usize, n: u64) -> usize
     let mut at = from;
     while at < s.len() {
         match read_front(&s[at..]) {
-            None => {
-                return at;
-            }
-            Some(Front::Number(_, _, size)) => {
-                at = at + size;
-            }
+            None => return at,
+            Some(Front::Number(_, _, size)) => at += size,
             Some(Front::Part(f, start, len)) => {
                 if f == n {
                     return at;
                 }
-                at = at + (start + len);
+                at += start + len;
             }
-            Some(Front::Fixed(size)) => {
-                at = at + size;
-            }
+            Some(Front::Fixed(size)) => at += size,
         }
     }
     at
@@ -284,16 +237,12 @@ pub fn seek_inner(m: &[u8], n: u64, k: u64, c: Cursor) -> Cursor
                 end,
             };
         }
-        match next_part(m, outer, n) {
-            None => {
-                return Cursor { outer, at, end };
-            }
-            Some((start, len, next)) => {
-                at = start;
-                end = start + len;
-                outer = next;
-            }
-        }
+        let Some((start, len, next)) = next_part(m, outer, n) else {
+            return Cursor { outer, at, end };
+        };
+        at = start;
+        end = start + len;
+        outer = next;
     }
 }
 

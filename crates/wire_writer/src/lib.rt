@@ -14,8 +14,8 @@ pub fn varint_size(v: u64) -> usize
     let mut n: usize = 1;
     let mut rest = v;
     while 128 <= rest {
-        rest = rest / 128;
-        n = n + 1;
+        rest /= 128;
+        n += 1;
     }
     n
 }
@@ -45,8 +45,8 @@ pub fn write_varint(out: &mut [u8], at: usize, v: u64) -> usize
     let mut rest = v;
     while 128 <= rest {
         out[i] = (rest % 128 + 128) as u8;
-        rest = rest / 128;
-        i = i + 1;
+        rest /= 128;
+        i += 1;
     }
     out[i] = rest as u8;
     i + 1

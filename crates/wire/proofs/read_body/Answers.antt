@@ -3,15 +3,15 @@ use mathlib.Core.Path.{sym, ◌∙◌}
 use Rattle.wire.proofs.FieldLaws.{number-broken, number-value}
 use Rattle.wire.proofs.read_body.Goals as goal
 
-pub returns-in-Some : goal.returns-in-Some
-returns-in-Some c =
-    let e = sym c.read_long_varint.ensures ∙ c.in-Some.is in
+pub returns-in_ok-v-in-Varint : goal.returns-in_ok-v-in-Varint
+returns-in_ok-v-in-Varint c =
+    let e = sym c.read_long_varint.ensures ∙ c.in_ok-v-in-Varint.was in
     rw c.in-Varint.is (sym (number-value _ _ _ e))
 
-pub returns-in-None : goal.returns-in-None
-returns-in-None c =
-    let e = sym c.read_long_varint.ensures ∙ c.in-None.is in
-    rw c.in-Varint.is (sym (number-broken _ e))
+pub returns-in_err-v-in-Varint : goal.returns-in_err-v-in-Varint
+returns-in_err-v-in-Varint c =
+    let e = sym c.read_long_varint.ensures ∙ c.in_err-v-in-Varint.was in
+    rw (c.in-Varint.is, c.from_residual.ensures) (sym (number-broken _ e))
 
 pub returns-in-I64 : goal.returns-in-I64
 returns-in-I64 c = rw c.in-I64.is c.fixed.ensures

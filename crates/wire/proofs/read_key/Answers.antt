@@ -8,22 +8,22 @@ use Rattle.wire.proofs.read_key.Goals.{Else-number-eq0}
 use Rattle.wire.proofs.read_key.Goals as goal
 
 -- where the number is known not to be 0
-typed : (c : Else-number-eq0) (t : ℕ) → c.in-Some.v % 8 ≡ t → typed_key (c.in-Some.v / 8) t c.in-Some.n ≡ key_read c.args.s.now
+typed : (c : Else-number-eq0) (t : ℕ) → c.in_ok-v.v % 8 ≡ t → typed_key (c.in_ok-v.v / 8) t c.in_ok-v.n ≡ key_read c.args.s.now
 typed c t g =
-    let e = sym c.read_varint.ensures ∙ c.in-Some.is in
+    let e = sym c.read_varint.ensures ∙ c.in_ok-v.was in
     sym (key-typed _ _ _ e (omega arith) c.if-number-eq0.false t g)
 
-pub returns-in_default : goal.returns-in_default
-returns-in_default c = sym (key-broken _ (sym c.read_varint.ensures ∙ c.in_default.is))
+pub returns-in_err-v : goal.returns-in_err-v
+returns-in_err-v c = rw c.from_residual.ensures (sym (key-broken _ (sym c.read_varint.ensures ∙ c.in_err-v.was)))
 
 pub returns-then-v-gt-MAX_KEY : goal.returns-then-v-gt-MAX_KEY
 returns-then-v-gt-MAX_KEY c =
-    let e = sym c.read_varint.ensures ∙ c.in-Some.is in
+    let e = sym c.read_varint.ensures ∙ c.in_ok-v.was in
     sym (key-large _ _ _ e (omega arith))
 
 pub returns-then-number-eq0 : goal.returns-then-number-eq0
 returns-then-number-eq0 c =
-    let e = sym c.read_varint.ensures ∙ c.in-Some.is in
+    let e = sym c.read_varint.ensures ∙ c.in_ok-v.was in
     sym (key-zero _ _ _ e (omega arith) c.if-number-eq0.true)
 
 pub returns-in-0 : goal.returns-in-0
@@ -38,6 +38,6 @@ returns-in-2 c = typed (goal.at.returns-in-2 c).Else-number-eq0 2 c.in-2.is
 pub returns-in-5 : goal.returns-in-5
 returns-in-5 c = typed (goal.at.returns-in-5 c).Else-number-eq0 5 c.in-5.is
 
-pub returns-in_default-t : goal.returns-in_default-t
-returns-in_default-t c =
-    sym (typed-other _ (c.in-Some.v % 8) _ (omega arith) (omega arith) (omega arith) (omega arith)) ∙ typed (goal.at.returns-in_default-t c).Else-number-eq0 _ refl
+pub returns-in_default : goal.returns-in_default
+returns-in_default c =
+    sym (typed-other _ (c.in_ok-v.v % 8) _ (omega arith) (omega arith) (omega arith) (omega arith)) ∙ typed (goal.at.returns-in_default c).Else-number-eq0 _ refl

@@ -1,12 +1,14 @@
 -- `by_type` meets its contract: each of the three types, or another. The code compares the bits of two integers; `to_z-of_z` turns equal bits into
 -- equal integers.
 -- Assumes nothing.
-use Rattle.std.specs.Prelude.{Ok}
+use Rattle.std.specs.Prelude.{Result, Ok}
 use mathlib.Core.Path.{◌≡◌, refl, sym, ap, ◌∙◌}
 use lib.IntN.{ℤ}
 use mir.Syntax.{w32}
 use mir.Val.{to_z, of_z, SFits}
 use mir.Facts.{to_z-of_z}
+use Rattle.refusal.specs.declared.Refusal.{Refusal}
+use Rattle.wire_command.specs.declared.Command.{Command}
 use Rattle.wire_command.specs.declared.Command.TheVariants.{Other}
 use Rattle.wire_command.proofs.CommandLaws.{by-response, by-update, by-watch, by-other}
 use Rattle.wire_command.proofs.by_type.Goals as goal
@@ -27,6 +29,7 @@ returns-then-t-eq77 c = c.watch_update.ensures ∙ by-watch _ _ (same c.ranges.t
 pub returns : goal.returns
 returns c =
     let s = c in
-    ap Ok (Other (to_z-of_z {w = w32} s.ranges.t))
+    let f : ℤ → Result Command Refusal = λ z. Ok (Other z) in
+    ap f (to_z-of_z {w = w32} s.ranges.t)
     ∙ by-other s.args.t s.args.s.now (λ e. c.if-t-eq74.false (ap (of_z w32) e)) (λ e. c.if-t-eq75.false (ap (of_z w32) e))
     (λ e. c.if-t-eq77.false (ap (of_z w32) e))

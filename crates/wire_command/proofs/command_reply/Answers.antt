@@ -6,27 +6,27 @@ use Rattle.wire_command.specs.Replies.{command_reply}
 use Rattle.wire_command.proofs.CommandLaws.{parts-reply, other-reply}
 use Rattle.wire_command.proofs.command_reply.Goals as goal
 
-pub returns-in-Ok-Response : goal.returns-in-Ok-Response
+pub returns-in-Response : goal.returns-in-Response
 unfolding command_reply
-returns-in-Ok-Response c = c.found_reply.ensures ∙ sym (ap command_reply (c.in-Ok-Response.is ∙ ap Ok c.in-Ok-Response.field-0-is))
+returns-in-Response c = c.found_reply.ensures ∙ sym (ap command_reply (c.in-Ok.is ∙ ap Ok c.in-Response.is))
 
-pub returns-in-Ok-Update : goal.returns-in-Ok-Update
+pub returns-in-Update : goal.returns-in-Update
 unfolding command_reply
-returns-in-Ok-Update c = c.found_reply-in-Ok-Update.ensures ∙ sym (ap command_reply (c.in-Ok-Update.is ∙ ap Ok c.in-Ok-Update.field-0-is))
+returns-in-Update c = c.found_reply-in-Update.ensures ∙ sym (ap command_reply (c.in-Ok.is ∙ ap Ok c.in-Update.is))
 
-pub returns-in-Ok-Watch : goal.returns-in-Ok-Watch
+pub returns-in-Watch : goal.returns-in-Watch
 unfolding command_reply
-returns-in-Ok-Watch c = c.found_reply-in-Ok-Watch.ensures ∙ sym (ap command_reply (c.in-Ok-Watch.is ∙ ap Ok c.in-Ok-Watch.field-0-is))
+returns-in-Watch c = c.found_reply-in-Watch.ensures ∙ sym (ap command_reply (c.in-Ok.is ∙ ap Ok c.in-Watch.is))
 
-pub returns-in-Ok-Parts : goal.returns-in-Ok-Parts
-returns-in-Ok-Parts c =
+pub returns-in-Parts : goal.returns-in-Parts
+returns-in-Parts c =
     let k = c in
-    parts-reply (omega arith) c.word.ensures _ (k.in-Ok-Parts.is ∙ ap Ok k.in-Ok-Parts.field-0-is) c.two.ensures
+    parts-reply (omega arith) c.word.ensures _ (k.in-Ok.is ∙ ap Ok k.in-Parts.is) c.two.ensures
 
-pub returns-in-Ok-Other : goal.returns-in-Ok-Other
-returns-in-Ok-Other c =
+pub returns-in-Other : goal.returns-in-Other
+returns-in-Other c =
     let k = c in
-    other-reply (omega arith) c.word-in-Ok-Other.ensures (k.in-Ok-Other.is ∙ ap Ok k.in-Ok-Other.field-0-is) c.one.ensures
+    other-reply (omega arith) c.word-in-Other.ensures (k.in-Ok.is ∙ ap Ok k.in-Other.is) c.one.ensures
 
 pub returns-in-Err : goal.returns-in-Err
 unfolding command_reply

@@ -5,7 +5,7 @@ use Rattle.wire_ordered.proofs.OrderedLaws.{number-some, none_above}
 use Rattle.wire_ordered.proofs.number_end.Goals as goal
 
 pub returns-in-Some : goal.returns-in-Some
-returns-in-Some c = λ h. number-some (subst (NumberAtIs _ _ _) c.in-Some.is c.number_at.ensures)
+returns-in-Some c = λ h. number-some (subst (NumberAtIs c.args.f c.args.s.now c.args.at) c.in-Some.is c.number_at.ensures)
 
 pub returns-in-None : goal.returns-in-None
 returns-in-None c = none_above

@@ -13,7 +13,7 @@ use Rattle.wire_ordered.proofs.ordered_assignment.Goals as goal
 found : (c : In-Some)
     → PartField 2 c.args.s.now
     c.loop-at.at c.in-Some.from c.in-Some.to
-found c = subst (PartIs 2 _ _) c.in-Some.is c.part_at.ensures
+found c = subst (PartIs 2 c.args.s.now c.loop-at.at) c.in-Some.is c.part_at.ensures
 
 pub loop-at-init : goal.loop-at-init
 loop-at-init c = assignment-start c.args.s.now (c.number_end-at.ensures (omega arith))

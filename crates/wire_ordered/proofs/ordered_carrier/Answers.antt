@@ -12,7 +12,7 @@ found : (c : In-Some)
     → PartField c.args.n
     c.args.s.now
     c.number_end-at.result c.in-Some.from c.in-Some.to
-found c = subst (PartIs _ _ _) c.in-Some.is c.part_at.ensures
+found c = subst (PartIs c.args.n c.args.s.now c.number_end-at.result) c.in-Some.is c.part_at.ensures
 
 pub returns : goal.returns
 returns c = λ e.

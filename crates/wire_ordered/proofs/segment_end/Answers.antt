@@ -10,7 +10,7 @@ use Rattle.wire_ordered.proofs.segment_end.Goals as goal
 found : (c : In-Some)
     → PartField 4 c.args.s.now
     c.number_end-end.result c.in-Some.from c.in-Some.to
-found c = subst (PartIs 4 _ _) c.in-Some.is c.part_at.ensures
+found c = subst (PartIs 4 c.args.s.now c.number_end-end.result) c.in-Some.is c.part_at.ensures
 
 pub returns-then-is_utf8 : goal.returns-then-is_utf8
 returns-then-is_utf8 c = λ h.

@@ -4,8 +4,8 @@ use borrow.Author.Rules.{rules}
 use Rattle.wire_readers.specs.Messages.{code_of}
 use Rattle.wire_readers.proofs.error_code.Goals as goal
 
-pub returns-in-Some : goal.returns-in-Some
-returns-in-Some c = rw (sym c.last_number.ensures ∙ c.in-Some.is) (search rules)
+pub returns : goal.returns
+returns c = rw (sym c.last_number.ensures ∙ c.in_ok-v.was) (search rules)
 
-pub returns-in-None : goal.returns-in-None
-returns-in-None c = sym (ap code_of (sym c.last_number.ensures ∙ c.in-None.is))
+pub returns-in_err-v : goal.returns-in_err-v
+returns-in_err-v c = rw c.from_residual.ensures (sym (ap code_of (sym c.last_number.ensures ∙ c.in_err-v.was)))

@@ -1,12 +1,7 @@
 -- `has_number` meets its contract: there is a last number, or there is none. Assumes nothing.
-use mathlib.Core.Path.{sym, ◌∙◌}
+use mathlib.Core.Path.{◌∙◌}
 use Rattle.wire_required.proofs.LookLaws.{number-found}
 use Rattle.wire_required.proofs.has_number.Goals as goal
 
-pub returns-in-Some : goal.returns-in-Some
-returns-in-Some c = let a = c.args in
-    number-found a.n a.s.now _ (sym c.in-Some.is ∙ c.last_number.ensures)
-
-pub returns-in-None : goal.returns-in-None
-returns-in-None c = let a = c.args in
-    number-found a.n a.s.now _ (sym c.in-None.is ∙ c.last_number.ensures)
+pub returns : goal.returns
+returns c = c.is_some.ensures ∙ number-found c.args.n c.args.s.now _ c.last_number.ensures

@@ -7,5 +7,5 @@ use Rattle.wire_required.proofs.list_complete.Goals as goal
 pub returns : goal.returns
 returns c =
     c.both.ensures
-    ∙ rw (c.look-found.ensures.0, c.look-found.ensures.1)
+    ∙ rw (c.look-whole.ensures.0, c.look-whole.ensures.1)
     (sym (assignment-is 2 (fields_of c.args.s.now)))

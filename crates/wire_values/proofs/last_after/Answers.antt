@@ -1,10 +1,11 @@
 -- `last_after` meets its contract. The invariant: the last of the numbers from `at` on, or `last` where there is none, is the last of all,
 -- or `before`. The measure is what is left of the message; each front stands inside it. Assumes nothing.
 use Rattle.std.specs.Prelude.{Option, Some}
+use Prim.Native.Nat.{ℕ, ◌+◌}
 use native.Mathlib.Omega.{arith}
 use mathlib.Core.Path.{◌≡◌, refl, sym, ◌∙◌, ap}
 use Rattle.wire_values.specs.declared.Front.{Front}
-use Rattle.wire_values.proofs.FrontLaws.{FrontAt, front_at, numbers-end, number_same, number-other}
+use Rattle.wire_values.proofs.FrontLaws.{numbers_from, FrontAt, front_at, numbers-end, number_same, number-other}
 use Rattle.wire_values.proofs.WalkLaws.{kept-done, kept_next, kept-stays, last-start}
 use Rattle.wire_values.proofs.last_after.Goals.{After-read_front}
 use Rattle.wire_values.proofs.last_after.Goals as goal
@@ -46,7 +47,8 @@ loop-at-smaller-in-Some-Part c = let q = front (goal.at.loop-at-smaller-in-Some-
 pub loop-at-preserved-in-Some-Part : goal.loop-at-preserved-in-Some-Part
 loop-at-preserved-in-Some-Part c =
     let q = front (goal.at.loop-at-preserved-in-Some-Part c).After-read_front _ (c.in-Some-Part.is ∙ ap Some c.in-Some-Part.field-0-is) in
-    kept-stays (q.numbers _) refl c.loop-at.invariant
+    let e : c.loop-at.at + c.in-Some-Part.start + c.in-Some-Part.len ≡ c.loop-at.at + (c.in-Some-Part.start + c.in-Some-Part.len) = omega arith in
+    kept-stays (q.numbers _ ∙ ap (λ (i : ℕ). numbers_from c.args.n c.args.s.now i) e) refl c.loop-at.invariant
 
 pub overflow_add-at-in-Some-Fixed : goal.overflow_add-at-in-Some-Fixed
 overflow_add-at-in-Some-Fixed c = let q = front (goal.at.overflow_add-at-in-Some-Fixed c).After-read_front _ (c.in-Some-Fixed.is ∙ ap Some c.in-Some-Fixed.field-0-is) in omega arith

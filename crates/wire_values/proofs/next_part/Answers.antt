@@ -25,57 +25,57 @@ places c q e = places-at _ _ c.loop-at-test.true _ q (sym c.read_front.ensures �
 pub loop-at-init : goal.loop-at-init
 loop-at-init c = (omega arith, refl, refl)
 
-pub returns-in-None : goal.returns-in-None
-returns-in-None c =
-    let q = front (goal.at.returns-in-None c).After-read_front _ c.in-None.is in
-    c.loop-at.invariant.1 ∙ q.parts _
+pub returns-in_err-size : goal.returns-in_err-size
+returns-in_err-size c =
+    let q = front (goal.at.returns-in_err-size c).After-read_front _ c.in_err-size.was in
+    rw c.from_residual.ensures (c.loop-at.invariant.1 ∙ q.parts _)
 
 pub overflow_add-at : goal.overflow_add-at
-overflow_add-at c = let q = front (goal.at.overflow_add-at c).After-read_front _ (c.in-Some-Number.is ∙ ap Some c.in-Some-Number.field-0-is) in omega arith
+overflow_add-at c = let q = front (goal.at.overflow_add-at c).After-read_front _ (c.in_ok-size.was ∙ ap Some c.in-Number.is) in omega arith
 
-pub loop-at-smaller-in-Some-Number : goal.loop-at-smaller-in-Some-Number
-loop-at-smaller-in-Some-Number c = let q = front (goal.at.loop-at-smaller-in-Some-Number c).After-read_front _ (c.in-Some-Number.is ∙ ap Some c.in-Some-Number.field-0-is) in omega arith
+pub loop-at-smaller-in-Number : goal.loop-at-smaller-in-Number
+loop-at-smaller-in-Number c = let q = front (goal.at.loop-at-smaller-in-Number c).After-read_front _ (c.in_ok-size.was ∙ ap Some c.in-Number.is) in omega arith
 
-pub loop-at-preserved-in-Some-Number : goal.loop-at-preserved-in-Some-Number
-loop-at-preserved-in-Some-Number c =
-    let q = front (goal.at.loop-at-preserved-in-Some-Number c).After-read_front _ (c.in-Some-Number.is ∙ ap Some c.in-Some-Number.field-0-is) in
+pub loop-at-preserved-in-Number : goal.loop-at-preserved-in-Number
+loop-at-preserved-in-Number c =
+    let q = front (goal.at.loop-at-preserved-in-Number c).After-read_front _ (c.in_ok-size.was ∙ ap Some c.in-Number.is) in
     let i = c.loop-at.invariant in
-    (omega arith, i.1 ∙ q.parts _, i.2 ∙ places (goal.at.loop-at-preserved-in-Some-Number c).After-read_front _ (c.in-Some-Number.is ∙ ap Some c.in-Some-Number.field-0-is))
+    (omega arith, i.1 ∙ q.parts _, i.2 ∙ places (goal.at.loop-at-preserved-in-Number c).After-read_front _ (c.in_ok-size.was ∙ ap Some c.in-Number.is))
 
 pub overflow_add-begin : goal.overflow_add-begin
-overflow_add-begin c = let q = front (goal.at.overflow_add-begin c).After-read_front _ (c.in-Some-Part.is ∙ ap Some c.in-Some-Part.field-0-is) in omega arith
+overflow_add-begin c = let q = front (goal.at.overflow_add-begin c).After-read_front _ (c.in_ok-size.was ∙ ap Some c.in-Part.is) in omega arith
 
 pub overflow_add-end : goal.overflow_add-end
-overflow_add-end c = let q = front (goal.at.overflow_add-end c).After-read_front _ (c.in-Some-Part.is ∙ ap Some c.in-Some-Part.field-0-is) in omega arith
+overflow_add-end c = let q = front (goal.at.overflow_add-end c).After-read_front _ (c.in_ok-size.was ∙ ap Some c.in-Part.is) in omega arith
 
 pub returns-then-f-n : goal.returns-then-f-n
 returns-then-f-n c =
-    let q = front (goal.at.returns-then-f-n c).After-read_front _ (c.in-Some-Part.is ∙ ap Some c.in-Some-Part.field-0-is) in
+    let q = front (goal.at.returns-then-f-n c).After-read_front _ (c.in_ok-size.was ∙ ap Some c.in-Part.is) in
     let i = c.loop-at.invariant in
-    let p = places (goal.at.returns-then-f-n c).After-read_front _ (c.in-Some-Part.is ∙ ap Some c.in-Some-Part.field-0-is) in
+    let p = places (goal.at.returns-then-f-n c).After-read_front _ (c.in_ok-size.was ∙ ap Some c.in-Part.is) in
     (omega arith, refl, q.inside, i.1 ∙ part_same q _ c.if-f-n.true, i.2 ∙ place_same _ _ _ _ _ _ p c.if-f-n.true)
 
-pub loop-at-smaller-in-Some-Part : goal.loop-at-smaller-in-Some-Part
-loop-at-smaller-in-Some-Part c = let q = front (goal.at.loop-at-smaller-in-Some-Part c).After-read_front _ (c.in-Some-Part.is ∙ ap Some c.in-Some-Part.field-0-is) in omega arith
+pub loop-at-smaller-in-Part : goal.loop-at-smaller-in-Part
+loop-at-smaller-in-Part c = let q = front (goal.at.loop-at-smaller-in-Part c).After-read_front _ (c.in_ok-size.was ∙ ap Some c.in-Part.is) in omega arith
 
-pub loop-at-preserved-in-Some-Part : goal.loop-at-preserved-in-Some-Part
-loop-at-preserved-in-Some-Part c =
-    let q = front (goal.at.loop-at-preserved-in-Some-Part c).After-read_front _ (c.in-Some-Part.is ∙ ap Some c.in-Some-Part.field-0-is) in
+pub loop-at-preserved-in-Part : goal.loop-at-preserved-in-Part
+loop-at-preserved-in-Part c =
+    let q = front (goal.at.loop-at-preserved-in-Part c).After-read_front _ (c.in_ok-size.was ∙ ap Some c.in-Part.is) in
     let i = c.loop-at.invariant in
-    let p = places (goal.at.loop-at-preserved-in-Some-Part c).After-read_front _ (c.in-Some-Part.is ∙ ap Some c.in-Some-Part.field-0-is) in
+    let p = places (goal.at.loop-at-preserved-in-Part c).After-read_front _ (c.in_ok-size.was ∙ ap Some c.in-Part.is) in
     (omega arith, i.1 ∙ part-other q _ c.if-f-n.false, i.2 ∙ place_other _ _ _ _ _ _ p c.if-f-n.false)
 
-pub overflow_add-at-in-Some-Fixed : goal.overflow_add-at-in-Some-Fixed
-overflow_add-at-in-Some-Fixed c = let q = front (goal.at.overflow_add-at-in-Some-Fixed c).After-read_front _ (c.in-Some-Fixed.is ∙ ap Some c.in-Some-Fixed.field-0-is) in omega arith
+pub overflow_add-at-in-Fixed : goal.overflow_add-at-in-Fixed
+overflow_add-at-in-Fixed c = let q = front (goal.at.overflow_add-at-in-Fixed c).After-read_front _ (c.in_ok-size.was ∙ ap Some c.in-Fixed.is) in omega arith
 
 pub loop-at-smaller : goal.loop-at-smaller
-loop-at-smaller c = let q = front (goal.at.loop-at-smaller c).After-read_front _ (c.in-Some-Fixed.is ∙ ap Some c.in-Some-Fixed.field-0-is) in omega arith
+loop-at-smaller c = let q = front (goal.at.loop-at-smaller c).After-read_front _ (c.in_ok-size.was ∙ ap Some c.in-Fixed.is) in omega arith
 
 pub loop-at-preserved : goal.loop-at-preserved
 loop-at-preserved c =
-    let q = front (goal.at.loop-at-preserved c).After-read_front _ (c.in-Some-Fixed.is ∙ ap Some c.in-Some-Fixed.field-0-is) in
+    let q = front (goal.at.loop-at-preserved c).After-read_front _ (c.in_ok-size.was ∙ ap Some c.in-Fixed.is) in
     let i = c.loop-at.invariant in
-    (omega arith, i.1 ∙ q.parts _, i.2 ∙ places (goal.at.loop-at-preserved c).After-read_front _ (c.in-Some-Fixed.is ∙ ap Some c.in-Some-Fixed.field-0-is))
+    (omega arith, i.1 ∙ q.parts _, i.2 ∙ places (goal.at.loop-at-preserved c).After-read_front _ (c.in_ok-size.was ∙ ap Some c.in-Fixed.is))
 
 pub returns : goal.returns
 returns c = c.loop-at.invariant.1 ∙ parts-end _ _ c.loop-at.at (omega arith)

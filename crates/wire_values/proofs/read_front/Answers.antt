@@ -13,43 +13,43 @@ use Rattle.wire_values.proofs.FrontLaws.{front-bad-key, front-of-body}
 use Rattle.wire_values.proofs.read_front.Goals.{After-read_body}
 use Rattle.wire_values.proofs.read_front.Goals as goal
 
-keyed : (c : After-read_body) → key_read (c.args.s.now) ≡ Some (c.in-Some.f, c.in-Some.w, c.in-Some.n)
-keyed c = sym c.read_key.ensures ∙ c.in-Some.is
+keyed : (c : After-read_body) → key_read (c.args.s.now) ≡ Some (c.in_ok-f.f, c.in_ok-f.w, c.in_ok-f.n)
+keyed c = sym c.read_key.ensures ∙ c.in_ok-f.was
 
-fits : (c : After-read_body) (b : Option Body) → c.read_body.result ≡ b → (c.in-Some.n ≤ length (c.args.s.now)) × BodySized (length (c.args.s.now) - c.in-Some.n) b
+fits : (c : After-read_body) (b : Option Body) → c.read_body.result ≡ b → (c.in_ok-f.n ≤ length (c.args.s.now)) × BodySized (length (c.args.s.now) - c.in_ok-f.n) b
 fits c b e =
-    ((key-size _ _ _ _ (keyed c)).1, body-size-at (c.args.s.now) (c.in-Some.n) (c.in-Some.w) b (sym c.read_body.ensures ∙ e))
+    ((key-size _ _ _ _ (keyed c)).1, body-size-at (c.args.s.now) (c.in_ok-f.n) (c.in_ok-f.w) b (sym c.read_body.ensures ∙ e))
 
-answers : (c : After-read_body) (b : Option Body) → c.read_body.result ≡ b → front_from (c.in-Some.f) (c.in-Some.n) b ≡ front_of (c.args.s.now)
-answers c b e = sym (front-of-body (c.args.s.now) (c.in-Some.f) (c.in-Some.w) (c.in-Some.n) b (keyed c) (sym c.read_body.ensures ∙ e))
+answers : (c : After-read_body) (b : Option Body) → c.read_body.result ≡ b → front_from (c.in_ok-f.f) (c.in_ok-f.n) b ≡ front_of (c.args.s.now)
+answers c b e = sym (front-of-body (c.args.s.now) (c.in_ok-f.f) (c.in_ok-f.w) (c.in_ok-f.n) b (keyed c) (sym c.read_body.ensures ∙ e))
 
-pub returns-in_default : goal.returns-in_default
-returns-in_default c = sym (front-bad-key _ (sym c.read_key.ensures ∙ c.in_default.is))
+pub returns-in_err-f : goal.returns-in_err-f
+returns-in_err-f c = rw c.from_residual.ensures (sym (front-bad-key _ (sym c.read_key.ensures ∙ c.in_err-f.was)))
 
 pub slice_bounds-read_body-count : goal.slice_bounds-read_body-count
-slice_bounds-read_body-count c = (key-size _ _ _ _ (sym c.read_key.ensures ∙ c.in-Some.is)).1
+slice_bounds-read_body-count c = (key-size _ _ _ _ (sym c.read_key.ensures ∙ c.in_ok-f.was)).1
 
 pub slice_bounds-read_body-start : goal.slice_bounds-read_body-start
 slice_bounds-read_body-start c =
-    omega (arith, (key-size _ _ _ _ (sym c.read_key.ensures ∙ c.in-Some.is)).1)
+    omega (arith, (key-size _ _ _ _ (sym c.read_key.ensures ∙ c.in_ok-f.was)).1)
 
 pub overflow_add-result : goal.overflow_add-result
-overflow_add-result c = let z = fits (goal.at.overflow_add-result c).After-read_body _ (c.in-Some-Number.is ∙ ap Some c.in-Some-Number.field-0-is) in omega arith
+overflow_add-result c = let z = fits (goal.at.overflow_add-result c).After-read_body _ (c.in_ok-v.was ∙ ap Some c.in-Number.is) in omega arith
 
-pub overflow_add-result-in-Some-Part : goal.overflow_add-result-in-Some-Part
-overflow_add-result-in-Some-Part c = let z = fits (goal.at.overflow_add-result-in-Some-Part c).After-read_body _ (c.in-Some-Part.is ∙ ap Some c.in-Some-Part.field-0-is) in omega arith
+pub overflow_add-result-in-Part : goal.overflow_add-result-in-Part
+overflow_add-result-in-Part c = let z = fits (goal.at.overflow_add-result-in-Part c).After-read_body _ (c.in_ok-v.was ∙ ap Some c.in-Part.is) in omega arith
 
-pub overflow_add-result-in-Some-Fixed : goal.overflow_add-result-in-Some-Fixed
-overflow_add-result-in-Some-Fixed c = let z = fits (goal.at.overflow_add-result-in-Some-Fixed c).After-read_body _ (c.in-Some-Fixed.is ∙ ap Some c.in-Some-Fixed.field-0-is) in omega arith
+pub overflow_add-result-in-Fixed : goal.overflow_add-result-in-Fixed
+overflow_add-result-in-Fixed c = let z = fits (goal.at.overflow_add-result-in-Fixed c).After-read_body _ (c.in_ok-v.was ∙ ap Some c.in-Fixed.is) in omega arith
 
-pub returns-in-Some-Number : goal.returns-in-Some-Number
-returns-in-Some-Number c = answers (goal.at.returns-in-Some-Number c).After-read_body _ (c.in-Some-Number.is ∙ ap Some c.in-Some-Number.field-0-is)
+pub returns-in-Number : goal.returns-in-Number
+returns-in-Number c = answers (goal.at.returns-in-Number c).After-read_body _ (c.in_ok-v.was ∙ ap Some c.in-Number.is)
 
-pub returns-in-Some-Part : goal.returns-in-Some-Part
-returns-in-Some-Part c = answers (goal.at.returns-in-Some-Part c).After-read_body _ (c.in-Some-Part.is ∙ ap Some c.in-Some-Part.field-0-is)
+pub returns-in-Part : goal.returns-in-Part
+returns-in-Part c = answers (goal.at.returns-in-Part c).After-read_body _ (c.in_ok-v.was ∙ ap Some c.in-Part.is)
 
-pub returns-in-Some-Fixed : goal.returns-in-Some-Fixed
-returns-in-Some-Fixed c = answers (goal.at.returns-in-Some-Fixed c).After-read_body _ (c.in-Some-Fixed.is ∙ ap Some c.in-Some-Fixed.field-0-is)
+pub returns-in-Fixed : goal.returns-in-Fixed
+returns-in-Fixed c = answers (goal.at.returns-in-Fixed c).After-read_body _ (c.in_ok-v.was ∙ ap Some c.in-Fixed.is)
 
-pub returns-in-None : goal.returns-in-None
-returns-in-None c = answers (goal.at.returns-in-None c).After-read_body _ c.in-None.is
+pub returns-in_err-v : goal.returns-in_err-v
+returns-in_err-v c = rw c.from_residual-in_err-v.ensures (answers (goal.at.returns-in_err-v c).After-read_body _ c.in_err-v.was)
