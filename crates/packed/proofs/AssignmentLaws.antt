@@ -8,7 +8,10 @@
 --
 -- A caller that walks over a packed assignment needs `segments-at` and `Rest`; the rest serves the readers of src/.
 -- Assumes nothing.
+use Rattle.std.proofs.lemmas.Option.{same_Some}
 use Rattle.std.specs.Prelude.{Some, None}
+use Rattle.std.specs.Bool.{then_some}
+use Rattle.std.proofs.lemmas.Option.{cond_some}
 use Prim.Native.Nat.{ℕ, suc, ◌+◌, ◌-◌, ◌*◌, ◌≤◌, ◌<◌, min}
 use native.Mathlib.Numerals.{add-one}
 use native.Mathlib.Omega.{arith}
@@ -20,7 +23,7 @@ use lib.Seq.{drop-drop}
 use lib.Dec.{leb}
 use borrow.Author.Tests.{le-leb, lt-leb, leb-true, leb-false}
 use Rattle.slice.specs.BoolLaws.{both_true}
-use Rattle.slice.proofs.TestLaws.{cond-first, cond-second}
+use Rattle.slice.proofs.TestLaws.{cond-second}
 use Rattle.topic_types.specs.declared.KeyRange.{KeyRange}
 use Rattle.topic_types.specs.KeyRanges.{key_range}
 use Rattle.ranges.specs.Overlap.{overlap, overlaps_any, any_overlap, starts_from, rising_from}
@@ -198,16 +201,23 @@ module _ (s : List ℕ) (at i : ℕ) (r : KeyRange) (n : ℕ) (x : Seen s at i r
     record-reversed h = record-bad (seen-ok ∙ simp (lt-leb r.start r.end h))
 
     module _ (h : r.start ≤ r.end) (t : Bool) (e : t ≡ ok_buckets (decode_ranges n (drop (at + 14) s))) where
-      pub record-clash : t ≡ false → None ≡ record_read s at end
+      record-clash : t ≡ false → None ≡ record_read s at end
       record-clash f = record-bad (seen-ok ∙ simp (le-leb r.start r.end h, ← e, f))
 
-      pub record-valid : t ≡ true → at + 14 + 4 * n ≤ end → Some (i, 14 + 4 * n) ≡ record_read s at end
+      record-valid : t ≡ true → at + 14 + 4 * n ≤ end → Some (i, 14 + 4 * n) ≡ record_read s at end
       unfolding record_read record_valid
       record-valid f k =
           let o : ok_segment (decode_segment (drop at s)) ≡ true = seen-ok ∙ simp (le-leb r.start r.end h, ← e, f) in
           let q : leb (at + (14 + 4 * n)) end ≡ true = le-leb (at + (14 + 4 * n)) end (omega arith) in
           let d : (decode_segment (drop at s)).segment_id ≡ i = ap (λ (g : AssignedSegment). g.segment_id) seen-segment in
           simp (q, o, seen_size, d)
+
+      pub record-told : at + 14 + 4 * n ≤ end → then_some t (i, 14 + 4 * n) ≡ record_read s at end
+      record-told k = go t refl
+        where
+          go : (b : Bool) → t ≡ b → then_some b (i, 14 + 4 * n) ≡ record_read s at end
+          go true f = record-valid f k
+          go false f = record-clash f
 
 -- ---- what the answer of `record_at` says
 
@@ -220,10 +230,9 @@ pub record RecordIs (s : List ℕ) (p end i z : ℕ) : Type 0 where
 pub record_is : (s : List ℕ) (p end i z : ℕ) → Some (i, z) ≡ record_read s p end → RecordIs s p end i z
 unfolding record_read record_valid
 record_is s p end i z e =
-    let c = cond-first (record_valid s p end) _ _ _ (λ q. let o : ◌≡◌ {A = ℕ} 0 1 = cc in omega arith) (sym e) in
-    let f = c.1 in
+    let c = cond_some (record_valid s p end) _ _ (sym e) in
     let b = both_true _ _ c.0 in
-    record { id-is = cc; size_is = cc; fits = leb-true _ _ b.0; ok = b.1 }
+    record { id-is = sym (ap (λ (q : ℕ × ℕ). q.0) c.1); size_is = sym (ap (λ (q : ℕ × ℕ). q.1) c.1); fits = leb-true _ _ b.0; ok = b.1 }
 
 not_valid : (s : List ℕ) (p end : ℕ) → None ≡ record_read s p end → record_valid s p end ≡ false
 unfolding record_read

@@ -1,10 +1,12 @@
 -- Laws of `front_size`, `front_answer` and `whole_read`, as the readers of src/ meet them.
 --
 -- In order: `front_size` by the records at the front (`size_is`, `size-short` to `size-records`), and what it says of the bytes (`size_none`, `Sized`, `size-some`), so of
--- `starts_assignment` (`starts-told`), of `is_assignment` (`whole-not` to `whole-ends`) and of `front_answer` (`front-none`, `front-some`); the cases of `whole_read` by the answer of `read_front` (`whole-all`,
--- `whole-more`, `whole-refused`).
+-- `starts_assignment` (`starts-told`), of `is_assignment` (`whole-not` to `whole-ends`) and of `front_answer` (`front-none`, `front-some`); `whole_read` by the answer of `read_front` (`whole-told`,
+-- `whole-refused`).
 -- Assumes nothing.
-use Rattle.std.specs.Prelude.{Some, None}
+use Rattle.std.specs.Prelude.{cond, Some, None}
+use Rattle.std.specs.Bool.{then_some}
+use Rattle.std.proofs.lemmas.Option.{cond_some}
 use Prim.Native.Nat.{ℕ, ◌+◌, ◌*◌, ◌≤◌, ◌<◌, min}
 use native.Mathlib.Decide.{dec_le}
 use native.Mathlib.Omega.{arith}
@@ -15,7 +17,7 @@ use lib.ListN.{length, drop}
 use lib.Dec.{eqb}
 use borrow.Author.Tests.{le-leb, lt-leb, leb-true, eq-eqb, ne_eqb}
 use Rattle.slice.specs.BoolLaws.{both_true}
-use Rattle.slice.proofs.TestLaws.{cond-first, cond-second}
+use Rattle.slice.proofs.TestLaws.{cond-second}
 use Rattle.slice_int.specs.Be.{be_at}
 use Rattle.packed.specs.Assignment.{slot_size, decode_segments, decode_assignment, size_segments, size_assignment, ok_from}
 use Rattle.packed.specs.Assignment.{starts_assignment, is_assignment}
@@ -122,19 +124,18 @@ record Front (s : List ℕ) (z n : ℕ) : Type 0 where
 front : (s : List ℕ) (z n : ℕ) → Some (z, n) ≡ front_answer s → Front s z n
 unfolding front_answer
 front s z n e =
-    let p = cond-first (starts_assignment s) _ _ _ (λ q. let o : ◌≡◌ {A = ℕ} 0 1 = cc in omega arith) (sym e) in
-    let f = p.1 in
-    record { starts_is = p.0; size_is = cc; count-is = cc }
+    let p = cond_some (starts_assignment s) _ _ (sym e) in
+    record { starts_is = p.0; size_is = ap (λ (q : ℕ × ℕ). q.0) p.1; count-is = ap (λ (q : ℕ × ℕ). q.1) p.1 }
 
 module _ (s : List ℕ) (z n : ℕ) (e : Some (z, n) ≡ front_answer s) where
-  -- nothing is left over
-  pub whole-all : z ≡ length s → Some (z, n) ≡ whole_read s
+  -- whether nothing is left over
+  pub whole-told : then_some {T = ℕ × ℕ} (eqb z (length s)) (z, n) ≡ whole_read s
   unfolding whole_read is_assignment
-  whole-all h = let f : Front s z n = front s z n e in simp (f.starts_is, f.size_is, f.count-is, eq-eqb z (length s) h)
-
-  pub whole-more : (z ≡ length s → ⊥) → None ≡ whole_read s
-  unfolding whole_read is_assignment
-  whole-more h = let f : Front s z n = front s z n e in simp (f.starts_is, f.size_is, f.count-is, ne_eqb z (length s) h)
+  whole-told = let f : Front s z n = front s z n e in go (eqb z (length s)) ∙ simp (f.starts_is, f.size_is, f.count-is)
+    where
+      go : (b : Bool) → then_some {T = ℕ × ℕ} b (z, n) ≡ cond b (Some (z, n)) None
+      go true = refl
+      go false = refl
 
 pub whole-refused : (s : List ℕ) → None ≡ front_answer s → None ≡ whole_read s
 unfolding front_answer whole_read is_assignment

@@ -66,8 +66,8 @@ fn buckets_rise(s: &[u8], at: usize, n: usize, from: u64) -> bool
             return false;
         }
         low = ranges::above(range);
-        p = p + BUCKET;
-        left = left - 1;
+        p += BUCKET;
+        left -= 1;
     }
     true
 }
@@ -110,8 +110,8 @@ fn rise_by_words(s: &[u8], at: usize, n: usize) -> bool
             return false;
         }
         low = tops(y);
-        p = p + 16;
-        left = left - 4;
+        p += 16;
+        left -= 4;
         x = slice_int::read_u64(s, p);
         y = slice_int::read_u64(s, p + 8);
     }
@@ -129,8 +129,8 @@ pub fn bucket_overlaps(s: &[u8], at: usize, n: usize, range: KeyRange) -> bool
         if ranges::overlaps(range_at(s, p), range) {
             return true;
         }
-        p = p + BUCKET;
-        left = left - 1;
+        p += BUCKET;
+        left -= 1;
     }
     false
 }
@@ -147,8 +147,8 @@ fn buckets_apart(s: &[u8], at: usize, n: usize) -> bool
         if range.end < range.start {
             return false;
         }
-        p = p + BUCKET;
-        left = left - 1;
+        p += BUCKET;
+        left -= 1;
         if bucket_overlaps(s, p, left, range) {
             return false;
         }
@@ -176,8 +176,8 @@ fn buckets_marked(s: &[u8], at: usize, n: usize) -> bool
         if ranges_marks::mark(&mut words, range) {
             return false;
         }
-        p = p + BUCKET;
-        left = left - 1;
+        p += BUCKET;
+        left -= 1;
     }
     true
 }
@@ -196,7 +196,7 @@ pub fn buckets_ok(s: &[u8], at: usize, n: usize) -> bool
     buckets_marked(s, at, n)
 }
 
-// The record at the place at, which has to end by the place end.
+// The id and the size in bytes of the record at the place at, which has to end by the place end; None where it is malformed.
 pub fn record_at(s: &[u8], at: usize, end: usize) -> Option<(u64, usize)>
     requires { (at ≤ end) × (end ≤ length s.now) }
     ensures { result ≡ record_read s.now at end }
@@ -213,11 +213,7 @@ pub fn record_at(s: &[u8], at: usize, end: usize) -> Option<(u64, usize)>
     if range.end < range.start {
         return None;
     }
-    if buckets_ok(s, at + RECORD_HEAD, count) {
-        Some((id, RECORD_HEAD + BUCKET * count))
-    } else {
-        None
-    }
+    buckets_ok(s, at + RECORD_HEAD, count).then_some((id, RECORD_HEAD + BUCKET * count))
 }
 
 // The place behind the n records from a place on, which have to end by the place end; 0 where they are not valid. `stop` is where they end if no further one has
@@ -234,16 +230,16 @@ fn records_end(s: &[u8], at: usize, n: usize, end: usize) -> usize
             return 0;
         }
         let count = slice_int::read_u16(s, p + RECORD_COUNT) as usize;
-        p = p + RECORD_HEAD;
+        p += RECORD_HEAD;
         if count != 0 {
-            stop = stop + BUCKET * count;
+            stop += BUCKET * count;
             if end < stop {
                 return 0;
             }
             if !buckets_ok(s, p, count) {
                 return 0;
             }
-            p = p + BUCKET * count;
+            p += BUCKET * count;
         }
         if p == stop {
             return p;
@@ -260,7 +256,7 @@ fn records_end(s: &[u8], at: usize, n: usize, end: usize) -> usize
 pub fn front_size(s: &[u8]) -> usize
     ensures { result ≡ front_size s.now }
 {
-    let end = slice_int::min_usize(s.len(), SLOT);
+    let end = s.len().min(SLOT);
     if end < ASSIGNMENT_HEAD {
         return 0;
     }
@@ -305,7 +301,7 @@ fn all_bare(s: &[u8]) -> bool
         if slice_int::read_u16(s, p + RECORD_COUNT) != 0 {
             return false;
         }
-        p = p + RECORD_HEAD;
+        p += RECORD_HEAD;
         if p == end {
             return true;
         }
@@ -325,13 +321,10 @@ pub fn is_whole(s: &[u8]) -> bool
         return true;
     }
     let size = front_size(s);
-    if size == 0 {
-        return false;
-    }
-    size == s.len()
+    size != 0 && size == s.len()
 }
 
-// The packed assignment at the front of a slot, and how many segments it has.
+// The size in bytes of the packed assignment at the front of a slot, and how many segments it has; None where the bytes are malformed.
 pub fn read_front(s: &[u8]) -> Option<(usize, usize)>
     ensures { result ≡ front_answer s.now }
 {
@@ -343,18 +336,10 @@ pub fn read_front(s: &[u8]) -> Option<(usize, usize)>
     Some((size, segments))
 }
 
-// The packed assignment that the bytes are; none may be left over.
+// The same of the packed assignment that the bytes are; none may be left over.
 pub fn read_whole(s: &[u8]) -> Option<(usize, usize)>
     ensures { result ≡ whole_read s.now }
 {
-    match read_front(s) {
-        Some((size, count)) => {
-            if size == s.len() {
-                Some((size, count))
-            } else {
-                None
-            }
-        }
-        None => None,
-    }
+    let (size, segments) = read_front(s)?;
+    (size == s.len()).then_some((size, segments))
 }

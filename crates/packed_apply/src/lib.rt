@@ -14,12 +14,8 @@ use refusal::Refusal;
 pub fn apply(assignment: &[u8], delta: &[u8], out: &mut [u8]) -> Result<usize, Refusal>
     ensures { outcome result out.new ≡ apply_outcome assignment.now delta.now out.old }
 {
-    let Some((_, count)) = packed::read_whole(assignment) else {
-        return Err(Refusal::MalformedInput);
-    };
-    let Some((losses, gains)) = packed_delta::read_delta(delta) else {
-        return Err(Refusal::MalformedInput);
-    };
+    let (_, count) = packed::read_whole(assignment).ok_or(Refusal::MalformedInput)?;
+    let (losses, gains) = packed_delta::read_delta(delta).ok_or(Refusal::MalformedInput)?;
     let kept = Row {
         at: ASSIGNMENT_HEAD,
         left: count,
@@ -32,16 +28,9 @@ pub fn apply(assignment: &[u8], delta: &[u8], out: &mut [u8]) -> Result<usize, R
         at: packed_delta::HEAD + packed_delta::ID * losses,
         left: gains,
     };
-    let Some((n, size)) = packed_overlay::overlay_fit(
-        assignment,
-        kept,
-        delta,
-        lost,
-        gained,
-        packed::SLOT - ASSIGNMENT_HEAD,
-    ) else {
-        return Err(Refusal::AssignmentTooLong);
-    };
+    let limit = packed::SLOT - ASSIGNMENT_HEAD;
+    let fit = packed_overlay::overlay_fit(assignment, kept, delta, lost, gained, limit);
+    let (n, size) = fit.ok_or(Refusal::AssignmentTooLong)?;
     if out.len() < ASSIGNMENT_HEAD + size {
         return Err(Refusal::ResultTooLong);
     }

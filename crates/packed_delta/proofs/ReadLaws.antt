@@ -3,9 +3,11 @@
 -- In order: the least id that may follow (`lowest`); a turn of reading ids (`Ids`: `ids-start`, `ids-stale`, `ids_next`, `ids-end`) and of
 -- reading records (`Records`: `records-start`, `records-cut`, `records-stale`, `records-next`, `records-end`), and what the place behind
 -- them says (`records-to`, `no-records`); the cases of `front_answer` (`front-short` to `front-valid`), and from them those of `delta_read`
--- (`delta-none`, `delta-more`, `delta-all`).
+-- (`delta-none`, `delta-told`).
 -- Assumes nothing.
 use Rattle.std.specs.Prelude.{Some, None}
+use Rattle.std.specs.Bool.{then_some}
+use Rattle.std.proofs.lemmas.Option.{cond_some}
 use Prim.Native.Nat.{ℕ, suc, ◌+◌, ◌-◌, ◌*◌, ◌≤◌, ◌<◌}
 use native.Mathlib.Nat.{add-zero}
 use native.Mathlib.Omega.{arith}
@@ -13,10 +15,10 @@ use mathlib.Core.Path.{◌≡◌, refl, sym, ap, ◌∙◌}
 use mathlib.Core.Bool.{Bool, true, false, not, ◌&&◌, and-false}
 use mathlib.Core.List.{List}
 use lib.ListN.{length, drop}
-use lib.Dec.{leb}
-use borrow.Author.Tests.{not-true, not-false, le-leb, lt-leb, leb-true, eq-eqb, ne_eqb}
+use lib.Dec.{leb, eqb}
+use borrow.Author.Tests.{not-true, not-false, le-leb, lt-leb, leb-true, eq-eqb, ne_eqb, eqb-true}
 use Rattle.slice.specs.BoolLaws.{both_true}
-use Rattle.slice.proofs.TestLaws.{cond-first, cond-second}
+use Rattle.slice.proofs.TestLaws.{cond-second}
 use Rattle.slice_int.specs.Be.{be_at}
 use Rattle.packed.specs.Assignment.{size_segments, num, decode_segments, ok_from}
 use Rattle.packed.specs.Answers.{record_read}
@@ -122,10 +124,9 @@ module _ {s : List ℕ} {at n p left : ℕ} {first : Bool} {prev : ℕ} (I : Rec
 pub records-to : (s : List ℕ) (at n z : ℕ) → Some z ≡ records_to s at n → (Rest s at n) × (z ≡ at + size_segments (decode_segments n (drop at s)))
 unfolding records_to
 records-to s at n z e =
-    let p = cond-first (rest s (length s) at n 0) _ _ _ (λ q. let o : ◌≡◌ {A = ℕ} 0 1 = cc in omega arith) (sym e) in
-    let f = p.1 in
+    let p = cond_some (rest s (length s) at n 0) _ _ (sym e) in
     let b = both_true (leb (at + size_segments (decode_segments n (drop at s))) (length s)) _ p.0 in
-    (record { fits = leb-true _ _ b.0; ok = b.1 }, cc)
+    (record { fits = leb-true _ _ b.0; ok = b.1 }, sym p.1)
 
 pub no-records : (s : List ℕ) (at n : ℕ) → None ≡ records_to s at n → rest s (length s) at n 0 ≡ false
 unfolding records_to
@@ -216,7 +217,7 @@ module _ (s : List ℕ) where
 
   module _ (m n z : ℕ) (e : Some (m, n, z) ≡ front_answer s) where
     -- bytes are left over
-    pub delta-more : (z ≡ length s → ⊥) → None ≡ delta_read s
+    delta-more : (z ≡ length s → ⊥) → None ≡ delta_read s
     unfolding delta_read is_delta
     delta-more h =
         let f = front-answer s m n z e in
@@ -224,7 +225,7 @@ module _ (s : List ℕ) where
         simp (ne_eqb (size_delta (decode_delta s)) (length s) (λ q. h (f.size_is ∙ q))) in
         simp k
 
-    pub delta-all : z ≡ length s → Some (m, n) ≡ delta_read s
+    delta-all : z ≡ length s → Some (m, n) ≡ delta_read s
     unfolding delta_read is_delta starts_delta
     delta-all h =
         let f = front-answer s m n z e in
@@ -233,3 +234,10 @@ module _ (s : List ℕ) where
         let a : length (decode_delta s).lost ≡ m = ap length f.lost-is ∙ length-ids_of m (drop 12 s) in
         let b : length (decode_delta s).gained ≡ n = ap length f.gained-is ∙ length-segments_of n (drop (12 + 8 * m) s) in
         simp (k, a, b)
+
+    pub delta-told : then_some {T = ℕ × ℕ} (eqb z (length s)) (m, n) ≡ delta_read s
+    delta-told = go (eqb z (length s)) refl
+      where
+        go : (t : Bool) → eqb z (length s) ≡ t → then_some {T = ℕ × ℕ} t (m, n) ≡ delta_read s
+        go true h = delta-all (eqb-true _ _ h)
+        go false h = delta-more (λ q. let k : ◌≡◌ {A = Bool} true false = sym (eq-eqb z (length s) q) ∙ h in let o : ◌≡◌ {A = ℕ} 0 1 = cc in omega arith)

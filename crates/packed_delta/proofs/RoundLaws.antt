@@ -8,6 +8,7 @@
 -- encoding of what it is read as (`write-delta`).
 -- Assumes nothing.
 use Rattle.std.specs.Prelude.{Some, None}
+use Rattle.std.proofs.lemmas.Option.{cond_some}
 use Prim.Native.Nat.{ℕ, zero, suc, ◌+◌, ◌-◌, ◌*◌, ◌^◌, ◌≤◌, ◌<◌}
 use native.Mathlib.Nat.{add-zero}
 use native.Mathlib.Omega.{arith}
@@ -19,7 +20,7 @@ use lib.Seq.{drop-drop, drop_at, take_all}
 use lib.Dec.{leb, eqb}
 use borrow.Author.Tests.{le-leb, leb-true, eq-eqb, eqb-true}
 use Rattle.slice.specs.BoolLaws.{both_true}
-use Rattle.slice.proofs.TestLaws.{cond-first, cond-second}
+use Rattle.slice.proofs.TestLaws.{cond-second}
 use Rattle.slice.proofs.PartLaws.{Bytes, Bytes-take, Bytes-drop}
 use Rattle.slice_int.specs.Be.{be, bytes_of}
 use Rattle.slice_int.proofs.BeLaws.{length-bytes_of, be-below, be-front, drop-front, bytes_of-front}
@@ -186,11 +187,10 @@ front l m n z em en ez e =
 pub front-answer : (l : List ℕ) (m n z : ℕ) → Some (m, n, z) ≡ front_answer l → Front l m n z
 unfolding front_answer decode_delta
 front-answer l m n z e =
-    let p = cond-first (starts_delta l) _ _ _ (λ q. let o : ◌≡◌ {A = ℕ} 0 1 = cc in omega arith) (sym e) in
-    let f = p.1 in
-    let a : m ≡ length (decode_delta l).lost = cc in
-    let b : n ≡ length (decode_delta l).gained = cc in
-    let k : z ≡ size_delta (decode_delta l) = cc in
+    let p = cond_some (starts_delta l) _ _ (sym e) in
+    let a : m ≡ length (decode_delta l).lost = sym (ap (λ (q : ℕ × ℕ × ℕ). q.0) p.1) in
+    let b : n ≡ length (decode_delta l).gained = sym (ap (λ (q : ℕ × ℕ × ℕ). q.1) p.1) in
+    let k : z ≡ size_delta (decode_delta l) = sym (ap (λ (q : ℕ × ℕ × ℕ). q.2) p.1) in
     front l m n z (a ∙ length-ids_of _ _) (b ∙ length-segments_of _ _) k p.0
 
 pub not-front : (l : List ℕ) → None ≡ front_answer l → starts_delta l ≡ false
@@ -236,10 +236,9 @@ walkable l m n em en e =
 pub walk-read : (l : List ℕ) (m n : ℕ) → Some (m, n) ≡ delta_read l → Walkable l m n
 unfolding delta_read decode_delta
 walk-read l m n e =
-    let p = cond-first (is_delta l) _ _ _ (λ q. let o : ◌≡◌ {A = ℕ} 0 1 = cc in omega arith) (sym e) in
-    let f = p.1 in
-    let a : m ≡ length (decode_delta l).lost = cc in
-    let b : n ≡ length (decode_delta l).gained = cc in
+    let p = cond_some (is_delta l) _ _ (sym e) in
+    let a : m ≡ length (decode_delta l).lost = sym (ap (λ (q : ℕ × ℕ). q.0) p.1) in
+    let b : n ≡ length (decode_delta l).gained = sym (ap (λ (q : ℕ × ℕ). q.1) p.1) in
     walkable l m n (a ∙ length-ids_of _ _) (b ∙ length-segments_of _ _) p.0
 
 pub not-delta : (l : List ℕ) → None ≡ delta_read l → is_delta l ≡ false

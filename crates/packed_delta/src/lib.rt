@@ -29,20 +29,18 @@ fn ids_rise(s: &[u8], at: usize, n: usize) -> bool
     let mut left = n;
     while 0 < left {
         let next = slice_int::read_u64(s, p);
-        if !first {
-            if next <= prev {
-                return false;
-            }
+        if !first && next <= prev {
+            return false;
         }
         first = false;
         prev = next;
-        p = p + ID;
-        left = left - 1;
+        p += ID;
+        left -= 1;
     }
     true
 }
 
-// The place behind the n records from a place on, which are valid and whose ids rise.
+// The place behind the n records from a place on, which are valid and whose ids rise; None where they are malformed.
 fn records_to(s: &[u8], at: usize, n: usize) -> Option<usize>
     requires { at ≤ length s.now }
     ensures { result ≡ records_to s.now at n }
@@ -53,23 +51,19 @@ fn records_to(s: &[u8], at: usize, n: usize) -> Option<usize>
     let mut p = at;
     let mut left = n;
     while 0 < left {
-        let Some((id, size)) = packed::record_at(s, p, end) else {
+        let (id, size) = packed::record_at(s, p, end)?;
+        if !first && id <= prev {
             return None;
-        };
-        if !first {
-            if id <= prev {
-                return None;
-            }
         }
         first = false;
         prev = id;
-        p = p + size;
-        left = left - 1;
+        p += size;
+        left -= 1;
     }
     Some(p)
 }
 
-// The delta at the front; what follows it is not looked at.
+// How many ids the delta at the front loses, how many records it gains, and its size in bytes; None where it is malformed. What follows it is not looked at.
 pub fn read_front(s: &[u8]) -> Option<(usize, usize, usize)>
     ensures { result ≡ front_answer s.now }
 {
@@ -84,24 +78,14 @@ pub fn read_front(s: &[u8]) -> Option<(usize, usize, usize)>
     if !ids_rise(s, HEAD, lost) {
         return None;
     }
-    match records_to(s, HEAD + ID * lost, gained) {
-        Some(size) => Some((lost, gained, size)),
-        None => None,
-    }
+    let size = records_to(s, HEAD + ID * lost, gained)?;
+    Some((lost, gained, size))
 }
 
-// The delta that the bytes are; it may not end early or late.
+// How many ids the delta that the bytes are loses, and how many records it gains; None where it is malformed. It may not end early or late.
 pub fn read_delta(s: &[u8]) -> Option<(usize, usize)>
     ensures { result ≡ delta_read s.now }
 {
-    match read_front(s) {
-        Some((lost, gained, size)) => {
-            if size == s.len() {
-                Some((lost, gained))
-            } else {
-                None
-            }
-        }
-        None => None,
-    }
+    let (lost, gained, size) = read_front(s)?;
+    (size == s.len()).then_some((lost, gained))
 }

@@ -69,7 +69,7 @@ fn copy_bytes(x: &[u8], p: usize, n: usize, out: &mut [u8], at: usize)
     let mut i: usize = 0;
     while i < last {
         slice_int::write_u64(out, at + i, slice_int::read_u64(x, p + i));
-        i = i + 8;
+        i += 8;
     }
     slice_int::write_u64(out, at + last, slice_int::read_u64(x, p + last));
 }
@@ -90,21 +90,21 @@ fn merge(x: &[u8], y: &[u8], whole: bool, out: &mut [u8], at: usize) -> Merged
     while 0 < m {
         match next_step(x, p, y, q, n) {
             Step::Skip => {
-                q = q + packed_records::size_at(y, q);
-                n = n - 1;
+                q += packed_records::size_at(y, q);
+                n -= 1;
             }
             Step::Same => {
-                p = p + packed_records::size_at(x, p);
-                m = m - 1;
+                p += packed_records::size_at(x, p);
+                m -= 1;
             }
             Step::Keep => {
                 let size = packed_records::size_at(x, p);
                 let len = entry_size(whole, size);
                 copy_bytes(x, p, len, out, next);
-                next = next + len;
-                count = count + 1;
-                p = p + size;
-                m = m - 1;
+                next += len;
+                count += 1;
+                p += size;
+                m -= 1;
             }
         }
     }

@@ -5,7 +5,7 @@
 -- (`assignment-behind` to `applied-behind`); bytes that agree from byte 8 on, read as a delta, and the call apply
 -- (`further` to `apply-behind`); the law.
 -- Assumes nothing.
-use Rattle.std.specs.Prelude.{Ok}
+use Rattle.std.specs.Prelude.{Result, Ok}
 use Prim.Native.Nat.{ℕ, ◌+◌, ◌-◌, ◌*◌, ◌≤◌, ◌<◌}
 use native.Mathlib.Omega.{arith}
 use mathlib.Core.Path.{◌≡◌, refl, sym, ap, ap₂, ◌∙◌}
@@ -17,6 +17,7 @@ use lib.Dec.{eqb, leb}
 use borrow.Author.Tests.{leb-true, leb-false, eqb-true, eqb-false, eq-eqb, ne_eqb}
 use Rattle.slice.specs.BoolLaws.{both_true}
 use Rattle.slice.proofs.PartLaws.{drop-take}
+use Rattle.refusal.specs.declared.Refusal.{Refusal}
 use Rattle.output.specs.Output.{Outcome, written}
 use Rattle.slice_int.specs.Be.{bytes_of}
 use Rattle.slice_int.specs.Put.{put}
@@ -183,7 +184,7 @@ either_order d e h =
 -- without the hypothesis there is no such law: the two of Needed are answered with other lengths
 pub order-shows : ((d e : List ℕ) → EitherOrder d e) → ⊥
 order-shows f =
-    let p : Ok 34 ≡ Ok 20 =
+    let p : ◌≡◌ {A = Result ℕ Refusal} (Ok 34) (Ok 20) =
     sym needed.lost-first-answer
     ∙ ((f (encode_delta loses) (encode_delta gains)).joins room).answer
     ∙ needed.gained-first-answer in

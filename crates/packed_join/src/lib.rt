@@ -55,16 +55,9 @@ fn write_join(d: &[u8], a: Rows, e: &[u8], b: Rows, out: &mut [u8]) -> Result<us
     if out.len() < head {
         return Err(Refusal::ResultTooLong);
     }
-    let Some((gains, size)) = packed_overlay::overlay_fit(
-        d,
-        d_gained,
-        e,
-        e_lost,
-        e_gained,
-        out.len() - head,
-    ) else {
-        return Err(Refusal::ResultTooLong);
-    };
+    let room = out.len() - head;
+    let fit = packed_overlay::overlay_fit(d, d_gained, e, e_lost, e_gained, room);
+    let (gains, size) = fit.ok_or(Refusal::ResultTooLong)?;
     if MAX_COUNT < gains {
         return Err(Refusal::ResultTooLong);
     }
@@ -81,12 +74,8 @@ fn write_join(d: &[u8], a: Rows, e: &[u8], b: Rows, out: &mut [u8]) -> Result<us
 pub fn join(d: &[u8], e: &[u8], out: &mut [u8]) -> Result<usize, Refusal>
     ensures { outcome result out.new ≡ join_outcome d.now e.now out.old }
 {
-    let Some((losses, gains)) = packed_delta::read_delta(d) else {
-        return Err(Refusal::MalformedInput);
-    };
-    let Some((more_losses, more_gains)) = packed_delta::read_delta(e) else {
-        return Err(Refusal::MalformedInput);
-    };
+    let (losses, gains) = packed_delta::read_delta(d).ok_or(Refusal::MalformedInput)?;
+    let (more_losses, more_gains) = packed_delta::read_delta(e).ok_or(Refusal::MalformedInput)?;
     let a = rows_of(losses, gains);
     let b = rows_of(more_losses, more_gains);
     write_join(d, a, e, b, out)

@@ -22,27 +22,24 @@ fn entry_size(s: &[u8], at: usize) -> usize
     if s.len() - from < len {
         return 0;
     }
-    let to = from + len;
-    if packed::is_whole(&s[from..to]) {
+    if packed::is_whole(&s[from..from + len]) {
         LENGTH + len
     } else {
         0
     }
 }
 
-// Whether s starts with n entries, and where they end.
+// The place behind the last of the n entries that s starts with; None where they are malformed.
 pub fn read_entries(s: &[u8], n: usize) -> Option<usize>
     ensures { result ≡ entries_read n s.now }
 {
     let mut at: usize = 0;
-    let mut left = n;
-    while 0 < left {
+    for _ in 0..n {
         let size = entry_size(s, at);
         if size == 0 {
             return None;
         }
-        at = at + size;
-        left = left - 1;
+        at += size;
     }
     Some(at)
 }

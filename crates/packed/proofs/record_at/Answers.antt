@@ -2,8 +2,9 @@
 -- Assumes nothing.
 use native.Mathlib.Omega.{arith}
 use lib.ListN.{drop}
+use mathlib.Core.Path.{◌∙◌}
 use Rattle.packed.specs.Assignment.{decode_segment}
-use Rattle.packed.proofs.AssignmentLaws.{Seen, seen_size, size-least, record-short, record-reversed, record-clash, record-valid}
+use Rattle.packed.proofs.AssignmentLaws.{Seen, seen_size, size-least, record-short, record-reversed, record-told}
 use Rattle.packed.proofs.record_at.Goals as goal
 use Rattle.packed.proofs.record_at.Goals.{After-read_u16-count}
 
@@ -28,14 +29,9 @@ returns-then-range c =
     record-reversed a.s.now a.at c.read_u64-id.result c.range_at-range.result c.read_u16-count.result (seen (goal.at.returns-then-range c).After-read_u16-count)
     a.end c.if-range.true
 
-pub returns-then-buckets_ok : goal.returns-then-buckets_ok
-returns-then-buckets_ok c =
+pub returns : goal.returns
+returns c =
     let a = c.args in
-    record-valid a.s.now a.at c.read_u64-id.result c.range_at-range.result c.read_u16-count.result (seen (goal.at.returns-then-buckets_ok c).After-read_u16-count) a.end
-    c.if-range.false c.buckets_ok.result c.buckets_ok.ensures c.if-buckets_ok.true (omega arith)
-
-pub returns-else-buckets_ok : goal.returns-else-buckets_ok
-returns-else-buckets_ok c =
-    let a = c.args in
-    record-clash a.s.now a.at c.read_u64-id.result c.range_at-range.result c.read_u16-count.result (seen (goal.at.returns-else-buckets_ok c).After-read_u16-count) a.end
-    c.if-range.false c.buckets_ok.result c.buckets_ok.ensures c.if-buckets_ok.false
+    c.then_some.ensures
+    ∙ record-told a.s.now a.at c.read_u64-id.result c.range_at-range.result c.read_u16-count.result (seen (goal.at.returns c).After-read_u16-count) a.end
+    c.if-range.false c.buckets_ok.result c.buckets_ok.ensures (omega arith)

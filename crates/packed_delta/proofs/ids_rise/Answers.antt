@@ -6,7 +6,7 @@ use mathlib.Core.Path.{ap}
 use mathlib.Core.Bool.{not}
 use Rattle.packed_delta.proofs.ReadLaws.{lowest-first, lowest-above, lowest-stale, ids-start, ids-stale, ids_next, ids-end}
 use Rattle.packed_delta.proofs.ids_rise.Goals as goal
-use Rattle.packed_delta.proofs.ids_rise.Goals.{then-not-first+else-next-prev, else-not-first}
+use Rattle.packed_delta.proofs.ids_rise.Goals.{else-not-first-via-then-not-first+else-next-prev, else-not-first-via-else-not-first}
 
 pub loop-left-init : goal.loop-left-init
 loop-left-init c = let a = c.args in ids-start a.s.now a.at a.n
@@ -28,9 +28,9 @@ loop-left-preserved c =
     let l = c.loop-left in
     let i = c.read_u64-next.result in
     ids_next l.invariant c.loop-left-test.true c.read_u64-next.ensures
-    (elim c.if-not-first.branch [
-      | then-not-first+else-next-prev w ↦ lowest-above l.first l.prev i (ap not w.if-not-first.true) w.if-next-prev.false
-      | else-not-first w ↦ lowest-first l.first l.prev i (ap not w.if-not-first.false)
+    (elim c.else-not-first.branch [
+      | else-not-first-via-then-not-first+else-next-prev w ↦ lowest-above l.first l.prev i (ap not w.if-not-first.true) w.if-next-prev.false
+      | else-not-first-via-else-not-first w ↦ lowest-first l.first l.prev i (ap not w.if-not-first.false)
     ])
 
 pub returns : goal.returns

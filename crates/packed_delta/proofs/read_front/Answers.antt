@@ -19,11 +19,12 @@ pub returns-then-not-ids_rise : goal.returns-then-not-ids_rise
 returns-then-not-ids_rise c =
     front-falls (counts (goal.at.returns-then-not-ids_rise c).After-read_u16-gained) (sym (c.if-not-ids_rise.true) ∙ c.ids_rise.ensures)
 
-pub returns-in-Some : goal.returns-in-Some
-returns-in-Some c =
-    front-valid (counts (goal.at.returns-in-Some c).After-read_u16-gained) (sym (c.if-not-ids_rise.false) ∙ c.ids_rise.ensures) c.in-Some.size
-    (sym c.in-Some.is ∙ c.records_to.ensures)
+pub returns : goal.returns
+returns c =
+    front-valid (counts (goal.at.returns c).After-read_u16-gained) (sym (c.if-not-ids_rise.false) ∙ c.ids_rise.ensures) c.in_ok-size.size
+    (sym c.in_ok-size.was ∙ c.records_to.ensures)
 
-pub returns-in-None : goal.returns-in-None
-returns-in-None c =
-    front-bad (counts (goal.at.returns-in-None c).After-read_u16-gained) (sym c.in-None.is ∙ c.records_to.ensures)
+pub returns-in_err-size : goal.returns-in_err-size
+returns-in_err-size c =
+    c.from_residual.ensures
+    ∙ front-bad (counts (goal.at.returns-in_err-size c).After-read_u16-gained) (sym c.in_err-size.was ∙ c.records_to.ensures)
