@@ -135,8 +135,8 @@ fn delta_in(s: &[u8], lost: usize, gained: usize, log: &[u8], q: usize) -> bool
         × (rises (ids_in true gained (drop (delta_head + id_size * lost) s.now)) ≡ true) }
     ensures { result ≡ delta_in s.now lost gained (drop q log.now) }
 {
-    if part_in(s, packed_delta::HEAD, lost, false, log, q) {
-        part_in(
+    part_in(s, packed_delta::HEAD, lost, false, log, q)
+        && part_in(
             s,
             packed_delta::HEAD + packed_delta::ID * lost,
             gained,
@@ -144,9 +144,6 @@ fn delta_in(s: &[u8], lost: usize, gained: usize, log: &[u8], q: usize) -> bool
             log,
             q + ENTRY * lost,
         )
-    } else {
-        false
-    }
 }
 
 // The log is what the deltas ask for.

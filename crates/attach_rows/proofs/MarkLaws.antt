@@ -3,13 +3,13 @@
 -- In order: the one place of a number in a rising row (`position`); one beyond its ends (`lacks-none`, `lacks-low`,
 -- `lacks-high`, `mark-lacks`); its mark set, or none (`mark-hit`, `mark-miss`); an
 -- entry of either kind (`mark-detach` to `mark-no-attach`); entry after entry (`Marking`: `marking-start`,
--- `marking-turn`, `marking-end`); all marks (`set-none`, `set-further`, `set-end`); a row whose ids are all marked
+-- `marking-turn`, `marking-next`, `marking-all`, `marking-end`); all marks (`set-none`, `set-further`, `set-end`); a row whose ids are all marked
 -- (`marked_all`).
 -- Assumes nothing.
-use Prim.Native.Nat.{ℕ, zero, suc, ◌+◌, ◌-◌, ◌≤◌, ◌<◌}
+use Prim.Native.Nat.{ℕ, zero, suc, ◌+◌, ◌-◌, ◌*◌, ◌≤◌, ◌<◌}
 use native.Mathlib.Nat.{not-suc-le-zero}
 use native.Mathlib.Omega.{arith}
-use mathlib.Core.Path.{◌≡◌, refl, sym, ap, ◌∙◌}
+use mathlib.Core.Path.{◌≡◌, refl, sym, ap, ◌∙◌, subst}
 use mathlib.Core.Bool.{Bool, true, false, ◌&&◌, ◌||◌, or-false}
 use mathlib.Core.List.{List, [], ◌∷◌, map}
 use lib.ListN.{length, take, drop, get_or, set, replicate, drop_of_length-le}
@@ -143,6 +143,23 @@ module _ (attach : Bool) (log : List ℕ) (at n : ℕ) (ids : List ℕ) (m : Lis
       ∙ ap (λ (es : List Entry). has_entry y es || get_or now i false) (row_at entries-row log p left x 9 h e refl)
       ∙ or_turn (same_entry x y) (has_entry y r) (get_or now i false)
       ∙ ap (λ (t : Bool). has_entry y r || t) (sym (k i l))
+
+  -- the i-th of them
+  pub marking-next : (i : ℕ) (now after : List Bool) (x : Entry) → Marking (at + 9 * i) (n - i) now → i < n → x ≡ entry_of (drop (at + 9 * i) log)
+      → Marks (λ (j : ℕ). same_entry x (entry_for attach j)) ids now after → Marking (at + 9 * (i + 1)) (n - (i + 1)) after
+  marking-next i now after x w h e k =
+      let p : at + 9 * i + 9 ≡ at + 9 * (i + 1) = omega arith in
+      let q : n - i - 1 ≡ n - (i + 1) = omega arith in
+      subst (λ (y : ℕ). Marking y (n - (i + 1)) after) p
+      (subst (λ (y : ℕ). Marking (at + 9 * i + 9) y after) q (marking-turn (at + 9 * i) (n - i) now after x w (omega arith) e k))
+
+  pub marking-all : Marking (at + 9 * 0) (n - 0) m
+  marking-all i l =
+      let p : at ≡ at + 9 * 0 = omega arith in
+      let q : n ≡ n - 0 = omega arith in
+      let y : Entry = entry_for attach (get_or ids i 0) in
+      ap (λ (k : ℕ). has_entry y (entries_in n (drop k log)) || get_or m i false) p
+      ∙ ap (λ (k : ℕ). has_entry y (entries_in k (drop (at + 9 * 0) log)) || get_or m i false) q
 
   pub marking-end : (p left : ℕ) (now : List Bool) → Marking p left now → left ≤ 0
       → Marks (λ (i : ℕ). has_entry (entry_for attach i) (entries_in n (drop at log))) ids m now

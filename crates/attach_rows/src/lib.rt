@@ -71,10 +71,7 @@ fn is_within(ids: &[u64], x: u64) -> bool
     ensures { result ≡ false → Lacks x ids.now }
 {
     let n = ids.len();
-    if n == 0 {
-        return false;
-    }
-    if x < ids[0] {
+    if n == 0 || x < ids[0] {
         return false;
     }
     x <= ids[n - 1]
@@ -87,10 +84,8 @@ fn mark_id(ids: &[u64], marks: &mut [bool], x: u64)
 {
     if is_within(ids, x) {
         let r = intake_repeats::rank(ids, x);
-        if r < ids.len() {
-            if ids[r] == x {
-                marks[r] = true;
-            }
+        if r < ids.len() && ids[r] == x {
+            marks[r] = true;
         }
     }
 }
@@ -121,12 +116,8 @@ fn mark_entries(log: &[u8], at: usize, n: usize, attach: bool, ids: &[u64], mark
     ensures { Marks (λ (i : ℕ). has_entry (entry_for attach i) (entries_in n (drop at log.now)))
         ids.now marks.old marks.new }
 {
-    let mut p = at;
-    let mut left = n;
-    while 0 < left {
-        mark_entry(ids, marks, attach, entry_at(log, p));
-        p = p + ENTRY;
-        left = left - 1;
+    for i in 0..n {
+        mark_entry(ids, marks, attach, entry_at(log, at + ENTRY * i));
     }
 }
 
@@ -139,7 +130,7 @@ fn all_set(marks: &[bool]) -> bool
         if !marks[i] {
             return false;
         }
-        i = i + 1;
+        i += 1;
     }
     true
 }

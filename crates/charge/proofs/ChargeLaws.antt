@@ -1,14 +1,18 @@
 -- Laws of products in 64 bits, of lengths added up and of the record lent, over plain lists and numbers.
 --
 -- In order: products (`product-fits` to `factor-large`); the lengths of a row (`order-first`, `lengths-first`,
--- `lengths_none`); what a record holds (`holds-bad`, `holds-longer`, `holds-range`, `holds-buckets`); the answers of
--- `charge` (`refused-malformed` to `charged`), and what a charge says (`charges`).
+-- `ranges-next`, `ranges-all`, `lengths_none`); what a record holds (`holds-bad`, `holds-longer`, `holds-range`,
+-- `holds-buckets`); the answers of `charge` (`refused`, `refused-malformed` to `charged`), and what a charge says
+-- (`charges`).
 -- Assumes nothing.
-use Rattle.std.specs.Prelude.{Some, None, Ok, Err}
+use Rattle.std.specs.Prelude.{Option, Some, None, Result, Ok, Err}
+use Rattle.std.specs.Option.{ok_or, SomeIff}
+use Rattle.std.specs.Result.{result_ok}
+use Rattle.std.proofs.lemmas.Option.{some_pair_parts}
 use Prim.Native.Nat.{ℕ, zero, suc, ◌+◌, ◌-◌, ◌*◌, ◌/◌, ◌%◌, ◌^◌, ◌≤◌, ◌<◌}
-use native.Mathlib.Nat.{le-div_iff_mul-le, div-lt_iff_lt-mul, mul_comm, mul-zero, zero-mul, mul-le-mul_left, mul-one, not-suc-le-zero}
+use native.Mathlib.Nat.{mul-zero, mul-le-mul_left, mul-one, not-suc-le-zero}
 use native.Mathlib.Omega.{arith}
-use mathlib.Core.Path.{◌≡◌, refl, sym, ap, ◌∙◌}
+use mathlib.Core.Path.{◌≡◌, refl, sym, ap, ◌∙◌, subst}
 use mathlib.Core.Bool.{Bool, true, false, not, ◌&&◌, or-true}
 use mathlib.Core.List.{List, ◌∷◌}
 use lib.ListN.{length, drop}
@@ -17,12 +21,13 @@ use borrow.Author.Tests.{le-leb, lt-leb, leb-true, eq-eqb, ne_eqb, eqb-true}
 use Rattle.slice.specs.BoolLaws.{both_true}
 use Rattle.slice.proofs.TestLaws.{cond-first, cond-second}
 use Rattle.topic_types.specs.declared.KeyRange.{KeyRange}
+use Rattle.refusal.specs.declared.Refusal.{Refusal}
 use Rattle.refusal.specs.declared.Refusal.TheVariants.{MalformedInput, ChargeTooLarge}
 use Rattle.ranges_calls.specs.Calls.{values_in}
 use Rattle.slice_int.specs.Be.{be_at}
 use Rattle.packed.specs.Assignment.{decode_range, decode_ranges, decode_segment, size_segment, is_in_order, all_in_order, ok_buckets, ok_segment}
 use Rattle.packed.specs.Answers.{record_valid, record_read}
-use Rattle.packed.proofs.AssignmentLaws.{ranges-none, size-least, segment-at, Seen, seen_size, RecordIs}
+use Rattle.packed.proofs.AssignmentLaws.{ranges-at, ranges-none, size-least, segment-at, Seen, seen_size, RecordIs}
 use Rattle.charge.specs.Charge.{divisor, is_segment, lengths_of, held_in, values_held, cost_of, too_large, charge_of, holds_of, product_of}
 
 -- ---- products
@@ -47,21 +52,19 @@ module _ (n : ℕ) where
   unfolding product_of
   product-not e = leb-true (2 ^ 64) n (cond-first (leb (2 ^ 64) n) _ _ _ (λ q. let o : ◌≡◌ {A = ℕ} 0 1 = cc in omega arith) (sym e)).0
 
--- the division tells whether a product fits
-module _ (a b : ℕ) (h : (a ≡ 0 → ⊥)) where
-  positive : 0 < a
-  positive = omega (arith, h)
+-- what a checked sum or product answers
+pub checked-fits : (n : ℕ) (o : Option ℕ) (m : ℕ) → o ≡ Some m → SomeIff o (n < 2 ^ 64) n → (n < 2 ^ 64) × (m ≡ n)
+checked-fits n o m e h = subst (λ (p : Option ℕ). SomeIff p (n < 2 ^ 64) n) e h
 
-  pub below : b ≤ (2 ^ 64 - 1) / a → a * b < 2 ^ 64
-  below k = let e : b * a ≤ 2 ^ 64 - 1 = (le-div_iff_mul-le positive).0 k in omega (arith, mul_comm a b)
+pub checked-large : (n : ℕ) (o : Option ℕ) → o ≡ None → SomeIff o (n < 2 ^ 64) n → 2 ^ 64 ≤ n
+checked-large n o e h =
+    let k : n < 2 ^ 64 → ⊥ = subst (λ (p : Option ℕ). SomeIff p (n < 2 ^ 64) n) e h in omega (arith, k)
 
-  pub above : (2 ^ 64 - 1) / a < b → 2 ^ 64 ≤ a * b
-  above k = let e : 2 ^ 64 - 1 < b * a = (div-lt_iff_lt-mul positive).0 k in omega (arith, mul_comm a b)
+pub product-checked : (n : ℕ) (o : Option ℕ) → SomeIff o (n < 2 ^ 64) n → o ≡ product_of n
+product-checked n None h = product-large n (omega (arith, h))
+product-checked n (Some m) h = ap Some h.1 ∙ product-fits n h.0
 
--- a factor 0 on the left, on the right
-pub product-zero : (a b : ℕ) → a ≡ 0 → Some 0 ≡ product_of (a * b)
-product-zero a b e = product-fits 0 (omega arith) ∙ ap product_of (sym (zero-mul b) ∙ ap (λ (x : ℕ). x * b) (sym e))
-
+-- a factor 0
 pub product-none : (a b : ℕ) → b ≡ 0 → Some 0 ≡ product_of (a * b)
 product-none a b e = product-fits 0 (omega arith) ∙ ap product_of (sym (mul-zero a) ∙ ap (λ (x : ℕ). a * x) (sym e))
 
@@ -79,6 +82,22 @@ order-first r rs e = let b = both_true (is_in_order r) _ e in (leb-true _ _ b.0,
 pub lengths-first : (r : KeyRange) (rs : List KeyRange) → lengths_of (r ∷ rs) ≡ values_in r + lengths_of rs
 unfolding lengths_of
 lengths-first r rs = refl
+
+-- the i-th of n, and those behind it
+pub ranges-next : (s : List ℕ) (at n i : ℕ) (r : KeyRange) → i < n → r ≡ decode_range (drop (at + 4 * i) s)
+    → decode_ranges (n - i) (drop (at + 4 * i) s) ≡ r ∷ decode_ranges (n - (i + 1)) (drop (at + 4 * (i + 1)) s)
+ranges-next s at n i r h e =
+    let p : at + 4 * i + 4 ≡ at + 4 * (i + 1) = omega arith in
+    let q : n - i - 1 ≡ n - (i + 1) = omega arith in
+    ranges-at s (at + 4 * i) (n - i) r (omega arith) e
+    ∙ ap (λ (k : ℕ). r ∷ decode_ranges k (drop (at + 4 * i + 4) s)) q
+    ∙ ap (λ (k : ℕ). r ∷ decode_ranges (n - (i + 1)) (drop k s)) p
+
+pub ranges-all : (s : List ℕ) (at n : ℕ) → decode_ranges n (drop at s) ≡ decode_ranges (n - 0) (drop (at + 4 * 0) s)
+ranges-all s at n =
+    let p : at ≡ at + 4 * 0 = omega arith in
+    let q : n ≡ n - 0 = omega arith in
+    ap (λ (k : ℕ). decode_ranges n (drop k s)) p ∙ ap (λ (k : ℕ). decode_ranges k (drop (at + 4 * 0) s)) q
 
 pub lengths_none : (n : ℕ) (l : List ℕ) → n ≤ 0 → lengths_of (decode_ranges n l) ≡ 0
 unfolding lengths_of
@@ -183,6 +202,11 @@ module _ (l : List ℕ) where
 
 -- ---- the answers of `charge`
 
+-- what is refused where there is no value
+pub refused : (o : Option ℕ) (x y : Refusal) → o ≡ None → Err x ≡ ok_or o y → x ≡ y
+refused o x y h e =
+    let f : ◌≡◌ {A = Result ℕ Refusal} (Err x) (Err y) = e ∙ ap (λ (p : Option ℕ). ok_or p y) h in cc
+
 pub record Held (l : List ℕ) (v : ℕ) : Type 0 where
   pub valid : is_segment l ≡ true
   pub values-are : v ≡ values_held (decode_segment l)
@@ -237,4 +261,5 @@ charges l s r m x y e = go (not (is_segment l)) (too_large (cost_of l s r) m) re
     go false true h k = let f : Ok (x, y) ≡ Err ChargeTooLarge = e ∙ rw (h, k) in let z : ◌≡◌ {A = ℕ} 0 1 = cc in absurd (omega arith)
     go false false h k =
         let f : Ok (x, y) ≡ Ok ((cost_of l s r + m) / divisor, (cost_of l s r + m) % divisor) = e ∙ rw (h, k) in
-        record { charge-is = cc; next-is = cc }
+        let p = some_pair_parts x ((cost_of l s r + m) / divisor) y ((cost_of l s r + m) % divisor) (ap result_ok f) in
+        record { charge-is = p.0; next-is = p.1 }

@@ -7,7 +7,7 @@ use Rattle.refusal.specs.declared.Refusal.TheVariants.{MalformedInput, ChargeToo
 use Rattle.slice_int.specs.Be.{be_from, be}
 use Rattle.packed.specs.Assignment.{num, decode_range, decode_ranges, decode_segment, size_segment, all_in_order, ok_buckets, ok_segment}
 use Rattle.charge.specs.Charge.{divisor, is_segment, lengths_of, held_in, values_held, cost_of, too_large, charge_of}
-use Rattle.charge.specs.Account.{Holding, Account, opened, book, book_all}
+use Rattle.charge.specs.Account.{Holding, opened, book, book_all}
 
 -- ---- records, all of segment 7
 

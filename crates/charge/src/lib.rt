@@ -1,7 +1,6 @@
 // Charging for held segments: what a holding costs, and the remainder that goes into the segment's next one.
 //
-// Nothing is reckoned beyond 64 bits: a product fits exactly if one factor is at most the largest number divided by the
-// other.
+// Nothing is reckoned beyond 64 bits: a product or sum that does not fit is refused.
 #![tactic(auto)]
 
 ghost use Rattle.std.specs.Prelude.{◌≡◌, true, ◌+◌, ◌*◌, ◌≤◌, ◌<◌, length, drop};
@@ -21,7 +20,7 @@ fn range_length(range: KeyRange) -> u64
     requires { range.start ≤ range.end }
     ensures { (result ≡ values_in range) × (result ≤ 4294967296) }
 {
-    (range.end as u64) - (range.start as u64) + 1
+    u64::from(range.end - range.start) + 1
 }
 
 // How many values the n ranges from a place on have, one after another.
@@ -30,24 +29,19 @@ fn lengths(s: &[u8], at: usize, n: usize) -> u64
     ensures { result ≡ lengths_of (decode_ranges n (drop at s.now)) }
 {
     let mut sum: u64 = 0;
-    let mut p = at;
-    let mut left = n;
-    while 0 < left {
-        sum = sum + range_length(packed::range_at(s, p));
-        p = p + packed::BUCKET;
-        left = left - 1;
+    for i in 0..n {
+        sum += range_length(packed::range_at(s, at + packed::BUCKET * i));
     }
     sum
 }
 
-// The values that the one record lent holds: those of its buckets, where it has some, else those of its range.
+// The values that the one record lent holds: those of its buckets, where it has some, else those of its range. None
+// where the bytes are no one record.
 fn values_held(segment: &[u8]) -> Option<u64>
     ensures { result ≡ holds_of segment.now }
 {
     let end = segment.len();
-    let Some((_, size)) = packed::record_at(segment, 0, end) else {
-        return None;
-    };
+    let (_, size) = packed::record_at(segment, 0, end)?;
     if size != end {
         return None;
     }
@@ -59,14 +53,11 @@ fn values_held(segment: &[u8]) -> Option<u64>
     }
 }
 
-// The product of two numbers.
+// The product of two numbers, where 64 bits hold it.
 fn multiply(a: u64, b: u64) -> Option<u64>
     ensures { result ≡ product_of (a * b) }
 {
-    if a == 0 {
-        return Some(0);
-    }
-    if b <= u64::MAX / a { Some(a * b) } else { None }
+    a.checked_mul(b)
 }
 
 // The product of three numbers: a factor 0 makes it 0, however large the others are.
@@ -76,15 +67,13 @@ fn cost(values: u64, seconds: u64, rate: u64) -> Option<u64>
     if rate == 0 {
         return Some(0);
     }
-    match multiply(values, seconds) {
-        Some(n) => multiply(n, rate),
-        None => None,
-    }
+    let n = multiply(values, seconds)?;
+    multiply(n, rate)
 }
 
-// The charge of one holding of the segment whose record is lent, and the remainder for its next one. Seconds, rate and
-// remainder may be any numbers. Bytes that are no one record are refused first (20), then a remainder that is not
-// below DIVISOR, and a product that reaches 2^64 with it (36).
+// The charge of one holding of the segment whose record is lent, in millionths of a euro, and the remainder for its next
+// one. Seconds, rate and remainder may be any numbers. Bytes that are no one record are refused first (20), then a
+// remainder that is not below DIVISOR, and a product that reaches 2^64 with it (36).
 pub fn charge(
     segment: &[u8],
     seconds: u64,
@@ -93,18 +82,11 @@ pub fn charge(
 ) -> Result<(u64, u64), Refusal>
     ensures { result ≡ charge_of segment.now seconds rate remainder }
 {
-    let Some(values) = values_held(segment) else {
-        return Err(Refusal::MalformedInput);
-    };
+    let values = values_held(segment).ok_or(Refusal::MalformedInput)?;
     if DIVISOR <= remainder {
         return Err(Refusal::ChargeTooLarge);
     }
-    let Some(n) = cost(values, seconds, rate) else {
-        return Err(Refusal::ChargeTooLarge);
-    };
-    if u64::MAX - remainder < n {
-        return Err(Refusal::ChargeTooLarge);
-    }
-    let sum = n + remainder;
+    let n = cost(values, seconds, rate).ok_or(Refusal::ChargeTooLarge)?;
+    let sum = n.checked_add(remainder).ok_or(Refusal::ChargeTooLarge)?;
     Ok((sum / DIVISOR, sum % DIVISOR))
 }

@@ -352,7 +352,7 @@ earliest-one l t (Ok (Some s)) (Err b) p q = absurd (not-both p.0 q.0)
 earliest-one l t (Ok (Some s)) (Ok (Some u)) p q =
     let e : s ≡ u =
     omega (arith, p.1.least u q.1.not-before q.1.is_open, q.1.least s p.1.not-before p.1.is_open) in
-    ap Ok (Some e)
+    ap (λ (k : ℕ). Ok (Some k)) e
 earliest-one l t (Ok (Some s)) (Ok None) p q = absurd (q.1 s p.1.not-before p.1.is_open)
 earliest-one l t (Ok None) (Err b) p q = absurd (not-both p.0 q.0)
 earliest-one l t (Ok None) (Ok (Some u)) p q = absurd (p.1 u q.1.not-before q.1.is_open)

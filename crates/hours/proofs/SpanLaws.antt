@@ -1,11 +1,13 @@
 -- Laws of spans read where they lie, and of what bytes are as a contract.
 --
--- In order: spans at a place (`span-read`, `spans-row`); a walk that asks each (`Turn`, `turn_end`,
--- `turn-first`, `turn-next`); the tests of the first of a row (`ok-first`,
+-- In order: spans at a place (`span-read`, `spans-row`, `span-first`, `span-none`, `span-all`); a walk that asks each
+-- (`Turn`, `turn_end`, `turn-first`, `turn-next`); the tests of the first of a row (`ok-first`,
 -- `holds-found`, ..); the cases of `shape_of` (`shape-short` to `shape-valid`) and what it says (`Shaped`, `shaped`,
--- `not-shaped`).
+-- `not-shaped`, `refused`).
 -- Assumes nothing.
-use Rattle.std.specs.Prelude.{Some, None}
+use Rattle.std.specs.Prelude.{Option, Some, None, Result, Err}
+use Rattle.std.specs.Option.{ok_or}
+use Rattle.std.proofs.lemmas.Option.{some_pair_parts}
 use Prim.Native.Nat.{ℕ, ◌+◌, ◌-◌, ◌*◌, ◌%◌, ◌≤◌, ◌<◌, min, max}
 use native.Mathlib.Omega.{arith}
 use mathlib.Core.Path.{◌≡◌, refl, sym, ap, ◌∙◌}
@@ -19,6 +21,8 @@ use Rattle.slice.specs.BoolLaws.{both_true}
 use Rattle.slice.proofs.TestLaws.{cond-first, cond-second}
 use Rattle.slice_int.specs.Be.{be_at}
 pub use Rattle.slice_int.proofs.RowLaws.{Row, row-none, row_at}
+use Rattle.refusal.specs.declared.Refusal.{Refusal}
+use Rattle.refusal.specs.declared.Refusal.TheVariants.{InvalidContract}
 use Rattle.hours.specs.declared.Span.{Span}
 use Rattle.hours.specs.Contract.{week, largest, span_of, spans_of, term_count, window_count, terms_of, windows_of}
 use Rattle.hours.specs.Contract.{ok_spans, is_contract}
@@ -36,25 +40,43 @@ pub spans-row : Row (λ l. 16) span_of spans_of
 unfolding spans_of
 spans-row = record { none = λ l. refl; more = λ n l. refl }
 
--- ---- a walk over a row: the spans that are left, from the place p on, decide what f says of them all
+-- the i-th of n, and those behind it
+pub span-first : (s : List ℕ) (at n i : ℕ) (x : Span) → i < n → x ≡ span_of (drop (at + 16 * i) s)
+    → spans_of (n - i) (drop (at + 16 * i) s) ≡ x ∷ spans_of (n - (i + 1)) (drop (at + 16 * (i + 1)) s)
+span-first s at n i x h e =
+    let p : at + 16 * i + 16 ≡ at + 16 * (i + 1) = omega arith in
+    let q : n - i - 1 ≡ n - (i + 1) = omega arith in
+    row_at spans-row s (at + 16 * i) (n - i) x 16 (omega arith) e refl
+    ∙ ap (λ (k : ℕ). x ∷ spans_of k (drop (at + 16 * i + 16) s)) q
+    ∙ ap (λ (k : ℕ). x ∷ spans_of (n - (i + 1)) (drop k s)) p
 
-pub record Turn (f : List Span → Bool) (s : List ℕ) (at n p left : ℕ) : Type 0 where
-  pub place : p + 16 * left ≡ at + 16 * n
-  pub decides : f (spans_of n (drop at s)) ≡ f (spans_of left (drop p s))
+pub span-none : (s : List ℕ) (at n i : ℕ) → n ≤ i → spans_of (n - i) (drop (at + 16 * i) s) ≡ []
+span-none s at n i h = row-none spans-row (n - i) (drop (at + 16 * i) s) (omega arith)
 
-module _ {f : List Span → Bool} {s : List ℕ} {at n p left : ℕ} (v : Turn f s at n p left) where
-  pub turn_end : left ≤ 0 → f [] ≡ f (spans_of n (drop at s))
-  turn_end h = sym (v.decides ∙ ap f (row-none spans-row left (drop p s) h))
+pub span-all : (s : List ℕ) (at n : ℕ) → spans_of n (drop at s) ≡ spans_of (n - 0) (drop (at + 16 * 0) s)
+span-all s at n =
+    let p : at ≡ at + 16 * 0 = omega arith in
+    let q : n ≡ n - 0 = omega arith in
+    ap (λ (k : ℕ). spans_of n (drop k s)) p ∙ ap (λ (k : ℕ). spans_of k (drop (at + 16 * 0) s)) q
 
-  module _ (x : Span) (h : 0 < left) (e : x ≡ span_of (drop p s)) where
+-- ---- a walk over a row: the spans that are left, from the i-th on, decide what f says of them all
+
+pub record Turn (f : List Span → Bool) (s : List ℕ) (at n i : ℕ) : Type 0 where
+  pub decides : f (spans_of n (drop at s)) ≡ f (spans_of (n - i) (drop (at + 16 * i) s))
+
+module _ {f : List Span → Bool} {s : List ℕ} {at n i : ℕ} (v : Turn f s at n i) where
+  pub turn_end : n ≤ i → f [] ≡ f (spans_of n (drop at s))
+  turn_end h = sym (v.decides ∙ ap f (span-none s at n i h))
+
+  module _ (x : Span) (h : i < n) (e : x ≡ span_of (drop (at + 16 * i) s)) where
     abbrev xs : List Span
-    xs = spans_of (left - 1) (drop (p + 16) s)
+    xs = spans_of (n - (i + 1)) (drop (at + 16 * (i + 1)) s)
 
     pub turn-first : f (x ∷ xs) ≡ f (spans_of n (drop at s))
-    turn-first = sym (v.decides ∙ ap f (row_at spans-row s p left x 16 h e refl))
+    turn-first = sym (v.decides ∙ ap f (span-first s at n i x h e))
 
-    pub turn-next : f (x ∷ xs) ≡ f xs → Turn f s at n (p + 16) (left - 1)
-    turn-next g = record { place = omega (arith, v.place); decides = sym turn-first ∙ g }
+    pub turn-next : f (x ∷ xs) ≡ f xs → Turn f s at n (i + 1)
+    turn-next g = record { decides = sym turn-first ∙ g }
 
 -- ---- a row by its first span
 
@@ -250,11 +272,15 @@ pub shaped : (l : List ℕ) (m n : ℕ) → Some (m, n) ≡ shape_of l → Shape
 unfolding shape_of
 shaped l m n e =
     let p = cond-first (is_contract l) _ _ _ (λ q. let o : ◌≡◌ {A = ℕ} 0 1 = cc in omega arith) (sym e) in
-    let f = p.1 in
-    let fm : term_count l ≡ m = cc in
-    let fn : window_count l ≡ n = cc in
-    rw fm at (rw fn at (valid-shaped l p.0))
+    let f = some_pair_parts (term_count l) m (window_count l) n p.1 in
+    rw f.0 at (rw f.1 at (valid-shaped l p.0))
 
 pub not-shaped : (l : List ℕ) → None ≡ shape_of l → is_contract l ≡ false
 unfolding shape_of
 not-shaped l e = (cond-second (is_contract l) _ _ _ (λ q. let o : ◌≡◌ {A = ℕ} 0 1 = cc in omega arith) (sym e)).0
+
+-- what is refused where there are no counts
+pub refused : (o : Option (ℕ × ℕ)) (x : Refusal) → o ≡ None → Err x ≡ ok_or o InvalidContract → x ≡ InvalidContract
+refused o x h e =
+    let f : ◌≡◌ {A = Result (ℕ × ℕ) Refusal} (Err x) (Err InvalidContract) =
+    e ∙ ap (λ (p : Option (ℕ × ℕ)). ok_or p InvalidContract) h in cc

@@ -49,18 +49,11 @@ fn spans_ok(s: &[u8], at: usize, n: usize, limit: u64) -> bool
     requires { at + 16 * n ≤ length s.now }
     ensures { result ≡ ok_spans limit (spans_of n (drop at s.now)) }
 {
-    let mut p = at;
-    let mut left = n;
-    while 0 < left {
-        let span = span_at(s, p);
-        if span.end <= span.start {
+    for i in 0..n {
+        let span = span_at(s, at + SPAN * i);
+        if span.end <= span.start || limit < span.end {
             return false;
         }
-        if limit < span.end {
-            return false;
-        }
-        p = p + SPAN;
-        left = left - 1;
     }
     true
 }
@@ -69,11 +62,7 @@ fn spans_ok(s: &[u8], at: usize, n: usize, limit: u64) -> bool
 fn in_span(span: Span, second: u64) -> bool
     ensures { result ≡ holds span second }
 {
-    if span.start <= second {
-        second < span.end
-    } else {
-        false
-    }
+    span.start <= second && second < span.end
 }
 
 // Some of the n spans from a place on holds the second.
@@ -81,19 +70,15 @@ fn any_holds(s: &[u8], at: usize, n: usize, second: u64) -> bool
     requires { at + 16 * n ≤ length s.now }
     ensures { result ≡ any_holds (spans_of n (drop at s.now)) second }
 {
-    let mut p = at;
-    let mut left = n;
-    while 0 < left {
-        if in_span(span_at(s, p), second) {
+    for i in 0..n {
+        if in_span(span_at(s, at + SPAN * i), second) {
             return true;
         }
-        p = p + SPAN;
-        left = left - 1;
     }
     false
 }
 
-// Counts, lengths, and every span: what 35 tests.
+// Counts, lengths, and every span: what 35 tests. The number of terms and of windows; None where it is broken.
 fn read_contract(contract: &[u8]) -> Option<(usize, usize)>
     ensures { result ≡ shape_of contract.now }
 {
@@ -102,19 +87,12 @@ fn read_contract(contract: &[u8]) -> Option<(usize, usize)>
     }
     let terms = slice_int::read_u16(contract, 0) as usize;
     let windows = slice_int::read_u16(contract, 2) as usize;
-    if MAX_TERMS < terms {
-        return None;
-    }
-    if MAX_WINDOWS < windows {
-        return None;
-    }
-    if contract.len() != HEAD + SPAN * (terms + windows) {
-        return None;
-    }
-    if !spans_ok(contract, HEAD, terms, LARGEST) {
-        return None;
-    }
-    if spans_ok(contract, HEAD + SPAN * terms, windows, WEEK) {
+    if terms <= MAX_TERMS
+        && windows <= MAX_WINDOWS
+        && contract.len() == HEAD + SPAN * (terms + windows)
+        && spans_ok(contract, HEAD, terms, LARGEST)
+        && spans_ok(contract, HEAD + SPAN * terms, windows, WEEK)
+    {
         Some((terms, windows))
     } else {
         None
@@ -125,14 +103,9 @@ fn read_contract(contract: &[u8]) -> Option<(usize, usize)>
 pub fn is_open(contract: &[u8], second: u64) -> Result<bool, Refusal>
     ensures { result ≡ open_answer contract.now second }
 {
-    let Some((terms, windows)) = read_contract(contract) else {
-        return Err(Refusal::InvalidContract);
-    };
-    if any_holds(contract, HEAD, terms, second) {
-        Ok(any_holds(contract, HEAD + SPAN * terms, windows, second % WEEK))
-    } else {
-        Ok(false)
-    }
+    let (terms, windows) = read_contract(contract).ok_or(Refusal::InvalidContract)?;
+    let in_term = any_holds(contract, HEAD, terms, second);
+    Ok(in_term && any_holds(contract, HEAD + SPAN * terms, windows, second % WEEK))
 }
 
 // From a moment of the week to the window: it is there, or comes this week, or next week.
@@ -140,13 +113,13 @@ fn wait_for(window: Span, moment: u64) -> u64
     requires { (window.start < window.end) × (window.end ≤ 604800) × (moment < 604800) }
     ensures { result ≡ wait_for window moment }
 {
-    if window.start <= moment {
-        if moment < window.end {
-            return 0;
-        }
-        return WEEK - moment + window.start;
+    if moment < window.start {
+        window.start - moment
+    } else if moment < window.end {
+        0
+    } else {
+        WEEK - moment + window.start
     }
-    window.start - moment
 }
 
 // From a moment of the week to the first of the n windows from a place on.
@@ -156,12 +129,8 @@ fn least_wait(s: &[u8], at: usize, n: usize, moment: u64) -> u64
     ensures { result ≡ least_wait (spans_of n (drop at s.now)) moment }
 {
     let mut least = LARGEST;
-    let mut p = at;
-    let mut left = n;
-    while 0 < left {
-        least = slice_int::min_u64(least, wait_for(span_at(s, p), moment));
-        p = p + SPAN;
-        left = left - 1;
+    for i in 0..n {
+        least = least.min(wait_for(span_at(s, at + SPAN * i), moment));
     }
     least
 }
@@ -171,7 +140,7 @@ fn first_in(s: &[u8], at: usize, n: usize, term: Span, second: u64) -> u64
     requires { (at + 16 * n ≤ length s.now) × (ok_spans 604800 (spans_of n (drop at s.now)) ≡ true) }
     ensures { result ≡ first_in term (spans_of n (drop at s.now)) second }
 {
-    let low = slice_int::max_u64(term.start, second);
+    let low = term.start.max(second);
     if term.end <= low {
         return LARGEST;
     }
@@ -192,23 +161,17 @@ fn first_of(s: &[u8], terms: usize, windows: usize, second: u64) -> u64
 {
     let at = HEAD + SPAN * terms;
     let mut first = LARGEST;
-    let mut p = HEAD;
-    let mut left = terms;
-    while 0 < left {
-        first = slice_int::min_u64(first, first_in(s, at, windows, span_at(s, p), second));
-        p = p + SPAN;
-        left = left - 1;
+    for i in 0..terms {
+        first = first.min(first_in(s, at, windows, span_at(s, HEAD + SPAN * i), second));
     }
     first
 }
 
-// The earliest open second not before the one given.
+// The earliest open second not before the one given; None where no second from it on is open.
 pub fn earliest_open(contract: &[u8], second: u64) -> Result<Option<u64>, Refusal>
     ensures { Earliest contract.now second result }
 {
-    let Some((terms, windows)) = read_contract(contract) else {
-        return Err(Refusal::InvalidContract);
-    };
+    let (terms, windows) = read_contract(contract).ok_or(Refusal::InvalidContract)?;
     let first = first_of(contract, terms, windows, second);
     if first == LARGEST {
         Ok(None)

@@ -43,7 +43,7 @@ found-by : (P : AssignedSegment → Type 0) (id : ℕ) (x : AssignedSegment) (gs
 found-by P id x gs g px rest e = go (eqb id x.segment_id) refl
   where
     go : (t : Bool) → eqb id x.segment_id ≡ t → P g
-    go true h = subst P (some-injective x g (sym (rw h) ∙ e)) px
+    go true h = subst P (same_Some x g (sym (rw h) ∙ e)) px
     go false h = rest (sym (rw h) ∙ e)
 
 found-valid : (id low : ℕ) (gs : List AssignedSegment) (g : AssignedSegment) → ok_from low gs ≡ true → find id_of id gs ≡ Some g → ok_segment g ≡ true
@@ -105,7 +105,7 @@ module _ (gs : List AssignedSegment) (id : ℕ) (g : AssignedSegment) (e : find 
         upper = ap (λ (n : ℕ). n / 2 ^ 16) h ∙ omega arith;
         smallest = subst (λ (n : ℕ). LeastValue (λ u. takes u g) n) q w;
       }
-  at-is None w = λ y f. subst NoneFalls (some-injective g y (sym e ∙ f)) (none-falls w)
+  at-is None w = λ y f. subst NoneFalls (same_Some g y (sym e ∙ f)) (none-falls w)
 
 in_is : (gs : List AssignedSegment) (id : ℕ) → ok_from 0 gs ≡ true → FitSegments gs → (o : Option AssignedSegment) → find id_of id gs ≡ o
     → Answered gs id (key_in o)

@@ -1,11 +1,13 @@
 -- A segment's key over records that are read where they lie.
 --
--- In order: size and least hash of the record at a place, by its range and its count (`at_size`, `at-whole`,
+-- In order: ranges at a place (`ranges-next`, `ranges-all`); size and least hash of the record at a place, by its range and its count (`at_size`, `at-whole`,
 -- `at-bucketed`); records by the first of them (`key-found`, `key-further`, `key-none`); the cases of `key_in_segment`
--- (`key-malformed`, `key-whole`).
+-- (`refused`, `key-malformed`, `key-whole`).
 -- Assumes nothing.
-use Rattle.std.specs.Prelude.{Some, None, Ok, Err}
-use Prim.Native.Nat.{ℕ, ◌+◌, ◌*◌, ◌≤◌}
+use Rattle.std.specs.Prelude.{Option, Some, None, Result, Ok, Err}
+use Rattle.std.specs.Option.{ok_or}
+use Prim.Native.Nat.{ℕ, ◌+◌, ◌-◌, ◌*◌, ◌≤◌, ◌<◌}
+use native.Mathlib.Omega.{arith}
 use mathlib.Core.Path.{◌≡◌, refl, sym, ap, ap₂, ◌∙◌}
 use mathlib.Core.Bool.{true, false}
 use mathlib.Core.List.{List, [], ◌∷◌}
@@ -14,16 +16,35 @@ use lib.Dec.{leb}
 use borrow.Author.Tests.{leb-true, eq-eqb, ne_eqb}
 use Rattle.slice.specs.BoolLaws.{both_true}
 use Rattle.topic_types.specs.declared.KeyRange.{KeyRange}
+use Rattle.refusal.specs.declared.Refusal.{Refusal}
 use Rattle.refusal.specs.declared.Refusal.TheVariants.{MalformedInput}
 use Rattle.keyed.specs.Keyed.{find}
 use Rattle.slice_int.specs.Be.{be_at}
 use Rattle.packed.specs.Assignment.{AssignedSegment, id_of, decode_range, decode_ranges, decode_segment, decode_segments, size_segment, ok_segment, is_assignment}
-use Rattle.packed.proofs.AssignmentLaws.{length-ranges_of, segment-at, seen_size}
+use Rattle.packed.proofs.AssignmentLaws.{ranges-at, length-ranges_of, segment-at, seen_size}
 use Rattle.packed.proofs.WholeLaws.{Whole}
 use Rattle.key_in_segment.specs.Least.{least_taken}
 use Rattle.key_in_segment.specs.Ends.{least_in}
 use Rattle.key_in_segment.specs.SegmentKey.{key_at, key_in, key_in_segment}
 use Rattle.key_in_segment.proofs.LeastLaws.{least-whole, least-bucketed}
+
+-- ---- ranges at a place
+
+-- the i-th of n, and those behind it
+pub ranges-next : (s : List ℕ) (at n i : ℕ) (r : KeyRange) → i < n → r ≡ decode_range (drop (at + 4 * i) s)
+    → decode_ranges (n - i) (drop (at + 4 * i) s) ≡ r ∷ decode_ranges (n - (i + 1)) (drop (at + 4 * (i + 1)) s)
+ranges-next s at n i r h e =
+    let p : at + 4 * i + 4 ≡ at + 4 * (i + 1) = omega arith in
+    let q : n - i - 1 ≡ n - (i + 1) = omega arith in
+    ranges-at s (at + 4 * i) (n - i) r (omega arith) e
+    ∙ ap (λ (k : ℕ). r ∷ decode_ranges k (drop (at + 4 * i + 4) s)) q
+    ∙ ap (λ (k : ℕ). r ∷ decode_ranges (n - (i + 1)) (drop k s)) p
+
+pub ranges-all : (s : List ℕ) (at n : ℕ) → decode_ranges n (drop at s) ≡ decode_ranges (n - 0) (drop (at + 4 * 0) s)
+ranges-all s at n =
+    let p : at ≡ at + 4 * 0 = omega arith in
+    let q : n ≡ n - 0 = omega arith in
+    ap (λ (k : ℕ). decode_ranges n (drop k s)) p ∙ ap (λ (k : ℕ). decode_ranges k (drop (at + 4 * 0) s)) q
 
 -- ---- the record at a place, by the range and the count that were read there
 
@@ -72,6 +93,12 @@ unfolding key_in
 key-none id = refl
 
 -- ---- the cases of `key_in_segment`
+
+-- what is refused where nothing was read
+pub refused : (o : Option (ℕ × ℕ)) (x : Refusal) → o ≡ None → Err x ≡ ok_or o MalformedInput → x ≡ MalformedInput
+refused o x h e =
+    let f : ◌≡◌ {A = Result (ℕ × ℕ) Refusal} (Err x) (Err MalformedInput) =
+    e ∙ ap (λ (p : Option (ℕ × ℕ)). ok_or p MalformedInput) h in cc
 
 module _ (s : List ℕ) (id : ℕ) where
   pub key-malformed : is_assignment s ≡ false → Err MalformedInput ≡ key_in_segment s id

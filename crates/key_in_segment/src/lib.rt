@@ -16,34 +16,28 @@ use key_for_hash::TestKey;
 use refusal::Refusal;
 use topic_types::{KeyRange, SegmentId};
 
-// The lesser of two values, if there are any.
+// The lesser of two values, if there are any; None where there is neither.
 fn lesser(a: Option<u32>, b: Option<u32>) -> Option<u32>
     ensures { result ≡ lesser_of a b }
 {
-    match a {
-        None => b,
-        Some(x) => match b {
-            None => Some(x),
-            Some(y) => { if x < y { Some(x) } else { Some(y) } }
-        },
+    match (a, b) {
+        (Some(x), Some(y)) => Some(x.min(y)),
+        _ => a.or(b),
     }
 }
 
 fn greater(a: u32, b: u32) -> u32
     ensures { result ≡ max a b }
 {
-    if a < b { b } else { a }
+    a.max(b)
 }
 
-// The least value that lies in both ranges.
+// The least value that lies in both ranges; None where there is none.
 fn least_common(a: KeyRange, b: KeyRange) -> Option<u32>
     ensures { result ≡ least_common a b }
 {
     let start = greater(a.start, b.start);
-    if a.end < start {
-        return None;
-    }
-    if b.end < start {
+    if a.end < start || b.end < start {
         return None;
     }
     Some(start)
@@ -55,12 +49,9 @@ fn least_in(s: &[u8], at: usize, n: usize, range: KeyRange) -> Option<u32>
     ensures { result ≡ least_in range (decode_ranges n (drop at s.now)) }
 {
     let mut best = None;
-    let mut p = at;
-    let mut left = n;
-    while 0 < left {
-        best = lesser(best, least_common(range, packed::range_at(s, p)));
-        p = p + packed::BUCKET;
-        left = left - 1;
+    for i in 0..n {
+        let found = least_common(range, packed::range_at(s, at + packed::BUCKET * i));
+        best = lesser(best, found);
     }
     best
 }
@@ -95,24 +86,20 @@ fn key_among(s: &[u8], m: usize, id: u64) -> Result<Option<TestKey>, Refusal>
     ensures { result ≡ key_in (find id_of id (decode_segments m (drop assignment_head s.now))) }
 {
     let mut p: usize = packed::ASSIGNMENT_HEAD;
-    let mut left = m;
-    while 0 < left {
+    for _ in 0..m {
         if id == packed_records::id_at(s, p) {
             return key_at(least_at(s, p));
         }
-        p = p + packed_records::size_at(s, p);
-        left = left - 1;
+        p += packed_records::size_at(s, p);
     }
     Ok(None)
 }
 
-// The key whose hash is the smallest that the segment with the id takes, its upper 16 bits 0. Bytes that are no packed
-// assignment are refused (20).
+// The key whose hash is the smallest that the segment with the id takes, its upper 16 bits 0; None where the id is not in
+// the list, or the segment has buckets and none meets its range. Bytes that are no packed assignment are refused (20).
 pub fn key_in_segment(assignment: &[u8], id: SegmentId) -> Result<Option<TestKey>, Refusal>
     ensures { result ≡ key_in_segment assignment.now id.0 }
 {
-    let Some((_, count)) = packed::read_whole(assignment) else {
-        return Err(Refusal::MalformedInput);
-    };
+    let (_, count) = packed::read_whole(assignment).ok_or(Refusal::MalformedInput)?;
     key_among(assignment, count, id.0)
 }

@@ -17,9 +17,15 @@ fn bucket_holds(s: &[u8], at: usize, n: usize, hash: u32) -> bool
     requires { at + bucket_size * n ≤ length s.now }
     ensures { result ≡ any_holds hash (decode_ranges n (drop at s.now)) }
 {
-    let start = hash;
-    let end = hash;
-    packed::bucket_overlaps(s, at, n, KeyRange { start, end })
+    packed::bucket_overlaps(
+        s,
+        at,
+        n,
+        KeyRange {
+            start: hash,
+            end: hash,
+        },
+    )
 }
 
 // The segment whose record stands at the place p takes the hash: its range has it, and a bucket where there are buckets.
@@ -31,39 +37,33 @@ fn segment_takes(s: &[u8], p: usize, hash: u32) -> bool
         return false;
     }
     let count = slice_int::read_u16(s, p + packed::RECORD_COUNT) as usize;
-    if count == 0 {
-        return true;
-    }
-    bucket_holds(s, p + packed::RECORD_HEAD, count, hash)
+    count == 0 || bucket_holds(s, p + packed::RECORD_HEAD, count, hash)
 }
 
-// The first of the m records from the place 10 on that takes the hash.
+// The id of the first of the m records from the place 10 on that takes the hash; None where none does.
 fn first_taking(s: &[u8], m: usize, hash: u32) -> Result<Option<SegmentId>, Refusal>
     requires { Rest s.now assignment_head m }
     ensures { result ≡ first_taking hash (decode_segments m (drop assignment_head s.now)) }
 {
     let mut p: usize = packed::ASSIGNMENT_HEAD;
-    let mut left = m;
-    while 0 < left {
+    for _ in 0..m {
         if segment_takes(s, p, hash) {
             return Ok(Some(SegmentId(packed_records::id_at(s, p))));
         }
-        p = p + packed_records::size_at(s, p);
-        left = left - 1;
+        p += packed_records::size_at(s, p);
     }
     Ok(None)
 }
 
 // The segment that takes the key: the lowest id whose range has the key's hash and which has no buckets or a bucket that
-// has it. A key above LONGEST_KEY is refused first (32), then bytes that are no packed assignment (20).
+// has it; None where no segment takes it. A key above LONGEST_KEY is refused first (32), then bytes that are no packed
+// assignment (20).
 pub fn segment_for_key(key: &[u8], assignment: &[u8]) -> Result<Option<SegmentId>, Refusal>
     ensures { result ≡ segment_for_key key.now assignment.now }
 {
     if LONGEST_KEY < key.len() {
         return Err(Refusal::KeyTooLong);
     }
-    let Some((_, count)) = packed::read_whole(assignment) else {
-        return Err(Refusal::MalformedInput);
-    };
+    let (_, count) = packed::read_whole(assignment).ok_or(Refusal::MalformedInput)?;
     first_taking(assignment, count, key_murmur3::hash(key) % 65536)
 }

@@ -1,6 +1,7 @@
 -- `attach_log::delta_in` meets its contract: the lost ids are asked before the gained records.
 -- Assumes nothing.
 use native.Mathlib.Omega.{arith}
+use mathlib.Core.Path.{◌∙◌}
 use Rattle.attach_log.proofs.FollowLaws.{in-not, in_both}
 use Rattle.attach_log.proofs.delta_in.Goals as goal
 
@@ -21,6 +22,6 @@ returns-then-part_in c = let t = c in
     c.part_in-then-part_in.ensures
 
 pub returns-else-part_in : goal.returns-else-part_in
-returns-else-part_in c = let r = c in
-    let a = r.args in
-    in-not a.s.now a.lost a.gained a.log.now a.q r.part_in.result r.part_in.ensures c.if-part_in.false
+returns-else-part_in c =
+    let a = c.args in
+    c.if-part_in.false ∙ in-not a.s.now a.lost a.gained a.log.now a.q c.part_in.result c.part_in.ensures c.if-part_in.false

@@ -14,12 +14,12 @@ use Rattle.attach_log.proofs.deltas_ok.Goals as goal
 -- what the delta that was read at the place says
 front-there : (k : In-Some)
     → let l = k in
-    Front (drop l.loop-p.p l.args.s.now) k.in-Some.field-0 k.in-Some.field-1 k.in-Some.size
+    Front (drop l.loop-p.p l.args.s.now) k.in-Some.field-0-0 k.in-Some.field-0-1 k.in-Some.size
 front-there k =
     let r = k in
     let l = r in
     let s = l.args.s.now in
-    front-answer (drop l.loop-p.p s) k.in-Some.field-0 k.in-Some.field-1 k.in-Some.size
+    front-answer (drop l.loop-p.p s) k.in-Some.field-0-0 k.in-Some.field-0-1 k.in-Some.size
     (sym k.in-Some.is ∙ r.read_front.ensures ∙ ap front_answer (rest s l.loop-p.p))
 
 pub loop-p-init : goal.loop-p-init
@@ -46,7 +46,7 @@ pub loop-p-preserved : goal.loop-p-preserved
 loop-p-preserved c = let k = c in
     let t = k in
     let l = t in
-    walk-next l.args.s.now l.loop-p.p l.loop-p.invariant t.loop-p-test.true k.in-Some.field-0 k.in-Some.field-1
+    walk-next l.args.s.now l.loop-p.p l.loop-p.invariant t.loop-p-test.true k.in-Some.field-0-0 k.in-Some.field-0-1
     k.in-Some.size (front-there (goal.at.loop-p-preserved c).In-Some)
 
 pub returns : goal.returns

@@ -1,48 +1,51 @@
 -- `charge::charge` meets its contract: each return is a case of `charge_of`.
 -- Assumes nothing.
-use Prim.Native.Nat.{◌*◌, ◌^◌, ◌≤◌, ◌<◌}
+use Prim.Native.Nat.{◌+◌, ◌*◌}
 use native.Mathlib.Omega.{arith}
-use mathlib.Core.Path.{◌≡◌, sym, ◌∙◌}
-use borrow.Author.Rules.{rules}
-use Rattle.charge.proofs.ChargeLaws.{product_is, product-not, Held, held, refused-malformed, refused-remainder, refused-sum, charged}
+use mathlib.Core.Path.{sym, ◌∙◌}
+use Rattle.std.proofs.lemmas.Result.{err_from_is_err_and}
+use Rattle.refusal.specs.declared.Refusal.TheVariants.{MalformedInput, ChargeTooLarge}
+use Rattle.charge.proofs.ChargeLaws.{refused, checked-fits, checked-large, product_is, product-not, held}
+use Rattle.charge.proofs.ChargeLaws.{refused-malformed, refused-remainder, refused-sum, charged}
 use Rattle.charge.proofs.charge.Goals as goal
 
-pub returns-in_default : goal.returns-in_default
-returns-in_default c = let v = c in
-    let a = v.args in
-    refused-malformed a.segment.now a.seconds a.rate a.remainder (sym c.in_default.is ∙ v.values_held.ensures)
+pub returns-in_err-values : goal.returns-in_err-values
+returns-in_err-values c =
+    let p = err_from_is_err_and c.from_residual.result c.from_residual.ensures.1 in
+    rw (p.1, p.2, refused c.values_held.result c.in_err-values.field-0.0 MalformedInput c.in_err-values.ensures.ok_part c.in_err-values.ensures.value)
+    (refused-malformed c.args.segment.now c.args.seconds c.args.rate c.args.remainder (sym c.in_err-values.ensures.ok_part ∙ c.values_held.ensures))
 
 pub returns-then-remainder-ge-DIVISOR : goal.returns-then-remainder-ge-DIVISOR
-returns-then-remainder-ge-DIVISOR c = let k = c in
-    let a = k.args in
-    refused-remainder a.segment.now a.seconds a.rate a.remainder k.in-Some.values ((let it : (Held k.args.segment.now k.in-Some.values) = held k.args.segment.now k.in-Some.values (sym k.in-Some.is ∙ k.values_held.ensures) in it)) c.if-remainder-ge-DIVISOR.true
+returns-then-remainder-ge-DIVISOR c =
+    let v = c.in_ok-values.values in
+    let h = held c.args.segment.now v (sym c.in_ok-values.ensures.ok_part ∙ c.values_held.ensures) in
+    refused-remainder c.args.segment.now c.args.seconds c.args.rate c.args.remainder v h c.if-remainder-ge-DIVISOR.true
 
-pub returns-in_default-cost : goal.returns-in_default-cost
-returns-in_default-cost c = let o = c in
-    let k = o in
-    let a = k.args in
-    let v = k.in-Some.values in
-    let h : 2 ^ 64 ≤ v * a.seconds * a.rate = product-not (v * a.seconds * a.rate) (sym c.in_default-cost.is ∙ o.cost.ensures) in
-    refused-sum a.segment.now a.seconds a.rate a.remainder v ((let it : (Held k.args.segment.now k.in-Some.values) = held k.args.segment.now k.in-Some.values (sym k.in-Some.is ∙ k.values_held.ensures) in it)) (omega arith)
+pub returns-in_err-n : goal.returns-in_err-n
+returns-in_err-n c =
+    let p = err_from_is_err_and c.from_residual-in_err-n.result c.from_residual-in_err-n.ensures.1 in
+    let v = c.in_ok-values.values in
+    let h = held c.args.segment.now v (sym c.in_ok-values.ensures.ok_part ∙ c.values_held.ensures) in
+    let k = product-not (v * c.args.seconds * c.args.rate) (sym c.in_err-n.ensures.ok_part ∙ c.cost.ensures) in
+    rw (p.1, p.2, refused c.cost.result c.in_err-n.field-0.0 ChargeTooLarge c.in_err-n.ensures.ok_part c.in_err-n.ensures.value)
+    (refused-sum c.args.segment.now c.args.seconds c.args.rate c.args.remainder v h (omega (arith, k)))
 
-pub returns-then-remainder-n : goal.returns-then-remainder-n
-returns-then-remainder-n c = let n = c in
-    let k = n in
-    let a = k.args in
-    refused-sum a.segment.now a.seconds a.rate a.remainder k.in-Some.values ((let it : (Held k.args.segment.now k.in-Some.values) = held k.args.segment.now k.in-Some.values (sym k.in-Some.is ∙ k.values_held.ensures) in it)) (omega (
-      arith,
-      (let it : (let k = n in
-          n.in-Some.n ≡ k.in-Some.values * k.args.seconds * k.args.rate) = let k = n in
-          product_is (k.in-Some.values * k.args.seconds * k.args.rate) n.in-Some.n
-          (sym n.in-Some.is ∙ n.cost.ensures) in it),
-    ))
+pub returns-in_err-sum : goal.returns-in_err-sum
+returns-in_err-sum c =
+    let p = err_from_is_err_and c.from_residual-in_err-sum.result c.from_residual-in_err-sum.ensures.1 in
+    let v = c.in_ok-values.values in
+    let h = held c.args.segment.now v (sym c.in_ok-values.ensures.ok_part ∙ c.values_held.ensures) in
+    let n = c.in_ok-n.n in
+    let e = product_is (v * c.args.seconds * c.args.rate) n (sym c.in_ok-n.ensures.ok_part ∙ c.cost.ensures) in
+    let k = checked-large (n + c.args.remainder) c.checked_add.result c.in_err-sum.ensures.ok_part c.checked_add.ensures in
+    rw (p.1, p.2, refused c.checked_add.result c.in_err-sum.field-0.0 ChargeTooLarge c.in_err-sum.ensures.ok_part c.in_err-sum.ensures.value)
+    (refused-sum c.args.segment.now c.args.seconds c.args.rate c.args.remainder v h (omega (arith, k, e)))
 
 pub returns : goal.returns
-returns c = let n = c in
-    let k = n in
-    let a = k.args in
-    charged a.segment.now a.seconds a.rate a.remainder k.in-Some.values ((let it : (Held k.args.segment.now k.in-Some.values) = held k.args.segment.now k.in-Some.values (sym k.in-Some.is ∙ k.values_held.ensures) in it)) (let it : (a.remainder < 235929600) = omega arith in it)
-    n.in-Some.n ((let it : (let k = n in
-    n.in-Some.n ≡ k.in-Some.values * k.args.seconds * k.args.rate) = let k = n in
-    product_is (k.in-Some.values * k.args.seconds * k.args.rate) n.in-Some.n
-    (sym n.in-Some.is ∙ n.cost.ensures) in it)) (omega arith)
+returns c =
+    let v = c.in_ok-values.values in
+    let h = held c.args.segment.now v (sym c.in_ok-values.ensures.ok_part ∙ c.values_held.ensures) in
+    let n = c.in_ok-n.n in
+    let e = product_is (v * c.args.seconds * c.args.rate) n (sym c.in_ok-n.ensures.ok_part ∙ c.cost.ensures) in
+    let k = checked-fits (n + c.args.remainder) c.checked_add.result c.in_ok-sum.sum c.in_ok-sum.ensures.ok_part c.checked_add.ensures in
+    rw k.1 (charged c.args.segment.now c.args.seconds c.args.rate c.args.remainder v h (omega arith) n e k.0)

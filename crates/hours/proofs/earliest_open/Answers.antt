@@ -1,36 +1,32 @@
 -- `hours::earliest_open` meets its contract: the first of all terms is the least open second, and the largest number
 -- stands for none.
 -- Assumes nothing.
-use Prim.Native.Nat.{ℕ}
 use native.Mathlib.Omega.{arith}
-use mathlib.Core.List.{List}
 use mathlib.Core.Path.{sym, ◌∙◌}
+use Rattle.std.proofs.lemmas.Result.{err_from_is_err_and}
+use Rattle.hours.proofs.SpanLaws.{shaped, not-shaped, refused}
 use Rattle.hours.proofs.HoursLaws.{earliest-at, earliest-none, earliest-not}
-use Rattle.hours.proofs.SpanLaws.{Shaped, shaped, not-shaped}
 use Rattle.hours.proofs.earliest_open.Goals as goal
 
-pub returns-in_default : goal.returns-in_default
-returns-in_default c = let r = c in
-    let a = r.args in
-    earliest-not a.contract.now a.second
-    (not-shaped a.contract.now (sym c.in_default.is ∙ r.read_contract.ensures))
+pub returns-in_err-terms : goal.returns-in_err-terms
+returns-in_err-terms c =
+    let p = err_from_is_err_and c.from_residual.result c.from_residual.ensures.1 in
+    rw (p.1, p.2, refused c.read_contract.result c.in_err-terms.field-0.0 c.in_err-terms.ensures.ok_part c.in_err-terms.ensures.value)
+    (earliest-not c.args.contract.now c.args.second
+    (not-shaped c.args.contract.now (sym c.in_err-terms.ensures.ok_part ∙ c.read_contract.ensures)))
 
 pub first_of-first-requires : goal.first_of-first-requires
-first_of-first-requires c = let h = (let it : (Shaped ((let it : (List ℕ) = c.args.contract.now in it)) c.in-Some.terms c.in-Some.windows) = shaped ((let it : (List ℕ) = c.args.contract.now in it)) c.in-Some.terms c.in-Some.windows
-    (sym c.in-Some.is ∙ c.read_contract.ensures) in it) in (h.inside, h.windows-ok)
+first_of-first-requires c =
+    let h = shaped c.args.contract.now c.in_ok-terms.terms c.in_ok-terms.windows (sym c.in_ok-terms.ensures.ok_part ∙ c.read_contract.ensures) in (h.inside, h.windows-ok)
 
 pub returns-then-first : goal.returns-then-first
-returns-then-first c = let f = c in
-    let k = f in
-    earliest-none ((let it : (List ℕ) = k.args.contract.now in it)) k.args.second k.in-Some.terms
-    k.in-Some.windows ((let it : (Shaped ((let it : (List ℕ) = k.args.contract.now in it)) k.in-Some.terms k.in-Some.windows) = shaped ((let it : (List ℕ) = k.args.contract.now in it)) k.in-Some.terms k.in-Some.windows
-    (sym k.in-Some.is ∙ k.read_contract.ensures) in it))
-    f.first_of-first.result f.first_of-first.ensures c.if-first.true
+returns-then-first c =
+    let h = shaped c.args.contract.now c.in_ok-terms.terms c.in_ok-terms.windows (sym c.in_ok-terms.ensures.ok_part ∙ c.read_contract.ensures) in
+    earliest-none c.args.contract.now c.args.second c.in_ok-terms.terms c.in_ok-terms.windows h
+    c.first_of-first.result c.first_of-first.ensures c.if-first.true
 
 pub returns-else-first : goal.returns-else-first
-returns-else-first c = let f = c in
-    let k = f in
-    earliest-at ((let it : (List ℕ) = k.args.contract.now in it)) k.args.second k.in-Some.terms
-    k.in-Some.windows ((let it : (Shaped ((let it : (List ℕ) = k.args.contract.now in it)) k.in-Some.terms k.in-Some.windows) = shaped ((let it : (List ℕ) = k.args.contract.now in it)) k.in-Some.terms k.in-Some.windows
-    (sym k.in-Some.is ∙ k.read_contract.ensures) in it))
-    f.first_of-first.result f.first_of-first.ensures (omega (arith, c.if-first.false))
+returns-else-first c =
+    let h = shaped c.args.contract.now c.in_ok-terms.terms c.in_ok-terms.windows (sym c.in_ok-terms.ensures.ok_part ∙ c.read_contract.ensures) in
+    earliest-at c.args.contract.now c.args.second c.in_ok-terms.terms c.in_ok-terms.windows h
+    c.first_of-first.result c.first_of-first.ensures (omega (arith, c.if-first.false))

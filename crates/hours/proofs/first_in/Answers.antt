@@ -7,28 +7,21 @@ use Rattle.hours.proofs.SpanLaws.{first-late, first-there, first-not, first-in}
 use Rattle.hours.proofs.first_in.Goals as goal
 
 pub returns-then-term-low : goal.returns-then-term-low
-returns-then-term-low c = let r = c in
-    let a = r.args in
+returns-then-term-low c =
+    let a = c.args in
     let ws = spans_of a.n (drop a.at a.s.now) in
-    first-late r.max_u64-low.result a.term.end ws c.if-term-low.true
-    ∙ first-in a.term ws a.second r.max_u64-low.result r.max_u64-low.ensures
+    first-late c.max-low.result a.term.end ws c.if-term-low.true ∙ first-in a.term ws a.second c.max-low.result c.max-low.ensures
 
 pub returns-then-wait-term : goal.returns-then-wait-term
-returns-then-wait-term c = let w = c in
-    let e = w in
-    let r = e in
-    let a = r.args in
+returns-then-wait-term c =
+    let a = c.args in
     let ws = spans_of a.n (drop a.at a.s.now) in
-    first-there r.max_u64-low.result a.term.end ws e.if-term-low.false w.least_wait-wait.result w.least_wait-wait.ensures
-    c.if-wait-term.true
-    ∙ first-in a.term ws a.second r.max_u64-low.result r.max_u64-low.ensures
+    first-there c.max-low.result a.term.end ws c.if-term-low.false c.least_wait-wait.result c.least_wait-wait.ensures c.if-wait-term.true
+    ∙ first-in a.term ws a.second c.max-low.result c.max-low.ensures
 
 pub returns-else-wait-term : goal.returns-else-wait-term
-returns-else-wait-term c = let w = c in
-    let e = w in
-    let r = e in
-    let a = r.args in
+returns-else-wait-term c =
+    let a = c.args in
     let ws = spans_of a.n (drop a.at a.s.now) in
-    first-not r.max_u64-low.result a.term.end ws e.if-term-low.false w.least_wait-wait.result w.least_wait-wait.ensures
-    c.if-wait-term.false
-    ∙ first-in a.term ws a.second r.max_u64-low.result r.max_u64-low.ensures
+    first-not c.max-low.result a.term.end ws c.if-term-low.false c.least_wait-wait.result c.least_wait-wait.ensures c.if-wait-term.false
+    ∙ first-in a.term ws a.second c.max-low.result c.max-low.ensures

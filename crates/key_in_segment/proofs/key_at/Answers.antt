@@ -6,7 +6,7 @@ use Rattle.key_in_segment.proofs.key_at.Goals as goal
 
 pub returns-in-Some : goal.returns-in-Some
 unfolding key_at
-returns-in-Some c = rw c.in-Some.is (ap Ok (Some c.key_for_hash.ensures))
+returns-in-Some c = rw c.in-Some.is (ap (λ k. Ok (Some k)) c.key_for_hash.ensures)
 
 pub returns-in-None : goal.returns-in-None
 unfolding key_at

@@ -3,18 +3,17 @@
 use native.Mathlib.Omega.{arith}
 use Rattle.key_in_segment.proofs.LeastLaws.{common-none, common-some}
 use Rattle.key_in_segment.proofs.least_common.Goals as goal
+use Rattle.key_in_segment.proofs.least_common.Goals.{then-a-start-via-then-a-start, then-a-start-via-else-a-start+then-b-start}
 
 pub returns-then-a-start : goal.returns-then-a-start
 returns-then-a-start c =
-    let g = c in
-    common-none g.args.a g.args.b g.greater-start.result g.greater-start.ensures (omega (arith, c.if-a-start.true))
-
-pub returns-then-b-start : goal.returns-then-b-start
-returns-then-b-start c =
-    let g = c in
-    common-none g.args.a g.args.b g.greater-start.result g.greater-start.ensures (omega (arith, c.if-b-start.true))
+    elim c.then-a-start.branch [
+      | then-a-start-via-then-a-start w ↦
+          common-none c.args.a c.args.b c.greater-start.result c.greater-start.ensures (omega (arith, w.if-a-start.true))
+      | then-a-start-via-else-a-start+then-b-start w ↦
+          common-none c.args.a c.args.b c.greater-start.result c.greater-start.ensures (omega (arith, w.if-b-start.true))
+    ]
 
 pub returns : goal.returns
 returns c =
-    let g = c in
-    common-some g.args.a g.args.b g.greater-start.result g.greater-start.ensures (omega arith) (omega arith)
+    common-some c.args.a c.args.b c.greater-start.result c.greater-start.ensures c.if-a-start.false c.if-b-start.false

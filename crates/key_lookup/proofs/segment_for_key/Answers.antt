@@ -3,33 +3,32 @@
 use Prim.Native.Nat.{ℕ, ◌%◌}
 use mathlib.Core.Path.{sym, ap, ◌∙◌}
 use lib.ListN.{drop}
+use Rattle.std.proofs.lemmas.Result.{err_from_is_err_and}
 use Rattle.key_lookup.specs.Lookup.{first_taking}
 use Rattle.packed.specs.Assignment.{decode_segments}
-use Rattle.packed.proofs.WholeLaws.{Whole, whole-read, not-assignment}
-use Rattle.key_lookup.proofs.TakesLaws.{for-long, for-malformed, for-whole}
+use Rattle.packed.proofs.WholeLaws.{whole-read, not-assignment}
+use Rattle.key_lookup.proofs.TakesLaws.{refused, for-long, for-malformed, for-whole}
 use Rattle.key_lookup.proofs.segment_for_key.Goals as goal
 
 pub returns-then-key-gt-LONGEST_KEY : goal.returns-then-key-gt-LONGEST_KEY
-returns-then-key-gt-LONGEST_KEY c = let a = c.args in for-long a.key.now a.assignment.now c.if-key-gt-LONGEST_KEY.true
+returns-then-key-gt-LONGEST_KEY c = for-long c.args.key.now c.args.assignment.now c.if-key-gt-LONGEST_KEY.true
 
-pub returns-in_default : goal.returns-in_default
-returns-in_default c =
-    let r = c in
-    let a = r.args in
-    for-malformed a.key.now a.assignment.now r.if-key-gt-LONGEST_KEY.false
-    (not-assignment a.assignment.now (sym c.in_default.is ∙ r.read_whole.ensures))
+pub returns-in_err-count : goal.returns-in_err-count
+returns-in_err-count c =
+    let p = err_from_is_err_and c.from_residual.result c.from_residual.ensures.1 in
+    rw (p.1, p.2, refused c.read_whole.result c.in_err-count.field-0.0 c.in_err-count.ensures.ok_part c.in_err-count.ensures.value)
+    (for-malformed c.args.key.now c.args.assignment.now c.if-key-gt-LONGEST_KEY.false
+    (not-assignment c.args.assignment.now (sym c.in_err-count.ensures.ok_part ∙ c.read_whole.ensures)))
 
 pub first_taking-requires : goal.first_taking-requires
-first_taking-requires c = ((let it : (Whole c.args.assignment.now c.in-Some.count) = let r = c in
-    whole-read r.args.assignment.now _ _ (sym c.in-Some.is ∙ r.read_whole.ensures) in it)).records
+first_taking-requires c =
+    (whole-read c.args.assignment.now _ _ (sym c.in_ok-count.ensures.ok_part ∙ c.read_whole.ensures)).records
 
 pub returns : goal.returns
 returns c =
-    let k = c in
-    let e = k in
-    let a = e.args in
-    let n = k.in-Some.count in
+    let l = c.args.assignment.now in
+    let n = c.in_ok-count.count in
     c.first_taking.ensures
-    ∙ ap (λ (h : ℕ). first_taking (h % 65536) (decode_segments n (drop 10 a.assignment.now))) c.hash.ensures
-    ∙ for-whole a.key.now a.assignment.now e.if-key-gt-LONGEST_KEY.false n ((let it : (Whole k.args.assignment.now k.in-Some.count) = let r = k in
-    whole-read r.args.assignment.now _ _ (sym k.in-Some.is ∙ r.read_whole.ensures) in it))
+    ∙ ap (λ (h : ℕ). first_taking (h % 65536) (decode_segments n (drop 10 l))) c.hash.ensures
+    ∙ for-whole c.args.key.now l c.if-key-gt-LONGEST_KEY.false n
+    (whole-read l _ _ (sym c.in_ok-count.ensures.ok_part ∙ c.read_whole.ensures))

@@ -3,6 +3,7 @@
 use native.Mathlib.Omega.{arith}
 use mathlib.Core.Path.{sym, ◌∙◌}
 use lib.ListN.{drop}
+use borrow.Author.Tests.{eq-eqb}
 use Rattle.key_lookup.proofs.TakesLaws.{counted-size, takes-outside, takes_whole, takes-bucketed}
 use Rattle.packed.specs.Assignment.{decode_segment}
 use Rattle.packed.proofs.AssignmentLaws.{size-least}
@@ -13,34 +14,24 @@ range_at-requires c = omega (arith, size-least (decode_segment (drop c.args.p c.
 
 pub returns-then-not-holds_hash : goal.returns-then-not-holds_hash
 returns-then-not-holds_hash c =
-    let h = c in
-    let a = h.args in
-    takes-outside a.s.now a.p a.hash h.range_at.result h.range_at.ensures
-    (sym h.holds_hash.ensures ∙ c.if-not-holds_hash.true)
+    takes-outside c.args.s.now c.args.p c.args.hash c.range_at.result c.range_at.ensures
+    (sym c.holds_hash.ensures ∙ c.if-not-holds_hash.true)
 
 pub read_u16-count-requires : goal.read_u16-count-requires
-read_u16-count-requires c =
-    let a = c.args in omega (arith, size-least (decode_segment (drop a.p a.s.now)))
+read_u16-count-requires c = omega (arith, size-least (decode_segment (drop c.args.p c.args.s.now)))
 
 pub returns-then-count-eq0 : goal.returns-then-count-eq0
 returns-then-count-eq0 c =
-    let n = c in
-    let h = n in
-    let a = h.args in
-    takes_whole a.s.now a.p a.hash h.range_at.result h.range_at.ensures n.read_u16-count.result n.read_u16-count.ensures
-    (sym h.holds_hash.ensures ∙ n.if-not-holds_hash.false) c.if-count-eq0.true
+    eq-eqb c.read_u16-count.result 0 c.if-count-eq0.true
+    ∙ takes_whole c.args.s.now c.args.p c.args.hash c.range_at.result c.range_at.ensures c.read_u16-count.result c.read_u16-count.ensures
+    (sym c.holds_hash.ensures ∙ c.if-not-holds_hash.false) c.if-count-eq0.true
 
 pub bucket_holds-requires : goal.bucket_holds-requires
 bucket_holds-requires c =
-    let n = c in
-    let a = n.args in
-    omega (arith, counted-size a.s.now a.p n.read_u16-count.result n.read_u16-count.ensures)
+    omega (arith, counted-size c.args.s.now c.args.p c.read_u16-count.result c.read_u16-count.ensures)
 
-pub returns : goal.returns
-returns c =
-    let n = c in
-    let h = n in
-    let a = h.args in
+pub returns-else-count-eq0 : goal.returns-else-count-eq0
+returns-else-count-eq0 c =
     c.bucket_holds.ensures
-    ∙ takes-bucketed a.s.now a.p a.hash h.range_at.result h.range_at.ensures n.read_u16-count.result n.read_u16-count.ensures
-    (sym h.holds_hash.ensures ∙ n.if-not-holds_hash.false) c.if-count-eq0.false
+    ∙ takes-bucketed c.args.s.now c.args.p c.args.hash c.range_at.result c.range_at.ensures c.read_u16-count.result c.read_u16-count.ensures
+    (sym c.holds_hash.ensures ∙ c.if-not-holds_hash.false) c.if-count-eq0.false
