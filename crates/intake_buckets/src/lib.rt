@@ -30,17 +30,13 @@ fn load_row(p: &[u8], at: usize) -> Loaded
     let mut count: usize = 0;
     let mut next = at;
     while count < ROW {
-        match wire_values::next_part(p, next, 5) {
-            None => {
-                return Loaded { row, count, next };
-            }
-            Some((start, len, after)) => {
-                let r = intake_scan::read_bucket(&p[start..start + len]);
-                row[count] = intake_scan::key_range_of(r);
-                count = count + 1;
-                next = after;
-            }
-        }
+        let Some((start, len, after)) = wire_values::next_part(p, next, 5) else {
+            return Loaded { row, count, next };
+        };
+        let r = intake_scan::read_bucket(&p[start..start + len]);
+        row[count] = intake_scan::key_range_of(r);
+        count += 1;
+        next = after;
     }
     Loaded { row, count, next }
 }
@@ -54,41 +50,30 @@ pub fn buckets_overlap(p: &[u8]) -> bool
     let mut at: usize = 0;
     loop {
         let loaded = load_row(p, at);
-        let count = loaded.count;
-        let row = loaded.row;
-        if ranges_marks::mark_first(row, count, &mut words) {
+        if ranges_marks::mark_first(loaded.row, loaded.count, &mut words) {
             return true;
         }
-        if count < ROW {
+        if loaded.count < ROW {
             return false;
         }
         at = loaded.next;
     }
 }
 
-// The first bucket of the segment p that lies not wholly inside the range.
+// The first bucket of the segment p that lies not wholly inside the range: its place among the segment's buckets.
 pub fn first_outside(p: &[u8], range: KeyRange) -> Option<usize>
     ensures { result ≡ outside_of (first_outside range 0 (buckets_from p.now 0)) }
 {
     let mut index: usize = 0;
     let mut at: usize = 0;
     loop {
-        match wire_values::next_part(p, at, 5) {
-            None => {
-                return None;
-            }
-            Some((start, len, after)) => {
-                let r = intake_scan::read_bucket(&p[start..start + len]);
-                let bucket = intake_scan::key_range_of(r);
-                if bucket.start < range.start {
-                    return Some(index);
-                }
-                if range.end < bucket.end {
-                    return Some(index);
-                }
-                index = index + 1;
-                at = after;
-            }
+        let (start, len, after) = wire_values::next_part(p, at, 5)?;
+        let r = intake_scan::read_bucket(&p[start..start + len]);
+        let bucket = intake_scan::key_range_of(r);
+        if bucket.start < range.start || range.end < bucket.end {
+            return Some(index);
         }
+        index += 1;
+        at = after;
     }
 }

@@ -19,6 +19,7 @@ use Rattle.packed.specs.Assignment.{assignment_head, bucket_size, AssignedSegmen
 use Rattle.packed.specs.Fit.{FitRanges, FitSegment, FitSegments}
 use Rattle.keyed.specs.Each.{Each}
 use Rattle.intake_content.specs.Passing.{Passing}
+use Rattle.intake_ordered.specs.declared.Head.{Head}
 use Rattle.writer_message.specs.WireRows.{numbered, parted, part_row, wire_range, wire_segment}
 
 -- ---- a segment's buckets
@@ -59,8 +60,8 @@ pub record HeadRow (p : List ℕ) (id start end from to : ℕ) : Type 0 where
   pub ordered : from ≤ to
   pub within : to ≤ length p
 
-abbrev pub HeadIs : List ℕ → Option (ℕ × ℕ × ℕ × ℕ × ℕ) → Type 0
-HeadIs p (Some (id, start, end, from, to)) = HeadRow p id start end from to
+abbrev pub HeadIs : List ℕ → Option Head → Type 0
+HeadIs p (Some h) = HeadRow p h.id h.start h.end h.from h.to
 HeadIs p None = Unit {0}
 
 -- the part p says a segment that passes, and its record, written from a place on, ends at the place to

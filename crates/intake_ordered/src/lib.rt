@@ -4,7 +4,7 @@
 // more than one byte, a fault of any kind, an id that comes twice, buckets that share a value or lie outside their segment's range, an assignment that does not fit.
 #![tactic(auto)]
 
-ghost use Rattle.std.specs.Prelude.{◌≡◌, true, ◌&&◌, ◌||◌, ◌++◌, ◌+◌, ◌*◌, ◌≤◌, ◌<◌, length, drop};
+ghost use Rattle.std.specs.Prelude.{◌≡◌, true, ◌||◌, ◌++◌, ◌+◌, ◌*◌, ◌≤◌, ◌<◌, length, drop};
 ghost use Rattle.slice_int.specs.Be.{bytes_of};
 ghost use Rattle.slice_int.specs.Put.{put};
 ghost use Rattle.utf8.specs.Table.{is_utf8};
@@ -18,14 +18,18 @@ use name_parents::SCHEME;
 use packed::{BUCKET, RECORD_HEAD};
 use topic_types::{KeyRange, SegmentId};
 
-fn and(a: bool, b: bool) -> bool
-    ensures { result ≡ (a && b) }
-{
-    if a { b } else { false }
+// What stands before a segment's buckets: its id, its range's start and end, and where its topic starts and ends.
+#[derive(Clone, Copy)]
+struct Head {
+    id: u64,
+    start: u64,
+    end: u64,
+    from: usize,
+    to: usize,
 }
 
 // The buckets of the segment p from the place first on, which lie between the lowest and the highest value of its range, in whatever order, written to b
-// from a place on as they come.
+// from a place on as they come: the place behind them, and whether they rise.
 fn take_buckets(
     p: &[u8],
     first: usize,
@@ -42,23 +46,15 @@ fn take_buckets(
     let mut to = place;
     let mut rising = true;
     while at < p.len() {
-        let Some((start, end, next)) = intake_ordered_bucket::bucket_at(p, at) else {
-            return None;
-        };
-        if start < lowest {
-            return None;
-        }
-        if highest < end {
-            return None;
-        }
-        if b.len() - to < BUCKET {
+        let (start, end, next) = intake_ordered_bucket::bucket_at(p, at)?;
+        if start < lowest || highest < end || b.len() - to < BUCKET {
             return None;
         }
         slice_int::write_u32(b, to, (start * 65536 + end) as u32);
-        rising = and(rising, low <= start);
+        rising &= low <= start;
         at = next;
         low = end + 1;
-        to = to + BUCKET;
+        to += BUCKET;
     }
     Some((to, rising))
 }
@@ -68,36 +64,27 @@ fn buckets_apart(b: &[u8], place: usize, n: usize, rising: bool) -> bool
     requires { place + bucket_size * n ≤ length b.now }
     ensures { result ≡ (rising || ok_buckets (decode_ranges n (drop place b.now))) }
 {
-    if rising {
-        true
-    } else {
-        packed::buckets_ok(b, place, n)
-    }
+    rising || packed::buckets_ok(b, place, n)
 }
 
 // Fields 1 to 4 of the segment p.
-fn head_of(p: &[u8]) -> Option<(u64, u64, u64, usize, usize)>
+fn head_of(p: &[u8]) -> Option<Head>
     ensures { HeadIs p.now result }
 {
-    let Some((id, second)) = wire_ordered::number_at(1, p, 0) else {
-        return None;
-    };
-    let Some((start, third)) = wire_ordered::number_at(2, p, second) else {
-        return None;
-    };
-    let Some((end, fourth)) = wire_ordered::number_at(3, p, third) else {
-        return None;
-    };
-    let Some((from, to)) = wire_ordered::part_at(4, p, fourth) else {
-        return None;
-    };
-    if end < start {
+    let (id, second) = wire_ordered::number_at(1, p, 0)?;
+    let (start, third) = wire_ordered::number_at(2, p, second)?;
+    let (end, fourth) = wire_ordered::number_at(3, p, third)?;
+    let (from, to) = wire_ordered::part_at(4, p, fourth)?;
+    if end < start || MAX_HASH < end {
         return None;
     }
-    if MAX_HASH < end {
-        return None;
-    }
-    Some((id, start, end, from, to))
+    Some(Head {
+        id,
+        start,
+        end,
+        from,
+        to,
+    })
 }
 
 // Writes the head of a record: id, range, and count of buckets.
@@ -111,15 +98,19 @@ fn write_head(b: &mut [u8], at: usize, id: u64, start: u64, end: u64, count: usi
     slice_int::write_u16(b, at + packed::RECORD_COUNT, count as u16);
 }
 
-// The segment in the part p, its record written behind the used bytes.
+// The segment in the part p, its record written behind the used bytes: its id, and the place behind its record.
 fn take_segment(p: &[u8], parent: &[u8], b: &mut [u8], used: usize) -> Option<(u64, usize)>
     requires parent_value { (is_parent parent.now ≡ true) × (is_utf8 parent.now ≡ true) }
     requires b_len { (length b.old ≡ slot_size) × (used ≤ slot_size) }
     ensures { SegmentIs parent.now p.now b.old used b.new result }
 {
-    let Some((id, start, end, from, to)) = head_of(p) else {
-        return None;
-    };
+    let Head {
+        id,
+        start,
+        end,
+        from,
+        to,
+    } = head_of(p)?;
     let range = KeyRange {
         start: start as u32,
         end: end as u32,
@@ -131,9 +122,7 @@ fn take_segment(p: &[u8], parent: &[u8], b: &mut [u8], used: usize) -> Option<(u
         return None;
     }
     let place = used + RECORD_HEAD;
-    let Some((last, rising)) = take_buckets(p, to, start, end, b, place) else {
-        return None;
-    };
+    let (last, rising) = take_buckets(p, to, start, end, b, place)?;
     let count = (last - place) / BUCKET;
     if !buckets_apart(b, place, count, rising) {
         return None;
@@ -142,7 +131,8 @@ fn take_segment(p: &[u8], parent: &[u8], b: &mut [u8], used: usize) -> Option<(u
     Some((id, last))
 }
 
-// The segments of the assignment s from the place first on, in whatever order, their records written from the place 10 on as they come.
+// The segments of the assignment s from the place first on, in whatever order, their records written from the place 10 on as they come: how many there
+// are, the place behind their records, and whether their ids rise.
 fn take_segments(
     s: &[u8],
     first: usize,
@@ -159,26 +149,23 @@ fn take_segments(
     let mut count: usize = 0;
     let mut rising = true;
     while at < s.len() {
-        let Some((from, next)) = wire_ordered::part_at(2, s, at) else {
-            return None;
-        };
-        let Some((id, last)) = take_segment(&s[from..next], parent, b, used) else {
-            return None;
-        };
+        let (from, next) = wire_ordered::part_at(2, s, at)?;
+        let (id, last) = take_segment(&s[from..next], parent, b, used)?;
         // No id is above the highest.
         if id == u64::MAX {
             return None;
         }
-        rising = and(rising, low <= id);
+        rising &= low <= id;
         at = next;
         low = id + 1;
         used = last;
-        count = count + 1;
+        count += 1;
     }
     Some((count, used, rising))
 }
 
-// The assignment in the part s below a parent, packed at the front of the buffer. What the buffer holds where nothing is told is free.
+// The assignment in the part s below a parent, packed at the front of the buffer: its epoch, and the packed assignment's size. What the buffer holds where
+// nothing is told is free.
 pub fn take_ordered(s: &[u8], parent: &[u8], b: &mut [u8]) -> Option<(u64, usize)>
     requires b_len { length b.old ≡ slot_size }
     requires parent_value { is_utf8 parent.now ≡ true }
@@ -187,12 +174,8 @@ pub fn take_ordered(s: &[u8], parent: &[u8], b: &mut [u8]) -> Option<(u64, usize
     if !name_topic::is_parent(parent) {
         return None;
     }
-    let Some((epoch, first)) = wire_ordered::number_at(1, s, 0) else {
-        return None;
-    };
-    let Some((count, used, rising)) = take_segments(s, first, parent, b) else {
-        return None;
-    };
+    let (epoch, first) = wire_ordered::number_at(1, s, 0)?;
+    let (count, used, rising) = take_segments(s, first, parent, b)?;
     if !packed_sort::order_records(b, count, rising) {
         return None;
     }

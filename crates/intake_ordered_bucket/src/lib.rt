@@ -17,25 +17,18 @@ const WIDE: usize = 10;
 fn range_of(start: u64, end: u64) -> Option<(u64, u64)>
     ensures { RangeOf start end result }
 {
-    if end < start {
-        return None;
-    }
-    if MAX_HASH < end {
+    if end < start || MAX_HASH < end {
         return None;
     }
     Some((start, end))
 }
 
-// The range that the part is: fields 1 and 2, and nothing else.
+// The range that the part is, its start and its end: fields 1 and 2, and nothing else.
 fn range_in(q: &[u8]) -> Option<(u64, u64)>
     ensures { RangeIs q.now result }
 {
-    let Some((start, second)) = wire_ordered::number_at(1, q, 0) else {
-        return None;
-    };
-    let Some((end, behind)) = wire_ordered::number_at(2, q, second) else {
-        return None;
-    };
+    let (start, second) = wire_ordered::number_at(1, q, 0)?;
+    let (end, behind) = wire_ordered::number_at(2, q, second)?;
     if behind != q.len() {
         return None;
     }
@@ -46,10 +39,7 @@ fn range_in(q: &[u8]) -> Option<(u64, u64)>
 fn bucket_word(p: &[u8], at: usize) -> u64
     ensures { 0 < result → WordIs p.now at result }
 {
-    if p.len() < WIDE {
-        return 0;
-    }
-    if p.len() - WIDE < at {
+    if p.len() < WIDE || p.len() - WIDE < at {
         return 0;
     }
     slice_int::read_u64(p, at + 2)
@@ -60,34 +50,17 @@ fn wide_bucket(p: &[u8], at: usize) -> Option<(u64, u64)>
     ensures { WideIs p.now at result }
 {
     let w = bucket_word(p, at);
-    if w / 72057594037927936 != 8 {
-        return None;
-    }
-    if w / 16777216 % 256 != 16 {
-        return None;
-    }
-    if w / 36028797018963968 % 2 != 1 {
-        return None;
-    }
-    if w / 140737488355328 % 2 != 1 {
-        return None;
-    }
-    if w / 549755813888 % 2 != 0 {
-        return None;
-    }
-    if w / 8388608 % 2 != 1 {
-        return None;
-    }
-    if w / 32768 % 2 != 1 {
-        return None;
-    }
-    if w / 128 % 2 != 0 {
-        return None;
-    }
-    if p[at] != 42 {
-        return None;
-    }
-    if p[at + 1] != 8 {
+    if w / 72057594037927936 != 8
+        || w / 16777216 % 256 != 16
+        || w / 36028797018963968 % 2 != 1
+        || w / 140737488355328 % 2 != 1
+        || w / 549755813888 % 2 != 0
+        || w / 8388608 % 2 != 1
+        || w / 32768 % 2 != 1
+        || w / 128 % 2 != 0
+        || p[at] != 42
+        || p[at + 1] != 8
+    {
         return None;
     }
     let start = w / 281474976710656 % 128
@@ -97,18 +70,14 @@ fn wide_bucket(p: &[u8], at: usize) -> Option<(u64, u64)>
     range_of(start, end)
 }
 
-// The bucket of the segment p at a place.
+// The bucket of the segment p at a place: its start and its end, and the place behind its field.
 pub fn bucket_at(p: &[u8], at: usize) -> Option<(u64, u64, usize)>
     ensures { BucketIs p.now at result }
 {
     if let Some((start, end)) = wide_bucket(p, at) {
         return Some((start, end, at + WIDE));
     }
-    let Some((from, next)) = wire_ordered::part_at(5, p, at) else {
-        return None;
-    };
-    let Some((start, end)) = range_in(&p[from..next]) else {
-        return None;
-    };
+    let (from, next) = wire_ordered::part_at(5, p, at)?;
+    let (start, end) = range_in(&p[from..next])?;
     Some((start, end, next))
 }

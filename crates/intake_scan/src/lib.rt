@@ -40,20 +40,14 @@ pub struct SegmentScan {
 pub fn read_bucket(p: &[u8]) -> IntRange
     ensures { result ≡ int_range_of p.now }
 {
-    if p.len() < 4 {
-        return wire_readers::read_range(p);
-    }
-    if p[0] != 8 {
+    if p.len() < 4 || p[0] != 8 {
         return wire_readers::read_range(p);
     }
     let Some((start, m)) = wire::read_short_varint(&p[1..]) else {
         return wire_readers::read_range(p);
     };
     let second = 1 + m;
-    if p.len() <= second {
-        return wire_readers::read_range(p);
-    }
-    if p[second] != 16 {
+    if p.len() <= second || p[second] != 16 {
         return wire_readers::read_range(p);
     }
     let third = second + 1;
@@ -63,9 +57,10 @@ pub fn read_bucket(p: &[u8]) -> IntRange
     if third + n != p.len() {
         return wire_readers::read_range(p);
     }
-    let a = wire_values::int32(start);
-    let b = wire_values::int32(end);
-    IntRange { start: a, end: b }
+    IntRange {
+        start: wire_values::int32(start),
+        end: wire_values::int32(end),
+    }
 }
 
 // The range lies in the key space and is not reversed.
@@ -92,15 +87,10 @@ fn magnitude_of(v: i32) -> u32
 pub fn key_range_of(r: IntRange) -> KeyRange
     ensures { result ≡ bucket_of r }
 {
-    let start = magnitude_of(r.start);
-    let end = magnitude_of(r.end);
-    KeyRange { start, end }
-}
-
-fn and(a: bool, b: bool) -> bool
-    ensures { result ≡ (a && b) }
-{
-    if a { b } else { false }
+    KeyRange {
+        start: magnitude_of(r.start),
+        end: magnitude_of(r.end),
+    }
 }
 
 // Writes a range as in a packed assignment.
@@ -133,28 +123,21 @@ fn next_bucket(run: BucketRun, r: IntRange, b: &mut [u8], at: usize, room: usize
     if !run.valid {
         return run;
     }
-    let count = run.count;
-    let above = run.above;
-    let rising = run.rising;
     if !is_bucket(r) {
         return BucketRun {
             valid: false,
-            count,
             last: r,
-            above,
-            rising,
+            ..run
         };
     }
     let range = key_range_of(r);
-    write_bucket(b, at, count, room, range);
-    let still = and(rising, above <= (range.start as u64));
-    let next = ranges::above(range);
+    write_bucket(b, at, run.count, room, range);
     BucketRun {
         valid: true,
-        count: count + 1,
+        count: run.count + 1,
         last: r,
-        above: next,
-        rising: still,
+        above: ranges::above(range),
+        rising: run.rising & (run.above <= range.start as u64),
     }
 }
 
@@ -162,11 +145,10 @@ fn next_bucket(run: BucketRun, r: IntRange, b: &mut [u8], at: usize, room: usize
 fn no_buckets() -> BucketRun
     ensures { result ≡ no_buckets }
 {
-    let last = IntRange { start: 0, end: 0 };
     BucketRun {
         valid: true,
         count: 0,
-        last,
+        last: IntRange { start: 0, end: 0 },
         above: 0,
         rising: true,
     }
@@ -199,7 +181,7 @@ pub fn scan_segment(p: &[u8], b: &mut [u8], at: usize) -> SegmentScan
                 if f < 4 {
                     numbers[f as usize] = v;
                 }
-                from = from + size;
+                from += size;
             }
             Some(Front::Part(f, start, len)) => {
                 let begin = from + start;
@@ -215,7 +197,7 @@ pub fn scan_segment(p: &[u8], b: &mut [u8], at: usize) -> SegmentScan
                 from = end;
             }
             Some(Front::Fixed(size)) => {
-                from = from + size;
+                from += size;
             }
         }
     }

@@ -56,10 +56,10 @@ fn check_inside(
         end: head.hash_end,
     };
     match intake_buckets::first_outside(p, range) {
-        Some(index) => {
-            let segment_id = SegmentId(head.segment_id);
-            Err(Refusal::BucketOutsideSegment { segment_id, index })
-        }
+        Some(index) => Err(Refusal::BucketOutsideSegment {
+            segment_id: SegmentId(head.segment_id),
+            index,
+        }),
         None => check_name(p, parent, parent_valid, head),
     }
 }
@@ -81,21 +81,17 @@ fn check_buckets(
     let run = scan.run;
     let segment_id = SegmentId(head.segment_id);
     if !run.valid {
-        let last = run.last;
         return Err(Refusal::InvalidBucketRange {
             segment_id,
             index: run.count,
-            start: last.start,
-            end: last.end,
+            start: run.last.start,
+            end: run.last.end,
         });
     }
     if run.count == 0 {
         return check_name(p, parent, parent_valid, head);
     }
-    if run.rising {
-        return check_inside(p, parent, parent_valid, head);
-    }
-    if intake_buckets::buckets_overlap(p) {
+    if !run.rising && intake_buckets::buckets_overlap(p) {
         return Err(Refusal::OverlappingBucketRanges { segment_id });
     }
     check_inside(p, parent, parent_valid, head)
@@ -114,10 +110,10 @@ pub fn check_segment(
 {
     let head = scan.head;
     match KeyRange::new(head.hash_start, head.hash_end) {
-        Err(source) => {
-            let segment_id = SegmentId(head.segment_id);
-            Err(Refusal::InvalidRange { segment_id, source })
-        }
+        Err(source) => Err(Refusal::InvalidRange {
+            segment_id: SegmentId(head.segment_id),
+            source,
+        }),
         Ok(_) => check_buckets(p, parent, parent_valid, scan),
     }
 }

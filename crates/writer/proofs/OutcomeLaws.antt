@@ -1,10 +1,10 @@
 -- What the writers answer.
 --
--- In order: a name that fits (`name-written`, `name-refused`); a message that does not fit (`message-no-head`, `message-beyond`), and one
+-- In order: what `ok_or` answers (`due-none`, `due-some`); a name that fits (`name-written`, `name-refused`); a message that does not fit (`message-no-head`, `message-beyond`), and one
 -- that does (`Fits`: `message-room`, `message-written`); the message of a packed assignment (`whole-message`);
 -- the cases of `write_outcome` (`write-malformed`, `write-empty`, `write-not-utf8`, `write-no-parent`, `write-below`).
 -- Assumes nothing.
-use Rattle.std.specs.Prelude.{Option, Some, None, Result, Ok, Err}
+use Rattle.std.specs.Prelude.{Option, Some, None, Result, Ok, Err, ok_or}
 use Prim.Native.Nat.{ℕ, ◌+◌, ◌-◌, ◌≤◌, ◌<◌}
 use native.Mathlib.Nat.{not-suc-le-zero}
 use native.Mathlib.Omega.{arith}
@@ -29,6 +29,17 @@ use Rattle.packed.proofs.WholeLaws.{Whole, not-assignment}
 use Rattle.writer_message.specs.Message.{segment_fields, assignment_message}
 use Rattle.intake_content.specs.Content.{outside_in}
 use Rattle.writer.specs.Write.{with_parent, write_outcome, held_of, room_of}
+
+-- ---- what `ok_or` answers
+
+module _ {A : Type 0} where
+  pub due-none : (o : Option A) (due x : Refusal) → ok_or o due ≡ Err x → (o ≡ None) × (x ≡ due)
+  due-none None due x e = (refl, cc)
+  due-none (Some v) due x e = absurd (let z : ◌≡◌ {A = ℕ} 0 1 = cc in omega arith)
+
+  pub due-some : (o : Option A) (due : Refusal) (v : A) → ok_or o due ≡ Ok v → o ≡ Some v
+  due-some None due v e = absurd (let z : ◌≡◌ {A = ℕ} 0 1 = cc in omega arith)
+  due-some (Some w) due v e = cc
 
 -- ---- a name that fits into o
 

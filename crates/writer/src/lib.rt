@@ -19,7 +19,7 @@ use name_parents::SCHEME;
 use refusal::Refusal;
 use topic_types::{KeyRange, SegmentId};
 
-// The first of the n buckets from a place on that lies not wholly inside the range.
+// The first of the n buckets from a place on that lies not wholly inside the range: its place among them.
 fn bucket_outside(s: &[u8], at: usize, n: usize, range: KeyRange) -> Option<usize>
     requires { at + bucket_size * n ≤ length s.now }
     ensures { result ≡ outside_of (first_outside range 0 (decode_ranges n (drop at s.now))) }
@@ -28,14 +28,11 @@ fn bucket_outside(s: &[u8], at: usize, n: usize, range: KeyRange) -> Option<usiz
     let mut p = at;
     while index < n {
         let bucket = packed::range_at(s, p);
-        if bucket.start < range.start {
+        if bucket.start < range.start || range.end < bucket.end {
             return Some(index);
         }
-        if range.end < bucket.end {
-            return Some(index);
-        }
-        p = p + packed::BUCKET;
-        index = index + 1;
+        p += packed::BUCKET;
+        index += 1;
     }
     None
 }
@@ -50,7 +47,7 @@ fn segment_outside(s: &[u8], p: usize) -> Option<usize>
     bucket_outside(s, p + packed::RECORD_HEAD, count, range)
 }
 
-// The same of the m segments from a place on, the lowest id first.
+// The same of the m segments from a place on, the lowest id first: 34 of the first bucket that lies not inside.
 fn segments_outside(s: &[u8], at: usize, m: usize) -> Result<(), Refusal>
     requires { Rest s.now at m }
     ensures { result ≡ held_of (outside_in (decode_segments m (drop at s.now))) }
@@ -62,8 +59,8 @@ fn segments_outside(s: &[u8], at: usize, m: usize) -> Result<(), Refusal>
             let segment_id = SegmentId(packed_records::id_at(s, p));
             return Err(Refusal::BucketOutsideSegment { segment_id, index });
         }
-        p = p + packed_records::size_at(s, p);
-        left = left - 1;
+        p += packed_records::size_at(s, p);
+        left -= 1;
     }
     Ok(())
 }
@@ -75,8 +72,8 @@ fn decimal_size(v: u64) -> usize
     let mut n: usize = 1;
     let mut rest = v;
     while 10 <= rest {
-        rest = rest / 10;
-        n = n + 1;
+        rest /= 10;
+        n += 1;
     }
     n
 }
@@ -107,8 +104,8 @@ fn buckets_size(s: &[u8], at: usize, n: usize) -> usize
     while 0 < left {
         let len = range_size(packed::range_at(s, p));
         size = size + wire_writer::part_head_size(5, len) + len;
-        p = p + packed::BUCKET;
-        left = left - 1;
+        p += packed::BUCKET;
+        left -= 1;
     }
     size
 }
@@ -129,7 +126,7 @@ fn segment_size(s: &[u8], p: usize, path: &[u8]) -> usize
     numbers + wire_writer::part_head_size(4, topic) + topic + buckets
 }
 
-// How many bytes the fields of the m segments from a place on have.
+// How many bytes the fields of the m segments from a place on have; None where they are more than the limit.
 fn segments_room(s: &[u8], at: usize, m: usize, path: &[u8], limit: usize) -> Option<usize>
     requires { Rest s.now at m }
     ensures { result ≡ room_of limit path.now (decode_segments m (drop at s.now)) }
@@ -143,9 +140,9 @@ fn segments_room(s: &[u8], at: usize, m: usize, path: &[u8], limit: usize) -> Op
         if limit - size < more {
             return None;
         }
-        size = size + more;
-        p = p + packed_records::size_at(s, p);
-        left = left - 1;
+        size += more;
+        p += packed_records::size_at(s, p);
+        left -= 1;
     }
     Some(size)
 }
@@ -165,8 +162,8 @@ fn write_buckets(s: &[u8], at: usize, n: usize, out: &mut [u8], to: usize) -> us
         next = wire_writer::write_part_head(out, next, 5, range_size(range));
         next = wire_writer::write_number(out, next, 1, range.start as u64);
         next = wire_writer::write_number(out, next, 2, range.end as u64);
-        p = p + packed::BUCKET;
-        left = left - 1;
+        p += packed::BUCKET;
+        left -= 1;
     }
     next
 }
@@ -215,8 +212,8 @@ fn write_segments(s: &[u8], at: usize, m: usize, path: &[u8], out: &mut [u8], to
         let len = segment_size(s, p, path);
         next = wire_writer::write_part_head(out, next, 2, len);
         next = write_segment(s, p, path, out, next);
-        p = p + packed_records::size_at(s, p);
-        left = left - 1;
+        p += packed_records::size_at(s, p);
+        left -= 1;
     }
     next
 }
@@ -231,9 +228,9 @@ fn write_message(s: &[u8], m: usize, path: &[u8], out: &mut [u8]) -> Result<usiz
     if out.len() < head {
         return Err(Refusal::ResultTooLong);
     }
-    let Some(size) = segments_room(s, packed::ASSIGNMENT_HEAD, m, path, out.len() - head) else {
-        return Err(Refusal::ResultTooLong);
-    };
+    let size = segments_room(s, packed::ASSIGNMENT_HEAD, m, path, out.len() - head).ok_or(
+        Refusal::ResultTooLong,
+    )?;
     let next = wire_writer::write_number(out, 0, 1, epoch);
     write_segments(s, packed::ASSIGNMENT_HEAD, m, path, out, next);
     Ok(head + size)
@@ -244,15 +241,11 @@ fn write_message(s: &[u8], m: usize, path: &[u8], out: &mut [u8]) -> Result<usiz
 pub fn to_pb(assignment: &[u8], parent: &[u8], out: &mut [u8]) -> Result<usize, Refusal>
     ensures { outcome result out.new ≡ write_outcome assignment.now parent.now out.old }
 {
-    let Some((_, count)) = packed::read_whole(assignment) else {
-        return Err(Refusal::MalformedInput);
-    };
+    let (_, count) = packed::read_whole(assignment).ok_or(Refusal::MalformedInput)?;
     if count == 0 {
         return write_message(assignment, 0, parent, out);
     }
-    if let Err(x) = segments_outside(assignment, packed::ASSIGNMENT_HEAD, count) {
-        return Err(x);
-    }
+    segments_outside(assignment, packed::ASSIGNMENT_HEAD, count)?;
     if !utf8::is_utf8(parent) {
         return Err(Refusal::InvalidUtf8);
     }

@@ -20,14 +20,14 @@ returns-then-mark_first c =
     marked-found c.load_row-loaded.ensures c.loop-words.invariant c.requires c.mark_first.ensures
     c.if-mark_first.true
 
-pub returns-then-count-lt-ROW : goal.returns-then-count-lt-ROW
-returns-then-count-lt-ROW c =
+pub returns-then-loaded-lt-ROW : goal.returns-then-loaded-lt-ROW
+returns-then-loaded-lt-ROW c =
     marked-last c.load_row-loaded.ensures c.loop-words.invariant c.requires c.mark_first.ensures c.if-mark_first.false
-    c.if-count-lt-ROW.true
+    c.if-loaded-lt-ROW.true
 
 pub loop-words-smaller : goal.loop-words-smaller
 loop-words-smaller c =
-    fewer c.load_row-loaded.ensures (λ e. omega (arith, c.if-count-lt-ROW.false))
+    fewer c.load_row-loaded.ensures (λ e. omega (arith, c.if-loaded-lt-ROW.false))
 
 pub loop-words-preserved : goal.loop-words-preserved
 loop-words-preserved c =

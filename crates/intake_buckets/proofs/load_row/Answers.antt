@@ -7,9 +7,9 @@ use Rattle.intake_buckets.proofs.load_row.Goals as goal
 pub loop-count-init : goal.loop-count-init
 loop-count-init c = loading-start _ _ _ refl
 
-pub returns-in-None : goal.returns-in-None
-returns-in-None c =
-    loaded-none c.loop-count.invariant (c.in-None.ensures)
+pub returns-in_default : goal.returns-in_default
+returns-in_default c =
+    loaded-none c.loop-count.invariant (c.in_default.ensures)
 
 pub overflow_add-start : goal.overflow_add-start
 overflow_add-start c = let q = c.in-Some.ensures in omega (arith, q.0, q.1, q.2)

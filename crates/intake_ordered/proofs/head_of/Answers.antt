@@ -4,7 +4,7 @@ use Rattle.intake_ordered.proofs.head_of.Goals as goal
 
 pub returns : goal.returns
 returns c =
-    head-row c.in-Some.ensures
-    c.in-Some-number_at.ensures
-    c.in-Some-number_at-2.ensures
-    c.in-Some-part_at.ensures c.if-end-start.false c.if-end-gt-MAX_HASH.false
+    head-row c.in_ok-id.ensures
+    c.in_ok-start.ensures
+    c.in_ok-end.ensures
+    c.in_ok-from.ensures c.if-end-start.false c.if-end-gt-MAX_HASH.false

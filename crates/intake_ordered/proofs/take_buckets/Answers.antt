@@ -13,16 +13,16 @@ use Rattle.intake_ordered.proofs.take_buckets.Goals as goal
 
 pub loop-at-preserved : goal.loop-at-preserved
 loop-at-preserved c =
-    let f = c.in-Some.ensures in
+    let f = c.in_ok-start.ensures in
     let loop = c.loop-at in
     let w = c.write_u32.ensures in
     let r : loop.to + 4 ≤ length loop.b = omega arith in
-    let n = length-bytes_of 4 (c.in-Some.start * 65536 + c.in-Some.end) in
+    let n = length-bytes_of 4 (c.in_ok-start.start * 65536 + c.in_ok-start.end) in
     let l : length c.write_u32.new.out ≡ length loop.b = ap length w ∙ length-put _ _ _ (omega arith) in (
       l ∙ loop.invariant.0,
       omega arith,
       omega (arith, f.range.high),
-      λ end after b' k. loop.invariant.3 end after b' (buckets-next _ _ _ _ _ _ _ f (omega arith) (omega arith) r w c.and-rising.ensures k),
+      λ end after b' k. loop.invariant.3 end after b' (buckets-next _ _ _ _ _ _ _ f (omega arith) (omega arith) r w refl k),
     )
 
 pub returns : goal.returns
@@ -32,16 +32,16 @@ pub loop-at-init : goal.loop-at-init
 loop-at-init c = (refl, search rules, omega arith, λ end after b' k. k)
 
 pub overflow_mul-start : goal.overflow_mul-start
-overflow_mul-start c = let h = c.in-Some.ensures in omega (arith, h.range.order, h.range.high)
+overflow_mul-start c = let h = c.in_ok-start.ensures in omega (arith, h.range.order, h.range.high)
 
 pub overflow_add-start : goal.overflow_add-start
-overflow_add-start c = let h = c.in-Some.ensures in omega (arith, h.range.order, h.range.high)
+overflow_add-start c = let h = c.in_ok-start.ensures in omega (arith, h.range.order, h.range.high)
 
 pub overflow_cast-start : goal.overflow_cast-start
-overflow_cast-start c = let h = c.in-Some.ensures in omega (arith, h.range.order, h.range.high)
+overflow_cast-start c = let h = c.in_ok-start.ensures in omega (arith, h.range.order, h.range.high)
 
 pub overflow_add-low : goal.overflow_add-low
-overflow_add-low c = let h = c.in-Some.ensures in omega (arith, h.range.high)
+overflow_add-low c = let h = c.in_ok-start.ensures in omega (arith, h.range.high)
 
 pub loop-at-smaller : goal.loop-at-smaller
-loop-at-smaller c = let h = c.in-Some.ensures in omega (arith, h.part.moved, h.part.within)
+loop-at-smaller c = let h = c.in_ok-start.ensures in omega (arith, h.part.moved, h.part.within)

@@ -3,7 +3,7 @@
 -- left. Assumes nothing.
 use Prim.Native.Nat.{◌+◌}
 use native.Mathlib.Omega.{arith}
-use mathlib.Core.Path.{◌∙◌}
+use mathlib.Core.Path.{refl, ◌∙◌}
 use Rattle.intake_ordered.proofs.TakeLaws.{segment-long, segment-kept, segments-count, segments-end, segments-next}
 use Rattle.intake_ordered.proofs.take_segments.Goals as goal
 
@@ -12,13 +12,13 @@ loop-at-init c = (c.requires.b_len, omega arith, omega arith, λ n to after b' k
 
 pub loop-at-preserved : goal.loop-at-preserved
 loop-at-preserved c =
-    let f = c.in-Some.ensures in
-    let q = c.in-Some.ensures in
+    let f = c.in_ok-from.ensures in
+    let q = c.in_ok-id.ensures in
     let i = c.loop-at.invariant in (
       segment-kept q ∙ i.0,
       omega (arith, q.room, i.0),
       omega (arith, i.2, segment-long q),
-      λ n to after b' k. segments-count (omega arith) (i.3 (n + 1) to after b' (segments-next _ _ _ _ _ f q c.and-rising.ensures k)),
+      λ n to after b' k. segments-count (omega arith) (i.3 (n + 1) to after b' (segments-next _ _ _ _ _ f q refl k)),
     )
 
 pub returns : goal.returns
@@ -27,13 +27,13 @@ returns c =
     segments-count (omega arith) (i.3 0 _ _ _ (segments-end _ _ _ _ _ _ _ c.loop-at-test.false (omega (arith, i.0, i.1))))
 
 pub slice_bounds-take_segment-count : goal.slice_bounds-take_segment-count
-slice_bounds-take_segment-count c = let h = c.in-Some.ensures in omega arith
+slice_bounds-take_segment-count c = let h = c.in_ok-from.ensures in omega arith
 
 pub slice_bounds-take_segment-start : goal.slice_bounds-take_segment-start
-slice_bounds-take_segment-start c = let h = c.in-Some.ensures in omega arith
+slice_bounds-take_segment-start c = let h = c.in_ok-from.ensures in omega arith
 
 pub slice_bounds-take_segment-end : goal.slice_bounds-take_segment-end
-slice_bounds-take_segment-end c = let h = c.in-Some.ensures in omega arith
+slice_bounds-take_segment-end c = let h = c.in_ok-from.ensures in omega arith
 
 pub loop-at-smaller : goal.loop-at-smaller
-loop-at-smaller c = let h = c.in-Some.ensures in omega arith
+loop-at-smaller c = let h = c.in_ok-from.ensures in omega arith

@@ -8,19 +8,19 @@ returns-in-Some c = c.in-Some.ensures
 pub returns : goal.returns
 returns c =
     record {
-      from = c.in-Some-part_at.from;
-      part = c.in-Some-part_at.ensures;
-      range = c.in-Some-range_in.ensures;
+      from = c.in_ok-from.from;
+      part = c.in_ok-from.ensures;
+      range = c.in_ok-start.ensures;
     }
 
 pub overflow_add-result : goal.overflow_add-result
 overflow_add-result c = let h = c.in-Some.ensures in omega (arith, h.part.within)
 
 pub slice_bounds-range_in-count : goal.slice_bounds-range_in-count
-slice_bounds-range_in-count c = let h = c.in-Some-part_at.ensures in omega arith
+slice_bounds-range_in-count c = let h = c.in_ok-from.ensures in omega arith
 
 pub slice_bounds-range_in-start : goal.slice_bounds-range_in-start
-slice_bounds-range_in-start c = let h = c.in-Some-part_at.ensures in omega arith
+slice_bounds-range_in-start c = let h = c.in_ok-from.ensures in omega arith
 
 pub slice_bounds-range_in-end : goal.slice_bounds-range_in-end
-slice_bounds-range_in-end c = let h = c.in-Some-part_at.ensures in omega arith
+slice_bounds-range_in-end c = let h = c.in_ok-from.ensures in omega arith

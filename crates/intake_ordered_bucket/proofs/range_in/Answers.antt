@@ -4,6 +4,6 @@ use Rattle.intake_ordered_bucket.proofs.range_in.Goals as goal
 
 pub returns : goal.returns
 returns c =
-    range-told c.range_of.result c.range_of.ensures (range-row c.in-Some.ensures
-    c.in-Some-number_at.ensures
+    range-told c.range_of.result c.range_of.ensures (range-row c.in_ok-start.ensures
+    c.in_ok-end.ensures
     c.if-behind-q.false)

@@ -17,5 +17,5 @@ bounds-p-at c = let h : WordIs c.args.p.now c.args.at c.bucket_word-w.result = c
 pub overflow_add-at : goal.overflow_add-at
 overflow_add-at c = let h : WordIs c.args.p.now c.args.at c.bucket_word-w.result = c.bucket_word-w.ensures (omega (arith, c.if-w-ne8.false)) in omega (arith, h.within)
 
-pub bounds-p-at-2 : goal.bounds-p-at-2
-bounds-p-at-2 c = let h : WordIs c.args.p.now c.args.at c.bucket_word-w.result = c.bucket_word-w.ensures (omega (arith, c.if-w-ne8.false)) in omega (arith, h.within)
+pub bounds-p-at-else-p-at-ne42 : goal.bounds-p-at-else-p-at-ne42
+bounds-p-at-else-p-at-ne42 c = let h : WordIs c.args.p.now c.args.at c.bucket_word-w.result = c.bucket_word-w.ensures (omega (arith, c.if-w-ne8.false)) in omega (arith, h.within)

@@ -10,4 +10,4 @@ returns c =
     let r = c.args.r in
     let a : to_z w32 (of_z w32 r.start) ≡ r.start = search rules in
     let b : to_z w32 (of_z w32 r.end) ≡ r.end = search rules in
-    rw (c.magnitude_of-start.ensures, c.magnitude_of-end.ensures, a, b)
+    rw (c.magnitude_of.ensures, c.magnitude_of-2.ensures, a, b)

@@ -34,6 +34,6 @@ returns c =
     let g : a.run.valid ≡ true = not-false _ c.if-not-run.false in
     let o : bucket_ok a.r ≡ true = sym c.is_bucket.ensures ∙ c.if-not-is_bucket.false in
     let k = c.key_range_of-range.ensures in (
-      rw (c.above-next.ensures, c.and-still.ensures, k) (sym (bucket-valid a.run a.r g o)),
+      rw (c.above.ensures, k) (sym (bucket-valid a.run a.r g o)),
       rw (g, o) (rw k at c.write_bucket.ensures),
     )

@@ -11,10 +11,10 @@ use Rattle.intake_scan.proofs.read_bucket.Goals as goal
 
 pub returns : goal.returns
 returns c =
-    let a : to_z w32 (of_z w32 c.int32-a.result) ≡ c.int32-a.result = search rules in
-    let b : to_z w32 (of_z w32 c.int32-b.result) ≡ c.int32-b.result = search rules in
+    let a : to_z w32 (of_z w32 c.int32.result) ≡ c.int32.result = search rules in
+    let b : to_z w32 (of_z w32 c.int32-2.result) ≡ c.int32-2.result = search rules in
     let h = c.if-p-lt4.false in
-    rw (a, b, c.int32-a.ensures, c.int32-b.ensures)
+    rw (a, b, c.int32.ensures, c.int32-2.ensures)
     (usual-range (omega arith) c.if-p-ne8.false (varint-at _ _ _ _ (sym c.read_short_varint.ensures ∙ c.in-Some.is)) c.if-p-second.false c.if-p-second-ne16.false (varint-at _ _ _ _ (sym c.read_short_varint-2.ensures ∙ c.in-Some-read_short_varint.is))
     c.if-third-n.false)
 

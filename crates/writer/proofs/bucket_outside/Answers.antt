@@ -2,6 +2,7 @@
 -- Assumes nothing.
 use native.Mathlib.Omega.{arith}
 use Rattle.writer.proofs.OutsideLaws.{within-start, within_low, within-high, within-next, within_end}
+use Rattle.writer.proofs.bucket_outside.Goals.{then-bucket-range-via-then-bucket-range, then-bucket-range-via-else-bucket-range+then-range-bucket}
 use Rattle.writer.proofs.bucket_outside.Goals as goal
 
 pub loop-index-init : goal.loop-index-init
@@ -12,11 +13,12 @@ range_at-bucket-requires c = omega (arith, c.loop-index.invariant.place, c.loop-
 
 pub returns-then-bucket-range : goal.returns-then-bucket-range
 returns-then-bucket-range c =
-    within_low c.loop-index.invariant c.loop-index-test.true c.range_at-bucket.ensures c.if-bucket-range.true
-
-pub returns-then-range-bucket : goal.returns-then-range-bucket
-returns-then-range-bucket c =
-    within-high c.loop-index.invariant c.loop-index-test.true c.range_at-bucket.ensures c.if-bucket-range.false c.if-range-bucket.true
+    elim c.then-bucket-range.branch [
+      | then-bucket-range-via-then-bucket-range w ↦
+          within_low c.loop-index.invariant c.loop-index-test.true c.range_at-bucket.ensures w.if-bucket-range.true
+      | then-bucket-range-via-else-bucket-range+then-range-bucket w ↦
+          within-high c.loop-index.invariant c.loop-index-test.true c.range_at-bucket.ensures w.if-bucket-range.false w.if-range-bucket.true
+    ]
 
 pub overflow_add-p : goal.overflow_add-p
 overflow_add-p c =

@@ -13,7 +13,8 @@ use Rattle.packed.specs.Assignment.{AssignedSegment, num, decode_segments}
 use Rattle.writer_message.specs.Message.{segment_fields}
 use Rattle.writer.specs.Write.{room_of}
 use Rattle.writer.proofs.WritingLaws.{Writing, writing_start, writing-as, writing-room, writing-next, writing-end}
-use Rattle.writer.proofs.OutcomeLaws.{message-no-head, message-beyond, Fits, message-room, message-written}
+use Rattle.std.proofs.lemmas.Result.{err_from_is_err_and}
+use Rattle.writer.proofs.OutcomeLaws.{due-none, due-some, message-no-head, message-beyond, Fits, message-room, message-written}
 use Rattle.writer.proofs.write_message.Goals as goal
 
 -- the epoch's field, the segments, and their fields
@@ -56,29 +57,31 @@ returns-then-out-head c =
     let head = head-is s c.read_u64-epoch.result c.number_size-head.result c.read_u64-epoch.ensures c.number_size-head.ensures in
     message-no-head a.path.now (segments a.m s) (epoch s) a.out.now (omega (arith, c.if-out-head.true, head))
 
-pub returns-in_default : goal.returns-in_default
-returns-in_default c =
+pub returns-in_err-size : goal.returns-in_err-size
+returns-in_err-size c =
     let a = c.args in
+    let p = err_from_is_err_and c.from_residual.result c.from_residual.ensures.1 in
+    let none = due-none _ _ _ (sym c.ok_or.ensures.value ∙ c.in_err-size.was) in
     let s = a.s.now in
     let head = head-is s c.read_u64-epoch.result c.number_size-head.result c.read_u64-epoch.ensures c.number_size-head.ensures in
-    message-beyond a.path.now (segments a.m s) (epoch s) a.out.now c.number_size-head.result head c.if-out-head.false
-    (sym c.in_default.is ∙ c.segments_room.ensures)
+    rw (p.1, p.2, none.1) (message-beyond a.path.now (segments a.m s) (epoch s) a.out.now c.number_size-head.result head c.if-out-head.false
+    (sym none.0 ∙ c.segments_room.ensures))
 
 pub write_segments-requires : goal.write_segments-requires
 write_segments-requires c =
     let a = c.args in
-    let room = sym c.in-Some.is ∙ c.segments_room.ensures in
+    let room = sym (due-some _ _ _ (sym c.ok_or.ensures.value ∙ c.in_ok-size.was)) ∙ c.segments_room.ensures in
     record {
       rest = c.requires;
-      s_in_bounds = writing-room (wrote-epoch a.m a.s.now a.path.now a.out.now c.read_u64-epoch.result c.number_size-head.result c.in-Some.size
+      s_in_bounds = writing-room (wrote-epoch a.m a.s.now a.path.now a.out.now c.read_u64-epoch.result c.number_size-head.result c.in_ok-size.size
           c.read_u64-epoch.ensures c.number_size-head.ensures c.if-out-head.false room c.write_number-next.new.out c.write_number-next.result c.write_number-next.ensures);
     }
 
 pub overflow_add-result : goal.overflow_add-result
 overflow_add-result c =
     let a = c.args in
-    let room = sym c.in-Some.is ∙ c.segments_room.ensures in
-    let fits = message-fits a.m a.s.now a.path.now a.out.now c.read_u64-epoch.result c.number_size-head.result c.in-Some.size
+    let room = sym (due-some _ _ _ (sym c.ok_or.ensures.value ∙ c.in_ok-size.was)) ∙ c.segments_room.ensures in
+    let fits = message-fits a.m a.s.now a.path.now a.out.now c.read_u64-epoch.result c.number_size-head.result c.in_ok-size.size
     c.read_u64-epoch.ensures c.number_size-head.ensures c.if-out-head.false room in
     omega (arith, c.well_formed, fits.size)
 
@@ -86,10 +89,10 @@ pub returns : goal.returns
 returns c =
     let a = c.args in
     let s = a.s.now in
-    let room = sym c.in-Some.is ∙ c.segments_room.ensures in
-    let fits = message-fits a.m s a.path.now a.out.now c.read_u64-epoch.result c.number_size-head.result c.in-Some.size
+    let room = sym (due-some _ _ _ (sym c.ok_or.ensures.value ∙ c.in_ok-size.was)) ∙ c.segments_room.ensures in
+    let fits = message-fits a.m s a.path.now a.out.now c.read_u64-epoch.result c.number_size-head.result c.in_ok-size.size
     c.read_u64-epoch.ensures c.number_size-head.ensures c.if-out-head.false room in
-    let first = wrote-epoch a.m s a.path.now a.out.now c.read_u64-epoch.result c.number_size-head.result c.in-Some.size
+    let first = wrote-epoch a.m s a.path.now a.out.now c.read_u64-epoch.result c.number_size-head.result c.in_ok-size.size
     c.read_u64-epoch.ensures c.number_size-head.ensures c.if-out-head.false room c.write_number-next.new.out c.write_number-next.result c.write_number-next.ensures in
     let wrote = (writing-end (writing-next first _ _ c.write_segments.ensures)).1 in
     message-written a.path.now (segments a.m s) (epoch s) a.out.now _ _ fits _ wrote
