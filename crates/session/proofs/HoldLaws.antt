@@ -94,7 +94,7 @@ event_with s c x =
     record {
       call = c;
       accepted = accepts x.reply;
-      None = is_unchanged x.reply;
+      none = is_unchanged x.reply;
       delta = handed x.reply;
       baseline = (after s x).baseline;
     }

@@ -90,7 +90,7 @@ value_event s c =
     record {
       call = c;
       accepted = accepts (result_of s c).reply;
-      None = is_unchanged (result_of s c).reply;
+      none = is_unchanged (result_of s c).reply;
       delta = handed (result_of s c).reply;
       baseline = (after s (result_of s c)).baseline;
     }

@@ -1,15 +1,15 @@
--- The readers' positions: at the start (`start-zero`), within a queue (`Within`: `within-start`, `within_more`, `within-moved`, `none-beyond`), tested one by one
--- from the last (`beyond-here`, `beyond-on`, `beyond-end`, `none_within`), and one of them moved (`moved-own`, `moved_other`).
+-- The readers' positions: at the start (`start-zero`), within a queue (`Within`: `within-start`, `within_more`, `within-moved`, `none-beyond`), the first of them
+-- tested (`none_upto`, `some-beyond`, `none_within`), and one of them moved (`moved-own`, `moved_other`).
 -- Assumes nothing.
-use Prim.Native.Nat.{ℕ, zero, suc, ◌-◌, ◌≤◌, ◌<◌}
+use Prim.Native.Nat.{ℕ, zero, suc, ◌≤◌, ◌<◌}
 use native.Mathlib.Omega.{arith}
-use mathlib.Core.Path.{◌≡◌, refl, ap, ◌∙◌}
+use mathlib.Core.Path.{◌≡◌, refl, ap}
 use mathlib.Core.Logic.{◌≢◌}
 use mathlib.Core.Bool.{Bool, true, false, ◌||◌, true≢false}
 use mathlib.Core.List.{List, [], ◌∷◌}
 use lib.ListN.{length, get_or, set, replicate}
 use lib.Dec.{ltb, eqb}
-use borrow.Author.Tests.{le-ltb, lt-ltb, ltb-false, eqb-true, eqb-false}
+use borrow.Author.Tests.{le-ltb, ltb-false, eqb-true, eqb-false}
 use Rattle.session.specs.Session.{at_start, any_beyond}
 
 zeros : (n k : ℕ) → ◌≡◌ {A = ℕ} (get_or (replicate n 0) k 0) 0
@@ -43,23 +43,26 @@ unfolding any_beyond
 none-beyond zero count ps w = refl
 none-beyond (suc n) count ps w = simp (le-ltb count (get_or ps n 0) (w n), none-beyond n count ps w)
 
--- ---- the first n are tested, the last of them first
+-- ---- the first n are tested
 
-beyond-step : (n count : ℕ) (ps : List ℕ) → 0 < n → any_beyond n count ps ≡ (ltb count (get_or ps (n - 1) 0) || any_beyond (n - 1) count ps)
+pub none_upto : (n count : ℕ) (ps : List ℕ) → ((k : ℕ) → k < n → get_or ps k 0 ≤ count) → any_beyond n count ps ≡ false
 unfolding any_beyond
-beyond-step zero count ps h = absurd (omega arith)
-beyond-step (suc n) count ps h = let e : suc n - 1 ≡ n = omega arith in rw e refl
+none_upto zero count ps w = refl
+none_upto (suc n) count ps w =
+    simp (le-ltb count (get_or ps n 0) (w n (omega arith)), none_upto n count ps (λ k h. w k (omega arith)))
 
-pub beyond-here : (n count : ℕ) (ps : List ℕ) → 0 < n → count < get_or ps (n - 1) 0 → any_beyond n count ps ≡ true
-beyond-here n count ps h k = beyond-step n count ps h ∙ simp (lt-ltb count (get_or ps (n - 1) 0) k)
-
-pub beyond-on : (n count : ℕ) (ps : List ℕ) → 0 < n → get_or ps (n - 1) 0 ≤ count → any_beyond n count ps ≡ any_beyond (n - 1) count ps
-beyond-on n count ps h k = beyond-step n count ps h ∙ simp (le-ltb count (get_or ps (n - 1) 0) k)
-
-pub beyond-end : (n count : ℕ) (ps : List ℕ) → n ≤ 0 → any_beyond n count ps ≡ false
+pub some-beyond : (n count : ℕ) (ps : List ℕ) (k : ℕ) → k < n → count < get_or ps k 0 → any_beyond n count ps ≡ true
 unfolding any_beyond
-beyond-end zero count ps h = refl
-beyond-end (suc n) count ps h = absurd (omega arith)
+some-beyond zero count ps k h l = absurd (omega arith)
+some-beyond (suc n) count ps k h l =
+    go (ltb count (get_or ps n 0)) refl (eqb k n) refl (λ d. some-beyond n count ps k d l)
+  where
+    go : (b : Bool) → ltb count (get_or ps n 0) ≡ b → (e : Bool) → eqb k n ≡ e
+        → (k < n → any_beyond n count ps ≡ true) → (b || any_beyond n count ps) ≡ true
+    go true p e q rest = refl
+    go false p true q rest =
+        absurd (omega (arith, ltb-false count (get_or ps n 0) p, ap (λ (m : ℕ). get_or ps m 0) (eqb-true k n q), l))
+    go false p false q rest = rest (let d = eqb-false k n q in omega arith)
 
 pub or-false : (a b : Bool) → (a || b) ≡ false → (a ≡ false) × (b ≡ false)
 or-false true b e = absurd (true≢false e)

@@ -4,6 +4,7 @@
 -- an output say what the reply says (`accepted-is`, `none_is`, `handed-is`); a call on bytes is its result in values (`step_is`,
 -- `event-is`); a list of calls of bytes (`bytes-of`) has the same events and the same end (`Same`, `same`).
 -- Assumes nothing.
+use Rattle.std.specs.Prelude as std
 use Rattle.std.specs.Prelude.{Option, Some, None, ⊤, Ok, Err}
 use Prim.Native.Nat.{ℕ, zero, suc, ◌+◌, ◌≤◌, ◌<◌}
 use native.Mathlib.Omega.{arith}
@@ -136,10 +137,10 @@ module _ (r : SessionRecord) (st : List ℕ) (k : Kept r st) where
   packable parent w h a e = let f = content-fits parent w h a e in record { fits = f.0; ok = f.1 }
 
   module _ (message : List ℕ) (bytes : Bytes message) (incarnation : ControllerIncarnation) where
-    update-checked : 6144 ≤ length st → (c : Result ⊤ Refusal) → Follows r st (update_checked now incarnation message c)
+    update-checked : 6144 ≤ length st → (c : std.Result ⊤ Refusal) → Follows r st (update_checked now incarnation message c)
     unfolding update_valid
     update-checked big (Err x) = follow-refuse x
-    update-checked big (Ok record {}) =
+    update-checked big (Ok _) =
         choose (Follows r st) (not (eqb incarnation.0 now.state.incarnation.0)) (λ t. follow-refuse _) (λ t.
         choose (Follows r st) (not (eqb (update_of message).consumer_id now.state.consumer_id)) (λ t. follow-refuse _) (λ t.
         follow-taken big (content_of now.topic (update_of message).assignment)
@@ -153,10 +154,10 @@ module _ (r : SessionRecord) (st : List ℕ) (k : Kept r st) where
         choose (Follows r st) (damaged now) (λ t. follow-refuse _) (λ t.
         update-checked (ltb-false (length st) 6144 small) (first_fault CommandScalableTopicAssignmentUpdate message))))
 
-    response-checked : 6144 ≤ length st → (c : Result ⊤ Refusal) → Follows r st (response_checked now incarnation message c)
+    response-checked : 6144 ≤ length st → (c : std.Result ⊤ Refusal) → Follows r st (response_checked now incarnation message c)
     unfolding response_valid
     response-checked big (Err x) = follow-refuse x
-    response-checked big (Ok record {}) =
+    response-checked big (Ok _) =
         choose (Follows r st) (not (eqb incarnation.0 now.state.incarnation.0)) (λ t. follow-refuse _) (λ t.
         choose (Follows r st) (response_of message).has_assignment
         (λ t. follow-based big (content_of now.topic (response_of message).assignment)
@@ -266,7 +267,7 @@ event-is r st c f = λ i.
     record {
       call = c;
       accepted = accepted-is (result_of (view r st) c).reply i;
-      None = none_is (result_of (view r st) c).reply i;
+      none = none_is (result_of (view r st) c).reply i;
       delta = handed-is (result_of (view r st) c).reply (out_of c) f.reply i;
       baseline = (f.session i).baseline;
     }

@@ -1,6 +1,7 @@
 -- Public: the calls on bytes: what each gives over every record, store, message and output. The contracts of the
 -- programs are these equations.
 -- Assumes nothing.
+use Rattle.std.specs.Prelude as std
 use Rattle.std.specs.Prelude.{ℕ, Bool, false, cond, ◌&&◌, List, length, ltb, leb, eqb, true, None, Ok, Err}
 use Rattle.topic_types.specs.declared.ControllerIncarnation.{ControllerIncarnation}
 use Rattle.refusal.specs.declared.Refusal.{Refusal}
@@ -22,15 +23,15 @@ use Rattle.session.specs.Drain.{drain_call}
 
 -- what a call leaves: answer, record, store, output
 pub record CallOutcome : Type 0 where
-  pub answer : Result Answer Refusal
+  pub answer : std.Result Answer Refusal
   pub next : SessionRecord
   pub store : List ℕ
   pub out : List ℕ
 
-abbrev pub call_outcome : Result Answer Refusal → SessionRecord → (store out : List ℕ) → CallOutcome
+abbrev pub call_outcome : std.Result Answer Refusal → SessionRecord → (store out : List ℕ) → CallOutcome
 call_outcome answer next store out = record { answer = answer; next = next; store = store; out = out }
 
-abbrev pub answer_of : CallAnswer → Result Answer Refusal
+abbrev pub answer_of : CallAnswer → std.Result Answer Refusal
 answer_of (refused x) = Err x
 answer_of accepted = Ok answer.Accepted
 answer_of unchanged = Ok answer.Unchanged
@@ -64,7 +65,7 @@ drain_outcome r store reader out = effect_of (drain_call (view r store) reader (
 
 -- a refused open leaves a record with its numbers, which is no session
 pub record OpenOutcome : Type 0 where
-  pub answer : Result Answer Refusal
+  pub answer : std.Result Answer Refusal
   pub next : SessionRecord
   pub store : List ℕ
 
@@ -107,7 +108,7 @@ same_identity l i =
     && (same_bytes (subscription_of l) i.subscription
     && (same_bytes (consumer_name_of l) i.consumer_name && eqb (identity_kind l) (kind_byte i.consumer_type)))
 
-unfoldable pub match_of : List ℕ → Identity → Result Bool Refusal
+unfoldable pub match_of : List ℕ → Identity → std.Result Bool Refusal
 match_of store i = do
   refuse_if Err (ltb (length store) min_store) StoreTooShort  -- 1
   refuse_unless Err (is_identity (slot store identity_slot)) MalformedStore  -- 22

@@ -1,6 +1,7 @@
 -- Public: the words of a session's calls: those of the crate refusal (specs/Steps), where a refusal leaves the session
 -- as it was.
 -- Assumes nothing.
+use Rattle.std.specs.Prelude as std
 use Rattle.std.specs.Prelude.{Bool, cond, [], Option, ⊤, Ok, Err}
 use Rattle.refusal.specs.declared.Refusal.{Refusal}
 use Rattle.packed.specs.Assignment.{ConsumerAssignment}
@@ -18,9 +19,9 @@ abbrev pub refuse_due : Session → Option Refusal → Result → Result
 refuse_due s due rest = unless due s rest
 
 -- the first fault of a message
-abbrev pub refuse_fault : Session → Result ⊤ Refusal → Result → Result
+abbrev pub refuse_fault : Session → std.Result ⊤ Refusal → Result → Result
 refuse_fault s (Err x) rest = refuse x s
-refuse_fault s (Ok record {}) rest = rest
+refuse_fault s (Ok _) rest = rest
 
 -- the list that a message's assignment comes to
 abbrev pub take_content : Session → content.Content → (ConsumerAssignment → Result) → Result

@@ -1,5 +1,6 @@
 -- Internal: the tails of update and response, from a test on, as the contracts of helpers cite them. Whoever reads the claims may skip it.
 -- Assumes nothing.
+use Rattle.std.specs.Prelude as std
 use Rattle.std.specs.Prelude.{cond, not, List, ℕ, eqb, ⊤}
 use Rattle.topic_types.specs.declared.ControllerIncarnation.{ControllerIncarnation}
 use Rattle.refusal.specs.declared.Refusal.TheVariants.{IncarnationMismatch, ConsumerMismatch}
@@ -26,7 +27,7 @@ update_valid s incarnation u = do
   refuse_if s (not (eqb u.consumer_id s.state.consumer_id)) (ConsumerMismatch u.consumer_id s.state.consumer_id)
   update_content s (content_of s.topic u.assignment)
 
-abbrev pub update_checked : Session → ControllerIncarnation → List ℕ → Result ⊤ Refusal → Result
+abbrev pub update_checked : Session → ControllerIncarnation → List ℕ → std.Result ⊤ Refusal → Result
 update_checked s incarnation message c = do
   refuse_fault s c
   update_valid s incarnation (update_of message)
@@ -50,7 +51,7 @@ response_valid s incarnation w = do
   refuse_unless s w.has_assignment (denied w w.error)
   response_content s (content_of s.topic w.assignment)
 
-abbrev pub response_checked : Session → ControllerIncarnation → List ℕ → Result ⊤ Refusal → Result
+abbrev pub response_checked : Session → ControllerIncarnation → List ℕ → std.Result ⊤ Refusal → Result
 response_checked s incarnation message c = do
   refuse_fault s c
   response_valid s incarnation (response_of message)

@@ -16,6 +16,7 @@ pub struct SessionRecord {
     pub incarnation: ControllerIncarnation,
     pub registered: bool,
     pub invalidated: bool,
+    // The highest epoch that was accepted, kept over every link to the controller; None before any.
     pub epoch_floor: Option<u64>,
     // How many pushes the queue holds, and how many of them each reader has drained.
     pub queue_count: usize,

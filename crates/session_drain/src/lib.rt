@@ -31,16 +31,14 @@ fn skip_to(store: &[u8], i: usize, n: usize) -> Reached
     let mut before = SLOT;
     let mut until = 2 * SLOT;
     let mut at = MIN_STORE;
-    let mut k: usize = 0;
-    while k < i {
+    for _ in 0..i {
         let size = slice_int::read_u16(store, at) as usize;
         before = at + LENGTH;
         until = before + size;
         at = until;
-        k = k + 1;
     }
     Reached {
-        i: k,
+        i,
         at,
         before,
         until,
@@ -58,8 +56,7 @@ fn next_change(store: &[u8], from: usize, n: usize) -> Reached
     let mut before = first.before;
     let mut until = first.until;
     let mut at = first.at;
-    let mut i = first.i;
-    while i < n {
+    for i in first.i..n {
         let size = slice_int::read_u16(store, at) as usize;
         let place = at + LENGTH;
         let end = place + size;
@@ -74,10 +71,9 @@ fn next_change(store: &[u8], from: usize, n: usize) -> Reached
         before = place;
         until = end;
         at = end;
-        i = i + 1;
     }
     Reached {
-        i,
+        i: n,
         at,
         before,
         until,

@@ -23,26 +23,21 @@ fn topic_end(store: &[u8]) -> usize
     IDENTITY_HEAD + slice_int::read_u16(store, 0) as usize
 }
 
-// A message of field 1, a number, and field n, its assignment, and nothing else. What the buffer holds where nothing is told is free.
+// A message of field 1, a number, and field n, its assignment, and nothing else: that number, and the size of the packed assignment, which nothing
+// refuses. None of any other message; what the buffer holds then is free.
 pub fn take_ordered_message(store: &[u8], m: &[u8], n: u8, b: &mut [u8]) -> Option<(u64, usize)>
     requires min_store_in_bounds { (min_store ≤ length store.now) × (is_identity (slot store.now 0) ≡ true) }
     requires assignment_field { AssignmentField n × (length b.old ≡ slot_size) }
     ensures { OrderedMessageIs store.now m.now n result b.new }
 {
-    let Some((head, at)) = wire_ordered::number_at(1, m, 0) else {
-        return None;
-    };
-    let Some((from, to)) = wire_ordered::part_at(n, m, at) else {
-        return None;
-    };
+    let (head, at) = wire_ordered::number_at(1, m, 0)?;
+    let (from, to) = wire_ordered::part_at(n, m, at)?;
     if to < m.len() {
         return None;
     }
     let end = topic_end(store);
-    match intake_ordered::take_ordered(&m[from..to], &store[IDENTITY_HEAD..end], b) {
-        Some((_, size)) => Some((head, size)),
-        None => None,
-    }
+    let (_, size) = intake_ordered::take_ordered(&m[from..to], &store[IDENTITY_HEAD..end], b)?;
+    Some((head, size))
 }
 
 // The assignment in field n of any message, whose epoch is given. What a refusal leaves in the buffer is free.

@@ -1,16 +1,17 @@
 -- A registration compared with the identity in a slot.
 --
 -- In order: the texts and the kind, each of which differs or leaves the answer to the next (`topic-other` to `kind-decides`); the cases of
--- `match_of` (`match-short` to `match-other`).
+-- `match_of` (`match-short` to `match-told`).
 -- Assumes nothing.
-use Rattle.std.specs.Prelude.{Ok, Err}
+use Rattle.std.specs.Prelude.{Result, Ok, Err}
 use Prim.Native.Nat.{ℕ, ◌+◌, ◌-◌, ◌≤◌, ◌<◌}
-use mathlib.Core.Path.{◌≡◌, sym, ap, ◌∙◌}
-use mathlib.Core.Bool.{Bool, true, false, not}
+use mathlib.Core.Path.{◌≡◌, refl, sym, ap, ◌∙◌}
+use mathlib.Core.Bool.{Bool, true, false, cond, not}
 use mathlib.Core.List.{List}
 use lib.ListN.{length, take, drop, get_or}
 use lib.Dec.{eqb}
 use borrow.Author.Tests.{le-ltb, lt-ltb, not-true, not-false}
+use Rattle.refusal.specs.declared.Refusal.{Refusal}
 use Rattle.refusal.specs.declared.Refusal.TheVariants.{StoreTooShort, MalformedStore}
 use Rattle.slice.specs.Same.{same_bytes}
 use Rattle.session.specs.Store.{slot}
@@ -48,6 +49,10 @@ module _ (l : List ℕ) (a b c : ℕ) (q : Lengths l a b c) (i : Identity) (x : 
 
 -- ---- the cases
 
+told : (t : Bool) → ◌≡◌ {A = Result Bool Refusal} (Ok t) (cond t (Ok true) (Ok false))
+told true = refl
+told false = refl
+
 module _ (st : List ℕ) (i : Identity) where
   pub match-short : length st < 6144 → Err StoreTooShort ≡ match_of st i
   unfolding match_of
@@ -59,10 +64,6 @@ module _ (st : List ℕ) (i : Identity) where
     match-damaged f = simp (le-ltb (length st) 6144 h, ← ex, not-true x f)
 
     module _ (f : not x ≡ false) (y : Bool) (ey : y ≡ same_identity (slot st 0) i) where
-      pub match-same : y ≡ true → (Ok true) ≡ match_of st i
+      pub match-told : Ok y ≡ match_of st i
       unfolding match_of
-      match-same g = simp (le-ltb (length st) 6144 h, ← ex, not-false x f, sym ey ∙ g)
-
-      pub match-other : y ≡ false → (Ok false) ≡ match_of st i
-      unfolding match_of
-      match-other g = simp (le-ltb (length st) 6144 h, ← ex, not-false x f, sym ey ∙ g)
+      match-told = told y ∙ simp (le-ltb (length st) 6144 h, ← ex, not-false x f, ey)

@@ -1,17 +1,17 @@
 -- Opening a session.
 --
--- In order: the lengths of the texts together (`texts-over` to `texts-room`); an identity written from its end to its front (`Writes`,
+-- In order: the lengths of the texts together (`texts-room`); an identity written from its end to its front (`Writes`,
 -- `written`); the cases of `open_outcome` (`open-short` to `open_done`).
 -- Assumes nothing.
 use Rattle.std.specs.Prelude.{Ok}
-use Prim.Native.Nat.{ℕ, ◌+◌, ◌-◌, ◌≤◌, ◌<◌}
+use Prim.Native.Nat.{ℕ, ◌+◌, ◌≤◌, ◌<◌}
 use native.Mathlib.Omega.{arith}
 use mathlib.Core.Path.{◌≡◌, refl, sym, ap, ◌∙◌}
 use mathlib.Core.Bool.{Bool, true, false, cond, not}
 use mathlib.Core.List.{List, [], ◌∷◌, ◌++◌}
 use lib.ListN.{length, set, length-append}
 use lib.Dec.{leb}
-use borrow.Author.Tests.{le-leb, lt-leb, leb-true, leb-false, le-ltb, lt-ltb, not-true, not-false}
+use borrow.Author.Tests.{leb-true, le-ltb, lt-ltb, not-true, not-false}
 use Rattle.topic_types.specs.declared.ControllerIncarnation.{ControllerIncarnation}
 use Rattle.refusal.specs.declared.Refusal.TheVariants.{StoreTooShort, InvalidUtf8, IdentityTooLong}
 use Rattle.utf8.specs.Table.{is_utf8}
@@ -26,17 +26,6 @@ use Rattle.session.specs.Identity.{Identity, kind_byte, texts_length, encode_ide
 use Rattle.session.specs.Calls.{OpenOutcome, not_opened, fresh_record, open_outcome}
 
 -- ---- the lengths of the texts
-
-pub texts-over : (a b c : ℕ) → 2041 < a + b + c → false ≡ leb (a + b + c) 2041
-texts-over a b c h = sym (lt-leb (a + b + c) 2041 h)
-
--- the first two leave room: the third decides
-pub texts-left : (a b c : ℕ) → a ≤ 2041 → b ≤ 2041 - a → leb c (2041 - a - b) ≡ leb (a + b + c) 2041
-texts-left a b c h k = go (leb c (2041 - a - b)) refl
-  where
-    go : (t : Bool) → leb c (2041 - a - b) ≡ t → leb c (2041 - a - b) ≡ leb (a + b + c) 2041
-    go true e = let m = leb-true c (2041 - a - b) e in e ∙ sym (le-leb (a + b + c) 2041 (omega arith))
-    go false e = let m = leb-false c (2041 - a - b) e in e ∙ sym (lt-leb (a + b + c) 2041 (omega arith))
 
 pub texts-room : (a b c : ℕ) (t : Bool) → t ≡ leb (a + b + c) 2041 → not t ≡ false → a + b + c ≤ 2041
 texts-room a b c t e f = leb-true (a + b + c) 2041 (sym e ∙ not-false t f)

@@ -26,14 +26,9 @@ fn kind_byte(kind: ScalableConsumerType) -> u8
 fn texts_fit(topic: &[u8], subscription: &[u8], name: &[u8]) -> bool
     ensures { result ≡ leb (length topic.now + length subscription.now + length name.now) max_texts }
 {
-    if MAX_TEXTS < topic.len() {
-        return false;
-    }
-    let room = MAX_TEXTS - topic.len();
-    if room < subscription.len() {
-        return false;
-    }
-    name.len() <= room - subscription.len()
+    topic.len() <= MAX_TEXTS
+        && subscription.len() <= MAX_TEXTS - topic.len()
+        && name.len() <= MAX_TEXTS - topic.len() - subscription.len()
 }
 
 // Writes an identity to the front of the store: lengths, kind, then the texts.
@@ -153,9 +148,5 @@ pub fn matches_registration(
     if !session_store::is_identity(&store[0..packed::SLOT]) {
         return Err(Refusal::MalformedStore);
     }
-    if same_identity(&store[0..packed::SLOT], topic, subscription, name, kind) {
-        Ok(true)
-    } else {
-        Ok(false)
-    }
+    Ok(same_identity(&store[0..packed::SLOT], topic, subscription, name, kind))
 }

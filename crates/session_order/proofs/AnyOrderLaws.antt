@@ -3,6 +3,7 @@
 -- In order: results that are equal or refusals both (`AlikeResult`), on bytes (`effects-alike`); an assignment's values
 -- (`assignment-alike`); update and response, from the inside out.
 -- Assumes nothing.
+use Rattle.std.specs.Prelude as std
 use Rattle.std.specs.Prelude.{⊤, Ok, Err}
 use Prim.Native.Nat.{ℕ}
 use mathlib.Core.Path.{◌≡◌, refl, ap}
@@ -99,18 +100,18 @@ module _ (s : Session) (incarnation : ControllerIncarnation) where
       alike-cond s other_link link_refused _ _
       (rw i (alike-cond s (not (eqb k s.state.consumer_id)) (refuse x s) _ _ c))
 
-  update-checked : (m n : List ℕ) → SameUpdate m n → (c d : Result ⊤ Refusal) → ok c ≡ ok d
+  update-checked : (m n : List ℕ) → SameUpdate m n → (c d : std.Result ⊤ Refusal) → ok c ≡ ok d
       → AlikeResult s (update_checked s incarnation m c) (update_checked s incarnation n d)
-  update-checked m n r (Ok record {}) (Ok record {}) e = update-valid m n r
-  update-checked m n r (Ok record {}) (Err y) e = absurd (true≢false e)
-  update-checked m n r (Err x) (Ok record {}) e = absurd (false≢true e)
+  update-checked m n r (Ok _) (Ok _) e = update-valid m n r
+  update-checked m n r (Ok _) (Err y) e = absurd (true≢false e)
+  update-checked m n r (Err x) (Ok _) e = absurd (false≢true e)
   update-checked m n r (Err x) (Err y) e = AlikeResult.refusals x y refl refl
 
   update-call : (m n : List ℕ) → SameUpdate m n → (output : ℕ)
       → AlikeResult s (update_call s m incarnation output) (update_call s n incarnation output)
   unfolding update_call update_valid content_of update_content
   update-call m n r output =
-      let fault : List ℕ → (Result ⊤ Refusal) = first_fault CommandScalableTopicAssignmentUpdate in
+      let fault : List ℕ → (std.Result ⊤ Refusal) = first_fault CommandScalableTopicAssignmentUpdate in
       alike-cond s (ltb s.size min_store) (refuse StoreTooShort s) _ _
       (alike-cond s (ltb output min_output) (refuse OutputTooShort s) _ _
       (alike-cond s (damaged s) (refuse MalformedStore s) _ _
@@ -139,18 +140,18 @@ module _ (s : Session) (incarnation : ControllerIncarnation) where
       let given : List ℕ → Bool = λ l. present (parts_of 4 (fields_of l)) in
       alike-cond s other_link link_refused _ _ (response-given (given m) (given n) (present-rearranged 4 r) _ _ c _ _)
 
-  response-checked : (m n : List ℕ) → SameResponse m n → (c d : Result ⊤ Refusal) → ok c ≡ ok d
+  response-checked : (m n : List ℕ) → SameResponse m n → (c d : std.Result ⊤ Refusal) → ok c ≡ ok d
       → AlikeResult s (response_checked s incarnation m c) (response_checked s incarnation n d)
-  response-checked m n r (Ok record {}) (Ok record {}) e = response-valid m n r
-  response-checked m n r (Ok record {}) (Err y) e = absurd (true≢false e)
-  response-checked m n r (Err x) (Ok record {}) e = absurd (false≢true e)
+  response-checked m n r (Ok _) (Ok _) e = response-valid m n r
+  response-checked m n r (Ok _) (Err y) e = absurd (true≢false e)
+  response-checked m n r (Err x) (Ok _) e = absurd (false≢true e)
   response-checked m n r (Err x) (Err y) e = AlikeResult.refusals x y refl refl
 
   response-call : (m n : List ℕ) → SameResponse m n
       → AlikeResult s (response_call s m incarnation) (response_call s n incarnation)
   unfolding response_call response_valid content_of response_content response_assignment
   response-call m n r =
-      let fault : List ℕ → (Result ⊤ Refusal) = first_fault CommandScalableTopicSubscribeResponse in
+      let fault : List ℕ → (std.Result ⊤ Refusal) = first_fault CommandScalableTopicSubscribeResponse in
       alike-cond s (ltb s.size min_store) (refuse StoreTooShort s) _ _
       (alike-cond s (damaged s) (refuse MalformedStore s) _ _
       (response-checked m n r (fault m) (fault n) (ok-response m n r)))

@@ -32,11 +32,11 @@ use Rattle.refusal.specs.declared.Refusal.{Refusal}
 
 -- there is no fault
 abbrev pub ok : Result ⊤ Refusal → Bool
-ok (Ok record {}) = true
+ok (Ok _) = true
 ok (Err x) = false
 
 ok-first : (c d : Result ⊤ Refusal) → ok (first c d) ≡ (ok c && ok d)
-ok-first (Ok record {}) d = refl
+ok-first (Ok _) d = refl
 ok-first (Err x) d = refl
 
 and-turn : (a b c : Bool) → (a && (b && c)) ≡ (b && (a && c))

@@ -1,11 +1,11 @@
 // A session's record changed by value, one function for each change, and the floor.
 #![tactic(auto)]
 
-ghost use Rattle.std.specs.Prelude.{◌≡◌, ◌<◌};
+ghost use Rattle.std.specs.Prelude.{◌≡◌, ◌<◌, Ok, Err};
 ghost use Rattle.session.specs.Session.{position_of, raise};
 ghost use Rattle.session.specs.Update.{with_queue_count, with_floor};
 ghost use Rattle.session.specs.Drain.{with_position};
-ghost use Rattle.session.specs.declared.Answer.TheVariants.{Refused, Unchanged};
+ghost use Rattle.session.specs.declared.Answer.TheVariants.{Unchanged};
 ghost use Rattle.session_record.specs.Floors.{below_floor, floor_value};
 
 use refusal::Refusal;
@@ -13,7 +13,7 @@ use session::{Answer, Changed, SessionRecord};
 
 // A refusal: the record stays.
 pub fn refuse(r: SessionRecord, x: Refusal) -> Changed
-    ensures { result ≡ record { next = r; answer = Refused x } }
+    ensures { result ≡ record { next = r; answer = Err x } }
 {
     Changed {
         next: r,
@@ -23,7 +23,7 @@ pub fn refuse(r: SessionRecord, x: Refusal) -> Changed
 
 // No change: the record stays.
 pub fn unchanged(r: SessionRecord) -> Changed
-    ensures { result ≡ record { next = r; answer = Unchanged } }
+    ensures { result ≡ record { next = r; answer = Ok Unchanged } }
 {
     Changed {
         next: r,
@@ -35,63 +35,36 @@ pub fn unchanged(r: SessionRecord) -> Changed
 pub fn below_floor(floor: Option<u64>, epoch: u64) -> bool
     ensures { result ≡ below_floor epoch floor }
 {
-    match floor {
-        None => false,
-        Some(v) => epoch < v,
-    }
+    floor.is_some_and(|v| epoch < v)
 }
 
 // The floor, 0 where there is none.
 pub fn floor_value(floor: Option<u64>) -> u64
     ensures { result ≡ floor_value floor }
 {
-    match floor {
-        None => 0,
-        Some(v) => v,
-    }
+    floor.unwrap_or(0)
 }
 
 // The floor raised to an epoch that is above it.
 pub fn raised(floor: Option<u64>, epoch: u64) -> Option<u64>
     ensures { result ≡ raise floor epoch }
 {
-    match floor {
-        None => Some(epoch),
-        Some(v) => { if v < epoch { Some(epoch) } else { Some(v) } }
-    }
+    Some(floor.map_or(epoch, |v| v.max(epoch)))
 }
 
 pub fn with_queue_count(r: SessionRecord, n: usize) -> SessionRecord
     ensures { result ≡ with_queue_count r n }
 {
-    let incarnation = r.incarnation;
-    let epoch_floor = r.epoch_floor;
-    let drain_positions = r.drain_positions;
     SessionRecord {
-        consumer_id: r.consumer_id,
-        incarnation,
-        registered: r.registered,
-        invalidated: r.invalidated,
-        epoch_floor,
         queue_count: n,
-        drain_positions,
+        ..r
     }
 }
 
 pub fn with_floor(r: SessionRecord, epoch_floor: Option<u64>) -> SessionRecord
     ensures { result ≡ with_floor r epoch_floor }
 {
-    let incarnation = r.incarnation;
-    let drain_positions = r.drain_positions;
-    SessionRecord {
-        consumer_id: r.consumer_id,
-        incarnation,
-        registered: r.registered,
-        invalidated: r.invalidated,
-        epoch_floor,
-        queue_count: r.queue_count,
-        drain_positions,
-    }
+    SessionRecord { epoch_floor, ..r }
 }
 
 // How far a reader has drained the queue.
@@ -99,8 +72,7 @@ pub fn position(r: SessionRecord, reader: usize) -> usize
     requires { reader < 8 }
     ensures { result ≡ position_of r reader }
 {
-    let drain_positions = r.drain_positions;
-    drain_positions[reader]
+    r.drain_positions[reader]
 }
 
 // The position of a reader, and no other, moved to k.
@@ -110,15 +82,8 @@ pub fn with_position(r: SessionRecord, reader: usize, k: usize) -> SessionRecord
 {
     let mut drain_positions = r.drain_positions;
     drain_positions[reader] = k;
-    let incarnation = r.incarnation;
-    let epoch_floor = r.epoch_floor;
     SessionRecord {
-        consumer_id: r.consumer_id,
-        incarnation,
-        registered: r.registered,
-        invalidated: r.invalidated,
-        epoch_floor,
-        queue_count: r.queue_count,
         drain_positions,
+        ..r
     }
 }

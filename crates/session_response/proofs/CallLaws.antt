@@ -4,6 +4,7 @@
 -- assignment, 26 and 27 (`assignment-below` to `assignment-on`); content (`content-refused`, `content-taken`); a message that is valid
 -- (`valid-mismatch`, `valid-says`); the call (`message-bad` to `call-out`).
 -- Assumes nothing.
+use Rattle.std.specs.Prelude as std
 use Rattle.std.specs.Prelude.{Option, None, ℤ, Some, Ok, Err}
 use Prim.Native.Nat.{ℕ, ◌*◌, ◌≤◌, ◌<◌}
 use mathlib.Core.Path.{◌≡◌, refl, sym, ap, ap₂, ◌∙◌}
@@ -54,7 +55,7 @@ module _ (st m : List ℕ) where
   unfolding response_of
   assignment-says e = rw e refl
 
-  module _ (h : ResponseHead) (p : ResponseIs m h) (x : Result ℕ Refusal) (b : List ℕ) where
+  module _ (h : ResponseHead) (p : ResponseIs m h) (x : std.Result ℕ Refusal) (b : List ℕ) where
     pub assignment-answers : h.has_assignment ≡ true → Answers x b (content_in st 4 m)
         → Answers x b (content_of_response (identity_topic (slot st 0)) (response_of m))
     assignment-answers e a = rw (assignment-says (sym p.has-assignment ∙ e)) a
@@ -103,7 +104,7 @@ module _ (r : SessionRecord) (st : List ℕ) where
   -- ---- an assignment: 26, then 27
 
   -- the queue's epochs are all that is left to decide
-  abbrev pub Decided : ConsumerAssignment → Result ℕ (ℕ × ℕ) → Type 0
+  abbrev pub Decided : ConsumerAssignment → std.Result ℕ (ℕ × ℕ) → Type 0
   Decided a s = response_assignment (view r st) a ≡ unless (stale_refusal s) (view r st) (registered (view r st) a)
 
   module _ (a : ConsumerAssignment) (epoch : ℕ) (e : epoch ≡ a.layout_epoch) (t : Bool) (f : t ≡ below_floor epoch r.epoch_floor) where
@@ -113,7 +114,7 @@ module _ (r : SessionRecord) (st : List ℕ) where
     assignment-below g v h = rw (← e, floor-below epoch r.epoch_floor (sym f ∙ g), ← h) refl
 
     module _ (g : t ≡ false) (n : ℕ) (i : n ≡ cond r.registered 0 r.queue_count) where
-      pub queue-decides : (s : Result ℕ (ℕ × ℕ)) → s ≡ stale_of 6144 6144 epoch (queue_in st n) → Decided a s
+      pub queue-decides : (s : std.Result ℕ (ℕ × ℕ)) → s ≡ stale_of 6144 6144 epoch (queue_in st n) → Decided a s
       unfolding response_assignment view
       queue-decides s h =
           ap (λ (x : Option Refusal). unless x (view r st) (unless (stale_fault a (replayable (view r st))) (view r st) on)) no-fault
@@ -128,12 +129,12 @@ module _ (r : SessionRecord) (st : List ℕ) where
           fault : stale_fault a (replayable (view r st)) ≡ stale_refusal s
           fault = stale-fault 6144 6144 a (replayable (view r st)) ∙ ap stale_refusal (ap₂ (stale_of 6144 6144) (sym e) (replayed-is r st n i) ∙ sym h)
 
-  module _ (a : ConsumerAssignment) (s : Result ℕ (ℕ × ℕ)) (d : Decided a s) where
+  module _ (a : ConsumerAssignment) (s : std.Result ℕ (ℕ × ℕ)) (d : Decided a s) where
     pub assignment-stale : (got prev : ℕ) → s ≡ Err (got, prev) → response_assignment (view r st) a ≡ refuse (StaleEpoch got prev) (view r st)
-    assignment-stale got prev k = d ∙ ap (λ (x : Result ℕ (ℕ × ℕ)). unless (stale_refusal x) (view r st) (registered (view r st) a)) k
+    assignment-stale got prev k = d ∙ ap (λ (x : std.Result ℕ (ℕ × ℕ)). unless (stale_refusal x) (view r st) (registered (view r st) a)) k
 
     pub assignment-on : (at : ℕ) → s ≡ Ok at → response_assignment (view r st) a ≡ registered (view r st) a
-    assignment-on at k = d ∙ ap (λ (x : Result ℕ (ℕ × ℕ)). unless (stale_refusal x) (view r st) (registered (view r st) a)) k
+    assignment-on at k = d ∙ ap (λ (x : std.Result ℕ (ℕ × ℕ)). unless (stale_refusal x) (view r st) (registered (view r st) a)) k
 
   -- ---- content
 

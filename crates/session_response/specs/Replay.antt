@@ -2,6 +2,7 @@
 --
 -- What the functions of src/ answer: the epochs of the queue, and the replay's last list.
 -- Assumes nothing.
+use Rattle.std.specs.Prelude as std
 use Rattle.std.specs.Prelude.{ℕ, ◌+◌, ◌-◌, ◌<◌, ◌≡◌, true, cond, List, [], ◌∷◌, ltb, Option, Some, None, ℤ, Ok, Err}
 use Rattle.refusal.specs.declared.Refusal.{Refusal}
 use Rattle.refusal.specs.declared.Refusal.TheVariants.{Broker, Empty, StaleEpoch}
@@ -16,11 +17,11 @@ use Rattle.session.specs.Response.{last_list, replayable, register}
 use Rattle.session_store.specs.Scratch.{Scratch}
 
 -- the first epoch of the queue that lies below the one before it; or else where the last entry begins: the queue begins at a byte place, and the entry before it at `last`
-unfoldable pub stale_of : (last at prev : ℕ) → List ConsumerAssignment → Result ℕ (ℕ × ℕ)
+unfoldable pub stale_of : (last at prev : ℕ) → List ConsumerAssignment → std.Result ℕ (ℕ × ℕ)
 stale_of last at prev [] = Ok last
 stale_of last at prev (a ∷ queue) = cond (ltb a.layout_epoch prev) (Err (a.layout_epoch, prev)) (stale_of at (at + size_entry a) a.layout_epoch queue)
 
-abbrev pub stale_refusal : Result ℕ (ℕ × ℕ) → Option Refusal
+abbrev pub stale_refusal : std.Result ℕ (ℕ × ℕ) → Option Refusal
 stale_refusal (Ok at) = None
 stale_refusal (Err (got, prev)) = Some (StaleEpoch got prev)
 

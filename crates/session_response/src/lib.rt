@@ -25,7 +25,8 @@ use session_store::{BASELINE, LIST, MIN_STORE};
 use topic_types::ControllerIncarnation;
 use wire_messages::MessageKind;
 
-// The first of n queue entries whose epoch lies below the one before it, which for the first is a given one.
+// The first of n queue entries whose epoch lies below the one before it, which for the first is a given one: Err with both epochs. Ok with the byte place of
+// the last entry where there is none.
 fn first_stale(store: &[u8], epoch: u64, n: usize) -> Result<usize, (u64, u64)>
     requires { (min_store ≤ length store.now) × (queue_reads store.now n ≡ true) }
     ensures { result ≡ stale_of min_store min_store epoch (queue_in store.now n) }
@@ -33,8 +34,7 @@ fn first_stale(store: &[u8], epoch: u64, n: usize) -> Result<usize, (u64, u64)>
     let mut prev = epoch;
     let mut last = MIN_STORE;
     let mut at = MIN_STORE;
-    let mut left = n;
-    while 0 < left {
+    for _ in 0..n {
         let size = slice_int::read_u16(store, at) as usize;
         let place = at + LENGTH;
         let got = slice_int::read_u64(store, place);
@@ -44,7 +44,6 @@ fn first_stale(store: &[u8], epoch: u64, n: usize) -> Result<usize, (u64, u64)>
         prev = got;
         last = at;
         at = place + size;
-        left = left - 1;
     }
     Ok(last)
 }
@@ -74,17 +73,13 @@ fn replay_count(r: SessionRecord) -> usize
 fn registered_with(r: SessionRecord, epoch: u64, count: usize) -> SessionRecord
     ensures { result ≡ registered_by r epoch count }
 {
-    let incarnation = r.incarnation;
-    let floor = r.epoch_floor;
-    let epoch_floor = session_record::raised(floor, epoch);
+    let epoch_floor = session_record::raised(r.epoch_floor, epoch);
     SessionRecord {
-        consumer_id: r.consumer_id,
-        incarnation,
         registered: true,
-        invalidated: r.invalidated,
         epoch_floor,
         queue_count: count,
         drain_positions: [0; READERS],
+        ..r
     }
 }
 
@@ -184,8 +179,7 @@ fn take_response(store: &[u8], message: &[u8], b: &mut [u8]) -> Result<usize, Re
     if head.has_assignment {
         return session_intake::take_assignment(store, message, 4, epoch, b);
     }
-    let error = head.error;
-    Err(denial(error, head.request_id))
+    Err(denial(head.error, head.request_id))
 }
 
 // A valid response, whose assignment is in the buffer, or that is refused. Refused in order: 23, 16 or 17 or 9 to 11, 34, 12 to 15, 26, 27.

@@ -1,12 +1,11 @@
 // A session saved as bytes, and taken back: record and what is in use of its store, with a length and a checksum (specs/Form).
 #![tactic(auto)]
 
-ghost use Rattle.std.specs.Prelude.{◌≡◌, ◌+◌, ◌≤◌, length};
+ghost use Rattle.std.specs.Prelude.{◌≡◌, ◌+◌, ◌≤◌, length, Err};
 ghost use Rattle.slice_int.specs.Be.{be_at};
 ghost use Rattle.slice_int.specs.Put.{put};
 ghost use Rattle.output.specs.Output.{outcome, written};
 ghost use Rattle.session.specs.Store.{min_store};
-ghost use Rattle.session.specs.declared.Answer.TheVariants.{Refused};
 ghost use Rattle.session_store.specs.Places.{QueueEnds};
 ghost use Rattle.session_saved.specs.Form.{encode_positions, encode_record, encode_saved, record_in, is_saved};
 ghost use Rattle.session_saved.specs.Saved.{no_session, save_outcome, restore_part, restore_outcome};
@@ -33,10 +32,8 @@ fn write_positions(positions: [usize; READERS], out: &mut [u8])
     requires { 104 ≤ length out.old }
     ensures { out.new ≡ put out.old 40 (encode_positions 8 positions) }
 {
-    let mut k: usize = 0;
-    while k < READERS {
+    for k in 0..READERS {
         slice_int::write_u64(out, 40 + 8 * k, positions[k] as u64);
-        k = k + 1;
     }
 }
 
@@ -48,8 +45,7 @@ fn write_record(r: Record, out: &mut [u8])
     out[106] = r.invalidated;
     out[105] = r.registered;
     out[104] = r.has_floor;
-    let positions = r.drain_positions;
-    write_positions(positions, out);
+    write_positions(r.drain_positions, out);
     slice_int::write_u64(out, 32, r.queue_count as u64);
     slice_int::write_u64(out, 24, r.epoch_floor);
     slice_int::write_u64(out, 16, r.incarnation);
@@ -83,10 +79,8 @@ pub fn save(r: SessionRecord, store: &[u8], out: &mut [u8]) -> Result<usize, Ref
     if store.len() < MIN_STORE {
         return Err(Refusal::StoreTooShort);
     }
-    match session_store::test_store(r, store) {
-        Some(end) => write_saved(r, store, end, out),
-        None => Err(Refusal::MalformedStore),
-    }
+    let end = session_store::test_store(r, store).ok_or(Refusal::MalformedStore)?;
+    write_saved(r, store, end, out)
 }
 
 // The bytes have mark, length and checksum of a saved session.
@@ -143,7 +137,7 @@ fn read_record(bytes: &[u8]) -> Record
 
 // A refusal of restore: the record beside it is no session's.
 fn refused(x: Refusal) -> Changed
-    ensures { result ≡ record { next = no_session; answer = Refused x } }
+    ensures { result ≡ record { next = no_session; answer = Err x } }
 {
     session_record::refuse(session_open::fresh(0, ControllerIncarnation(0)), x)
 }

@@ -15,7 +15,7 @@ ghost use Rattle.session_store.specs.Tests.{StoreTested};
 
 use packed::SLOT;
 use packed_queue::LENGTH;
-use session::{READERS, SessionRecord};
+use session::SessionRecord;
 
 // The least store: three slots.
 pub const MIN_STORE: usize = 6144;
@@ -79,32 +79,19 @@ fn lists_start(registered: bool, store: &[u8]) -> bool
     requires { min_store ≤ length store.now }
     ensures { result ≡ lists_start registered store.now }
 {
-    if !registered {
-        return true;
-    }
-    if !starts(store, BASELINE) {
-        return false;
-    }
-    starts(store, LIST)
+    !registered || starts(store, BASELINE) && starts(store, LIST)
 }
 
 // A reader's position is beyond the queue.
 fn any_beyond(r: SessionRecord) -> bool
     ensures { result ≡ any_beyond 8 r.queue_count r.drain_positions }
 {
-    let positions = r.drain_positions;
     let count = r.queue_count;
-    let mut left: usize = READERS;
-    while 0 < left {
-        left = left - 1;
-        if count < positions[left] {
-            return true;
-        }
-    }
-    false
+    r.drain_positions.iter().any(|p| count < *p)
 }
 
-// Tests that no slot or entry in use is malformed, and no count is beyond what it counts. The counts come first: a damaged one could be any number.
+// Tests that no slot or entry in use is malformed, and no count is beyond what it counts: the byte place where the queue ends, or None where something is. The
+// counts come first: a damaged one could be any number.
 pub fn test_store(r: SessionRecord, store: &[u8]) -> Option<usize>
     requires { min_store ≤ length store.now }
     ensures { StoreTested r store.now result }
@@ -121,13 +108,8 @@ pub fn test_store(r: SessionRecord, store: &[u8]) -> Option<usize>
     if !lists_start(r.registered, store) {
         return None;
     }
-    match packed_queue::read_entries(&store[MIN_STORE..], r.queue_count) {
-        Some(size) => {
-            let end = MIN_STORE + size;
-            Some(end)
-        }
-        None => None,
-    }
+    let size = packed_queue::read_entries(&store[MIN_STORE..], r.queue_count)?;
+    Some(MIN_STORE + size)
 }
 
 // The same test, for a call that adds nothing to the queue.
@@ -135,10 +117,7 @@ pub fn is_sound(r: SessionRecord, store: &[u8]) -> bool
     requires { min_store ≤ length store.now }
     ensures { result ≡ not (damaged (view r store.now)) }
 {
-    match test_store(r, store) {
-        Some(_) => true,
-        None => false,
-    }
+    test_store(r, store).is_some()
 }
 
 // Writes the packed assignment of n bytes at the front of b to slot k.

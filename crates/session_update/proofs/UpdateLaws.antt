@@ -5,6 +5,7 @@
 -- `list_held`); what the assignment comes to (`content-refuses` to `content-joins`); link and consumer
 -- (`address-link` to `let-in`); the message (`update-epoch` to `message-valid`); the call (`store-short` to `call-sound`).
 -- Assumes nothing.
+use Rattle.std.specs.Prelude as std
 use Rattle.std.specs.Prelude.{⊤, Option, Ok, Err}
 use Prim.Native.Nat.{ℕ, ◌+◌, ◌-◌, ◌≤◌, ◌<◌}
 use native.Mathlib.Omega.{arith}
@@ -183,14 +184,14 @@ module _ (r : SessionRecord) (incarnation : ControllerIncarnation) (id : ℕ) wh
     pub address-here : id ≡ r.consumer_id → (Ok record {}) ≡ address_of r incarnation id
     address-here k = rw (eq-eqb incarnation.0 r.incarnation.0 h, eq-eqb id r.consumer_id k)
 
-module _ (r : SessionRecord) (st out : List ℕ) (incarnation : ControllerIncarnation) (u : WireUpdate) (a : Result ⊤ Refusal)
+module _ (r : SessionRecord) (st out : List ℕ) (incarnation : ControllerIncarnation) (u : WireUpdate) (a : std.Result ⊤ Refusal)
     (e : a ≡ address_of r incarnation u.consumer_id) where
   -- the cascade by its first two tests
   valid-by : update_valid (view r st) incarnation u ≡ by_address a (view r st) (content_of (identity_topic (slot st 0)) u.assignment)
   unfolding update_valid view
   valid-by =
       go (eqb incarnation.0 r.incarnation.0) (eqb u.consumer_id r.consumer_id)
-      ∙ sym (ap (λ (x : Result ⊤ Refusal). by_address x (view r st) (content_of (identity_topic (slot st 0)) u.assignment)) e)
+      ∙ sym (ap (λ (x : std.Result ⊤ Refusal). by_address x (view r st) (content_of (identity_topic (slot st 0)) u.assignment)) e)
     where
       link : Refusal
       link = refusal.IncarnationMismatch incarnation r.incarnation
@@ -213,14 +214,14 @@ module _ (r : SessionRecord) (st out : List ℕ) (incarnation : ControllerIncarn
   unfolding view
   turned-away x h =
       sym (ap (λ (q : Result). effect_of q st out)
-      (valid-by ∙ ap (λ (y : Result ⊤ Refusal). by_address y (view r st) (content_of (identity_topic (slot st 0)) u.assignment)) h))
+      (valid-by ∙ ap (λ (y : std.Result ⊤ Refusal). by_address y (view r st) (content_of (identity_topic (slot st 0)) u.assignment)) h))
 
   pub let-in : a ≡ Ok record {} → {z : CallOutcome}
       → z ≡ effect_of (update_content (view r st) (content_of (identity_topic (slot st 0)) u.assignment)) st out
       → z ≡ effect_of (update_valid (view r st) incarnation u) st out
   let-in h w =
       w ∙ sym (ap (λ (q : Result). effect_of q st out)
-      (valid-by ∙ ap (λ (y : Result ⊤ Refusal). by_address y (view r st) (content_of (identity_topic (slot st 0)) u.assignment)) h))
+      (valid-by ∙ ap (λ (y : std.Result ⊤ Refusal). by_address y (view r st) (content_of (identity_topic (slot st 0)) u.assignment)) h))
 
 -- ---- the message
 

@@ -92,7 +92,7 @@ fn held(r: SessionRecord, store: &mut [u8], b: &[u8], n: usize, out: &mut [u8]) 
     }
 }
 
-// Link and consumer of a valid update: 23, then 24.
+// Link and consumer of a valid update: Ok where it is for this session, else 23, then 24.
 fn address_of(
     r: SessionRecord,
     consumer_id: u64,

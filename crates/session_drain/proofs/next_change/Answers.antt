@@ -7,6 +7,7 @@ use mathlib.Core.Bool.{not}
 use lib.ListN.{length}
 use Rattle.session.specs.Store.{list_in, queue_in}
 use Rattle.session.specs.Drain.{next_change}
+use Rattle.session_drain.specs.Entries.{found_at, Reaches}
 use Rattle.session_drain.proofs.DrainLaws.{rest, walk_begins, next-length, next-lies, next-inside, ended, stops, goes_on}
 use Rattle.session_drain.proofs.next_change.Goals.{After-read_u16-size}
 use Rattle.session_drain.proofs.next_change.Goals as goal
@@ -84,4 +85,10 @@ loop-i-preserved c =
 pub returns : goal.returns
 returns c =
     let w = c.loop-i.invariant in
-    record { reaches = (w.reaches, w.low); from_value = ended _ _ _ _ w c.loop-i-test.false }
+    let e : c.loop-i.i ≡ c.args.n = omega (arith, w.low, c.loop-i-test.false) in
+    record {
+      reaches = (subst (λ (m : ℕ). Reaches c.args.store.now (record { i = m; at = c.loop-i.at; before = c.loop-i.before; until = c.loop-i.until })) e w.reaches, omega arith);
+      from_value =
+          subst (λ (m : ℕ). next_change 0 (list_in c.args.store.now 1) (queue_in c.args.store.now c.args.n) c.args.from ≡ found_at c.args.store.now c.args.n m)
+          e (ended _ _ _ _ w c.loop-i-test.false);
+    }

@@ -1,11 +1,7 @@
 -- `session_drain::skip_to` meets its contract: each entry begins where the one before it ends.
 -- Assumes nothing.
-use Prim.Native.Nat.{◌-◌, ◌≤◌}
 use Rattle.session_drain.specs.Entries.{Reaches}
 use Rattle.session_drain.proofs.skip_to.Given as goal
 
-abbrev pub invariant-loop-k : goal.invariant-loop-k
-invariant-loop-k l = Reaches l.store (record { i = l.k; at = l.at; before = l.before; until = l.until }) × (l.k ≤ l.i)
-
-abbrev pub decreases-loop-k : goal.decreases-loop-k
-decreases-loop-k l = l.i - l.k
+abbrev pub invariant-loop : goal.invariant-loop
+invariant-loop l = Reaches l.store (record { i = l.counter; at = l.at; before = l.before; until = l.until })

@@ -10,7 +10,7 @@ use Rattle.session.specs.Store.{slot}
 use Rattle.session.specs.Identity.{is_identity}
 use Rattle.session.specs.Calls.{same_identity}
 use Rattle.session_store.proofs.StoreLaws.{slot_at}
-use Rattle.session_open.proofs.MatchLaws.{match-short, match-damaged, match-same, match-other}
+use Rattle.session_open.proofs.MatchLaws.{match-short, match-damaged, match-told}
 use Rattle.session_open.proofs.matches_registration.Goals.{After-is_identity, After-same_identity}
 use Rattle.session_open.proofs.matches_registration.Goals as goal
 
@@ -51,28 +51,12 @@ same_identity-requires c =
     let n = c in
     let s = n in record { s_len = length-take-le 2048 s.args.store.now (omega (arith, n.if-store-lt-MIN_STORE.false)); s_value = sym n.is_identity.ensures ∙ c.if-not-is_identity.false }
 
-pub returns-then-same_identity : goal.returns-then-same_identity
-returns-then-same_identity c =
-    let m = c in
-    let k = m in
-    let s = c in
-    match-same s.args.store.now ((record {
-      topic = s.args.topic.now;
-      subscription = s.args.subscription.now;
-      consumer_name = s.args.name.now;
-      consumer_type = s.args.kind;
-    })) k.if-store-lt-MIN_STORE.false m.is_identity.result (named (goal.at.returns-then-same_identity c).After-is_identity) (ap not m.if-not-is_identity.false)
-    c.same_identity.result (compared (goal.at.returns-then-same_identity c).After-same_identity) c.if-same_identity.true
-
-pub returns-else-same_identity : goal.returns-else-same_identity
-returns-else-same_identity c =
-    let m = c in
-    let k = m in
-    let s = c in
-    match-other s.args.store.now ((record {
-      topic = s.args.topic.now;
-      subscription = s.args.subscription.now;
-      consumer_name = s.args.name.now;
-      consumer_type = s.args.kind;
-    })) k.if-store-lt-MIN_STORE.false m.is_identity.result (named (goal.at.returns-else-same_identity c).After-is_identity) (ap not m.if-not-is_identity.false)
-    c.same_identity.result (compared (goal.at.returns-else-same_identity c).After-same_identity) c.if-same_identity.false
+pub returns : goal.returns
+returns c =
+    match-told c.args.store.now ((record {
+      topic = c.args.topic.now;
+      subscription = c.args.subscription.now;
+      consumer_name = c.args.name.now;
+      consumer_type = c.args.kind;
+    })) c.if-store-lt-MIN_STORE.false c.is_identity.result (named (goal.at.returns c).After-is_identity) (ap not c.if-not-is_identity.false)
+    c.same_identity.result (compared (goal.at.returns c).After-same_identity)

@@ -47,7 +47,7 @@ answered-requires c =
         c.if-store-lt-MIN_STORE.false,
         (sound (goal.at.answered-requires c).Else-not-is_sound),
       );
-      ready = c.in-Ok.ensures.answers.ready;
+      ready = c.in-Some.ensures.answers.ready;
     }
 
 pub scanned-requires : goal.scanned-requires
@@ -60,14 +60,14 @@ scanned-requires c =
       b_len = search rules;
     }
 
-pub returns-in-Ok : goal.returns-in-Ok
-returns-in-Ok c =
+pub returns-in-Some : goal.returns-in-Some
+returns-in-Some c =
     call-out c.args.r c.args.store.now c.answered.result c.answered.new.store c.args.message.now c.args.incarnation
     (given_out c.args.r c.args.store.now c.answered.result c.answered.new.store _ _
     (call-sound c.args.r c.args.store.now c.args.message.now c.args.incarnation c.if-store-lt-MIN_STORE.false
     c.is_sound.result c.is_sound.ensures (ap not c.if-not-is_sound.false)
-    ∙ message-valid c.args.r c.args.store.now c.args.message.now c.args.incarnation c.in-Ok.ensures.valid)
-    (c.answered.ensures (response_of c.args.message.now) (ordered-says c.args.store.now c.args.message.now _ _ _ c.in-Ok.ensures)))
+    ∙ message-valid c.args.r c.args.store.now c.args.message.now c.args.incarnation c.in-Some.ensures.valid)
+    (c.answered.ensures (response_of c.args.message.now) (ordered-says c.args.store.now c.args.message.now _ _ _ c.in-Some.ensures)))
 
 pub returns-in-None : goal.returns-in-None
 returns-in-None c =

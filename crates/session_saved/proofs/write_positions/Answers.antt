@@ -1,4 +1,4 @@
--- `saved::write_positions` meets its contract. The invariant: the first k positions are written. The measure is how many are left.
+-- `saved::write_positions` meets its contract. The invariant: the first k positions are written.
 -- Assumes nothing.
 use Prim.Native.Nat.{ℕ, ◌+◌}
 use native.Mathlib.Omega.{arith}
@@ -10,18 +10,14 @@ use Rattle.session_saved.proofs.FormLaws.{positions-none, positions-on, position
 use Rattle.session_saved.proofs.write_positions.Goals as goal
 
 pub loop-k-init : goal.loop-k-init
-loop-k-init c = (positions-none _ _, omega arith, refl)
+loop-k-init c = (positions-none _ _, refl)
 
 pub loop-k-preserved : goal.loop-k-preserved
 loop-k-preserved c =
-    let w = c in
-    let l = w in
-    let s = l in
-    let e = positions-on _ _ l.loop-k.k _ _ w.loop-k-test.true s.requires l.loop-k.invariant.0 w.write_u64.ensures in
-    (e, omega arith, ap length e ∙ positions-long _ _ (l.loop-k.k + 1) (omega arith) s.requires)
+    let e = positions-on _ _ c.loop-k.k _ _ c.loop-k-test.true c.requires c.loop-k.invariant.0 c.write_u64.ensures in
+    (e, ap length e ∙ positions-long _ _ (c.loop-k.k + 1) (omega arith) c.requires)
 
 pub returns : goal.returns
 returns c =
-    let l = c in
-    let e : l.loop-k.k ≡ 8 = omega arith in
-    l.loop-k.invariant.0 ∙ ap (λ (n : ℕ). put l.args.out.now 40 (encode_positions n l.args.positions)) e
+    let e : c.loop-k.k ≡ 8 = omega arith in
+    c.loop-k.invariant.0 ∙ ap (λ (n : ℕ). put c.args.out.now 40 (encode_positions n c.args.positions)) e

@@ -31,13 +31,13 @@ returns-in-Err-address_of c =
     (turned-away c.args.r c.args.store.now c.args.out.now c.args.incarnation u _
     (c.address_of.ensures ∙ ap (address_of c.args.r c.args.incarnation) c.read_update-head.ensures.id) c.in-Err-address_of.x c.in-Err-address_of.is))
 
-pub returns-in-Ok : goal.returns-in-Ok
-returns-in-Ok c =
+pub returns-in-Ok-address_of : goal.returns-in-Ok-address_of
+returns-in-Ok-address_of c =
     let u = update_of c.args.message.now in
     message-valid c.args.r c.args.store.now c.args.message.now c.args.incarnation c.args.out.now
     (sym c.first_fault.ensures ∙ c.in-Ok.is)
     (let-in c.args.r c.args.store.now c.args.out.now c.args.incarnation u _
-    (c.address_of.ensures ∙ ap (address_of c.args.r c.args.incarnation) c.read_update-head.ensures.id) c.in-Ok.is
+    (c.address_of.ensures ∙ ap (address_of c.args.r c.args.incarnation) c.read_update-head.ensures.id) c.in-Ok-address_of.is
     (c.received.ensures
     ∙ ap (λ (y : Content). effect_of (update_content (view c.args.r c.args.store.now) y) c.args.store.now c.args.out.now)
     (sym (update-content c.args.message.now c.args.store.now c.take_assignment-intake.ensures.is))))

@@ -35,19 +35,19 @@ take_ordered_message-requires c =
 
 pub addressed-requires : goal.addressed-requires
 addressed-requires c =
-    record { min_store_in_bounds = (c.if-store-lt-MIN_STORE.false, c.if-out-lt-LONGEST.false); store_tested = c.in-Some.ensures; scratch = c.in-Some.ensures.answers.ready }
+    record { min_store_in_bounds = (c.if-store-lt-MIN_STORE.false, c.if-out-lt-LONGEST.false); store_tested = c.in-Some.ensures; scratch = c.in-Some-take_ordered_message.ensures.answers.ready }
 
 pub scanned-requires : goal.scanned-requires
 scanned-requires c =
     record { min_store_in_bounds = (c.if-store-lt-MIN_STORE.false, c.if-out-lt-LONGEST.false); store_tested = c.in-Some.ensures; b_len = search rules }
 
-pub returns-in-Some : goal.returns-in-Some
-returns-in-Some c =
+pub returns-in-Some-take_ordered_message : goal.returns-in-Some-take_ordered_message
+returns-in-Some-take_ordered_message c =
     call-sound c.args.r c.args.store.now c.args.message.now c.args.incarnation c.args.out.now
     c.if-store-lt-MIN_STORE.false c.if-out-lt-LONGEST.false c.in-Some.ensures.0
-    (message-valid c.args.r c.args.store.now c.args.message.now c.args.incarnation c.args.out.now c.in-Some.ensures.valid
-    (c.addressed.ensures (update_of c.args.message.now) (ordered-consumer c.args.message.now c.args.store.now _ _ _ c.in-Some.ensures)
-    (update-content c.args.message.now c.args.store.now c.in-Some.ensures.answers.is)))
+    (message-valid c.args.r c.args.store.now c.args.message.now c.args.incarnation c.args.out.now c.in-Some-take_ordered_message.ensures.valid
+    (c.addressed.ensures (update_of c.args.message.now) (ordered-consumer c.args.message.now c.args.store.now _ _ _ c.in-Some-take_ordered_message.ensures)
+    (update-content c.args.message.now c.args.store.now c.in-Some-take_ordered_message.ensures.answers.is)))
 
 pub returns-in-None : goal.returns-in-None
 returns-in-None c =
