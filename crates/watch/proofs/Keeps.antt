@@ -62,58 +62,62 @@ utf8-kept old removed u = utf8-filter (λ t. not (has t removed)) old u
 abbrev update : MessageKind
 update = CommandWatchScalableTopicsUpdate
 
-refused-valid : (x : Refusal) → Err x ≡ Ok record {} → ⊥
+-- the answer of a message without a fault
+abbrev valid : Result ⊤ Refusal
+valid = Ok record {}
+
+refused-valid : (x : Refusal) → ◌≡◌ {A = Result ⊤ Refusal} (Err x) valid → ⊥
 refused-valid x e = let z : ◌≡◌ {A = ℕ} 0 1 = cc in omega arith
 
-first-left : (a b : Result ⊤ Refusal) → first a b ≡ Ok record {} → a ≡ Ok record {}
-first-left (Ok record {}) b e = refl
+first-left : (a b : Result ⊤ Refusal) → first a b ≡ valid → a ≡ valid
+first-left (Ok r) b e = refl
 first-left (Err x) b e = absurd (refused-valid x e)
 
-first-right : (a b : Result ⊤ Refusal) → first a b ≡ Ok record {} → b ≡ Ok record {}
-first-right (Ok record {}) b e = e
+first-right : (a b : Result ⊤ Refusal) → first a b ≡ valid → b ≡ valid
+first-right (Ok r) b e = e
 first-right (Err x) b e = absurd (refused-valid x e)
 
 module _ (inner : MessageKind → List ℕ → Result ⊤ Refusal) where
-  value-valid : (v : ValueKind) (w : WireType) (c : Payload) → check_field inner v w c ≡ Ok record {} → check_value inner v c ≡ Ok record {}
+  value-valid : (v : ValueKind) (w : WireType) (c : Payload) → check_field inner v w c ≡ valid → check_value inner v c ≡ valid
   value-valid v w c e = go (fits_wire v w) e
     where
-      go : (a : Bool) → cond a (check_value inner v c) (Err WrongWireType) ≡ Ok record {} → check_value inner v c ≡ Ok record {}
+      go : (a : Bool) → cond a (check_value inner v c) (Err WrongWireType) ≡ valid → check_value inner v c ≡ valid
       go true f = f
       go false f = absurd (refused-valid WrongWireType f)
 
-  text-valid : (l : List ℕ) → check_value inner value.Text (bytes l) ≡ Ok record {} → is_utf8 l ≡ true
+  text-valid : (l : List ℕ) → check_value inner value.Text (bytes l) ≡ valid → is_utf8 l ≡ true
   text-valid l e = go (is_utf8 l) e
     where
-      go : (b : Bool) → cond b (Ok record {}) (Err InvalidUtf8) ≡ Ok record {} → b ≡ true
+      go : (b : Bool) → cond b valid (Err InvalidUtf8) ≡ valid → b ≡ true
       go true f = refl
       go false f = absurd (refused-valid InvalidUtf8 f)
 
   module _ (k : MessageKind) where
     -- the field at the front has no fault, and neither have those behind it
     head-valid : (f : ℕ) (w : WireType) (c : Payload) (fs : List Field)
-        → check_fields inner k (field f w c ∷ fs) ≡ Ok record {} → check_value inner (value_for k f) c ≡ Ok record {}
+        → check_fields inner k (field f w c ∷ fs) ≡ valid → check_value inner (value_for k f) c ≡ valid
     head-valid f w c fs e = value-valid (value_for k f) w c (first-left (check_field inner (value_for k f) w c) _ e)
 
     tail-valid : (f : ℕ) (w : WireType) (c : Payload) (fs : List Field)
-        → check_fields inner k (field f w c ∷ fs) ≡ Ok record {} → check_fields inner k fs ≡ Ok record {}
+        → check_fields inner k (field f w c ∷ fs) ≡ valid → check_fields inner k fs ≡ valid
     tail-valid f w c fs e = first-right (check_field inner (value_for k f) w c) _ e
 
     -- a part of field n has no fault as what that field holds
     part-valid : (n : ℕ) (v : ValueKind) → value_for k n ≡ v → (f : ℕ) (w : WireType) (l : List ℕ) (fs : List Field)
-        → eqb f n ≡ true → check_fields inner k (field f w (bytes l) ∷ fs) ≡ Ok record {} → check_value inner v (bytes l) ≡ Ok record {}
+        → eqb f n ≡ true → check_fields inner k (field f w (bytes l) ∷ fs) ≡ valid → check_value inner v (bytes l) ≡ valid
     part-valid n v t f w l fs q e =
-        subst (λ (x : ValueKind). check_value inner x (bytes l) ≡ Ok record {}) (ap (value_for k) (eqb-true f n q) ∙ t)
+        subst (λ (x : ValueKind). check_value inner x (bytes l) ≡ valid) (ap (value_for k) (eqb-true f n q) ∙ t)
         (head-valid f w (bytes l) fs e)
 
     -- two rows without a fault, one behind the other
-    rows-valid : (fs gs : List Field) → check_fields inner k fs ≡ Ok record {} → check_fields inner k gs ≡ Ok record {} → check_fields inner k (fs ++ gs) ≡ Ok record {}
+    rows-valid : (fs gs : List Field) → check_fields inner k fs ≡ valid → check_fields inner k gs ≡ valid → check_fields inner k (fs ++ gs) ≡ valid
     rows-valid [] gs e g = g
     rows-valid (bad_key ∷ fs) gs e g = absurd (refused-valid InvalidWireFormat e)
     rows-valid (field f w c ∷ fs) gs e g =
         rw (first-left (check_field inner (value_for k f) w c) _ e) (rows-valid fs gs (tail-valid f w c fs e) g)
 
     -- the parts of a field whose values are texts
-    parts-utf8 : (n : ℕ) → value_for k n ≡ value.Text → (fs : List Field) → check_fields inner k fs ≡ Ok record {} → all_utf8 (parts_of n fs) ≡ true
+    parts-utf8 : (n : ℕ) → value_for k n ≡ value.Text → (fs : List Field) → check_fields inner k fs ≡ valid → all_utf8 (parts_of n fs) ≡ true
     unfolding all_utf8
     parts-utf8 n t [] e = refl
     parts-utf8 n t (bad_key ∷ fs) e = absurd (refused-valid InvalidWireFormat e)
@@ -133,7 +137,7 @@ event_kind f = cond (eqb f 2) ScalableTopicsSnapshot ScalableTopicsDiff
 
 abbrev MemberValid : Member → Type 0
 MemberValid absent = Unit {0}
-MemberValid (holds f fs) = check_fields (fault_within 0) (event_kind f) fs ≡ Ok record {}
+MemberValid (holds f fs) = check_fields (fault_within 0) (event_kind f) fs ≡ valid
 
 -- an event behind another
 behind-valid : (m : Member) (f : ℕ) (fs : List Field) → MemberValid m → MemberValid (holds f fs) → MemberValid (member_behind m f fs)
@@ -141,22 +145,22 @@ behind-valid absent f fs h g = g
 behind-valid (holds k before) f fs h g =
     choose MemberValid (eqb k f)
     (λ e. rows-valid (fault_within 0) (event_kind f) before fs
-    (subst (λ (n : ℕ). check_fields (fault_within 0) (event_kind n) before ≡ Ok record {}) (eqb-true k f e) h) g)
+    (subst (λ (n : ℕ). check_fields (fault_within 0) (event_kind n) before ≡ valid) (eqb-true k f e) h) g)
     (λ _. g)
 
 -- the part of an event
-event-part : (f : ℕ) (w : WireType) (p : List ℕ) (fs : List Field) → check_fields (fault_within 1) update (field f w (bytes p) ∷ fs) ≡ Ok record {}
+event-part : (f : ℕ) (w : WireType) (p : List ℕ) (fs : List Field) → check_fields (fault_within 1) update (field f w (bytes p) ∷ fs) ≡ valid
     → is_member f event_fields ≡ true → MemberValid (holds f (fields_of p))
 unfolding value_for
 event-part f w p fs q e = go (eqb f 2) refl (eqb f 3) refl e
   where
     go : (a : Bool) → eqb f 2 ≡ a → (b : Bool) → eqb f 3 ≡ b → cond a true (cond b true false) ≡ true
-        → check_fields (fault_within 0) (cond a ScalableTopicsSnapshot ScalableTopicsDiff) (fields_of p) ≡ Ok record {}
+        → check_fields (fault_within 0) (cond a ScalableTopicsSnapshot ScalableTopicsDiff) (fields_of p) ≡ valid
     go true i b j g = part-valid (fault_within 1) update 2 (value.Message ScalableTopicsSnapshot) refl f w p fs i q
     go false i true j g = part-valid (fault_within 1) update 3 (value.Message ScalableTopicsDiff) refl f w p fs j q
     go false i false j g = absurd (false≢true g)
 
-event-valid : (m : Member) (fs : List Field) → MemberValid m → check_fields (fault_within 1) update fs ≡ Ok record {}
+event-valid : (m : Member) (fs : List Field) → MemberValid m → check_fields (fault_within 1) update fs ≡ valid
     → MemberValid (member_after event_fields m fs)
 event-valid m [] h q = h
 event-valid m (bad_key ∷ fs) h q = absurd (refused-valid InvalidWireFormat q)
@@ -170,14 +174,14 @@ event-valid m (field f w (bytes p) ∷ fs) h q =
 
 abbrev EventValid : WireEvent → Type 0
 EventValid none = Unit {0}
-EventValid (snapshot fs) = check_fields (fault_within 0) ScalableTopicsSnapshot fs ≡ Ok record {}
-EventValid (diff fs) = check_fields (fault_within 0) ScalableTopicsDiff fs ≡ Ok record {}
+EventValid (snapshot fs) = check_fields (fault_within 0) ScalableTopicsSnapshot fs ≡ valid
+EventValid (diff fs) = check_fields (fault_within 0) ScalableTopicsDiff fs ≡ valid
 
 member-event : (m : Member) → MemberValid m → EventValid (event_by m)
 member-event absent h = tt
 member-event (holds f fs) h = go (eqb f 2) h
   where
-    go : (b : Bool) → check_fields (fault_within 0) (cond b ScalableTopicsSnapshot ScalableTopicsDiff) fs ≡ Ok record {}
+    go : (b : Bool) → check_fields (fault_within 0) (cond b ScalableTopicsSnapshot ScalableTopicsDiff) fs ≡ valid
         → EventValid (cond b (snapshot fs) (diff fs))
     go true g = g
     go false g = g
@@ -196,6 +200,11 @@ diff-utf8 fs e = parts-utf8 (fault_within 0) ScalableTopicsDiff 1 refl fs e
 abbrev Leaves : WatchOutcome → Type 0
 Leaves o = (a b : ℕ) → o.answer ≡ Ok (a, b) → is_set (take a o.buffer) ≡ true
 
+-- the length of the set that is told
+abbrev set_length : Result (ℕ × ℕ) Refusal → ℕ
+set_length (Ok r) = r.0
+set_length (Err x) = 0
+
 module _ (buffer out : List ℕ) where
   refused : (x : Refusal) → Leaves (refuse buffer out x)
   refused x a b e = let z : ◌≡◌ {A = ℕ} 0 1 = cc in absurd (omega arith)
@@ -210,10 +219,10 @@ module _ (buffer out : List ℕ) where
       (λ f. refused ResultTooLong))
       (λ e. refused SetTooLong)
     where
-      set : (a b : ℕ) → Ok (size_topics c.topics, length c.output) ≡ Ok (a, b) → all_short c.topics ≡ true
+      set : (a b : ℕ) → ◌≡◌ {A = Result (ℕ × ℕ) Refusal} (Ok (size_topics c.topics, length c.output)) (Ok (a, b)) → all_short c.topics ≡ true
           → is_set (take a (put buffer 0 (encode_topics c.topics))) ≡ true
       set a b g t =
-          let h : size_topics c.topics ≡ a = cc in
+          let h : size_topics c.topics ≡ a = ap set_length g in
           ap is_set (take-front buffer (encode_topics c.topics) a (sym h ∙ sym (length-encode c.topics))) ∙ set-of c.topics r u t
 
   snapshot-leaves : (p : List Field) → EventValid (snapshot p) → Leaves (settle buffer out (snapshot_by p))
@@ -243,7 +252,7 @@ module _ (buffer out : List ℕ) where
     event-leaves u (diff p) h = diff-leaves p h
     event-leaves u none h = refused (no_event u.watch_id u.error)
 
-    valid-leaves : (id : ℕ) (m : List ℕ) → first_fault update m ≡ Ok record {} → Leaves (for_watch buffer out id old (watch_update_of m))
+    valid-leaves : (id : ℕ) (m : List ℕ) → first_fault update m ≡ valid → Leaves (for_watch buffer out id old (watch_update_of m))
     unfolding first_fault for_watch watch_update_of read_event
     valid-leaves id m e =
         let u = watch_update_of m in
@@ -253,7 +262,7 @@ module _ (buffer out : List ℕ) where
 
     checked-leaves : (id : ℕ) (m : List ℕ) (c : Result ⊤ Refusal) → first_fault update m ≡ c → Leaves (when_checked buffer out id old m c)
     checked-leaves id m (Err x) e = refused x
-    checked-leaves id m (Ok record {}) e = valid-leaves id m e
+    checked-leaves id m (Ok r) e = valid-leaves id m e
 
   -- an accepted update leaves a set, where the topics before it have 16-bit lengths
   pub leaves-of-short : (id used : ℕ) (message : List ℕ) → (is_set (take used buffer) ≡ true → all_short (decode_topics (take used buffer)) ≡ true)

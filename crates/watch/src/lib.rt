@@ -67,9 +67,10 @@ fn write_snapshot(buffer: &mut [u8], order: Sorted, p: &[u8], out: &mut [u8]) ->
 fn fits_whole(n: usize, set: usize, out: usize) -> bool
     ensures { result ≡ true → (n ≤ set) × (n < out) }
 {
-    if n <= set { n < out } else { false }
+    n <= set && n < out
 }
 
+// The set and the output of a snapshot. Answers their lengths in bytes, or why nothing was changed.
 fn snapshot(buffer: &mut [u8], p: &[u8], out: &mut [u8]) -> Result<(usize, usize), Refusal>
     ensures { (result ≡ (settle buffer.old out.old (snapshot_in p.now)).answer)
         × (buffer.new ≡ (settle buffer.old out.old (snapshot_in p.now)).buffer)
@@ -145,7 +146,7 @@ fn fits(z: usize, gone: usize, room: usize) -> bool
     gone <= room - 5 - z
 }
 
-// The set and the output of a diff, both of which fit.
+// The set and the output of a diff, both of which fit. Answers their lengths in bytes.
 fn write_diff(
     buffer: &mut [u8],
     used: usize,
@@ -206,6 +207,7 @@ fn room_for(set: &[u8], order: Sorted, p: &[u8], room: usize, out: usize) -> Roo
     Room::Fits
 }
 
+// The set and the output of a diff. Answers their lengths in bytes, or why nothing was changed.
 fn diff(buffer: &mut [u8], used: usize, p: &[u8], out: &mut [u8]) -> Result<(usize, usize), Refusal>
     requires used_in_bounds { used ≤ length buffer.old }
     requires buffer_value { is_set (take used buffer.old) ≡ true }
@@ -242,7 +244,7 @@ fn no_event(id: u64, error: Option<i32>) -> Refusal
     }
 }
 
-// The update of a message without a fault.
+// The update of a message without a fault. Answers the lengths in bytes of the set and of the output, or why nothing was changed.
 fn update(
     id: u64,
     buffer: &mut [u8],
@@ -261,18 +263,17 @@ fn update(
     if got != id {
         return Err(Refusal::WatchMismatch { got, expected: id });
     }
-    let event = head.event;
+    let Some(event) = head.event else {
+        return Err(no_event(got, head.error));
+    };
     match event {
-        Some(Event::Snapshot(base)) => snapshot(buffer, &message[base..], out),
-        Some(Event::Diff(base)) => diff(buffer, used, &message[base..], out),
-        None => {
-            let error = head.error;
-            Err(no_event(got, error))
-        }
+        Event::Snapshot(base) => snapshot(buffer, &message[base..], out),
+        Event::Diff(base) => diff(buffer, used, &message[base..], out),
     }
 }
 
-// Takes an update to the set of `used` bytes at the front of buffer.
+// Takes an update to the set of `used` bytes at the front of buffer. Answers the lengths in bytes of the new set and of the output, or why
+// nothing was changed.
 pub fn handle_update(
     watch_id: u64,
     buffer: &mut [u8],
@@ -289,10 +290,8 @@ pub fn handle_update(
     if !watch_topics::is_set(&buffer[..used]) {
         return Err(Refusal::MalformedSet);
     }
-    match wire_messages::first_fault(MessageKind::CommandWatchScalableTopicsUpdate, message) {
-        Err(x) => Err(x),
-        Ok(()) => update(watch_id, buffer, used, message, out),
-    }
+    wire_messages::first_fault(MessageKind::CommandWatchScalableTopicsUpdate, message)?;
+    update(watch_id, buffer, used, message, out)
 }
 
 // The broker's text of a message that `handle_update` refused with `Broker`: a part of the message, never of the set.

@@ -26,8 +26,8 @@ use Rattle.wire.proofs.FieldsLaws.{fields-nil, fields-bad-key, fields-cut, field
 use Rattle.wire_values.specs.Values.{parts_of, join_fields}
 use Rattle.keyed.specs.Keyed.{filter}
 use Rattle.keyed.proofs.KeyedLaws.{choose}
-use Rattle.watch_topics.specs.declared.Order.{Order}
-use Rattle.watch_topics.specs.declared.Order.TheVariants.{Less, Equal, Greater}
+use Rattle.std.specs.declared.cmp.Ordering.{Ordering}
+use Rattle.std.specs.declared.cmp.Ordering.TheVariants.{Less, Equal, Greater}
 use Rattle.watch_topics.specs.Topics.{order, by_order, insert, insert_all, sorted}
 use Rattle.watch_topics.specs.Packed.{size_topics}
 use Rattle.watch_topics.proofs.PackedLaws.{size-append}
@@ -137,7 +137,7 @@ unfolding insert size_topics
 size-insert t [] = omega arith
 size-insert t (u ∷ us) = go (order t u) (size-insert t us)
   where
-    go : (o : Order) → size_topics (insert t us) ≤ 2 + length t + size_topics us
+    go : (o : Ordering) → size_topics (insert t us) ≤ 2 + length t + size_topics us
         → size_topics (by_order o (t ∷ u ∷ us) (u ∷ us) (u ∷ insert t us)) ≤ 2 + length t + (2 + length u + size_topics us)
     go Less h = omega arith
     go Equal h = omega arith

@@ -13,7 +13,7 @@ use Rattle.slice.proofs.PartLaws.{drop-take, Bytes, Bytes-take, Bytes-drop}
 use Rattle.slice_int.specs.Be.{be_at}
 use Rattle.slice_int.specs.Put.{put}
 use Rattle.slice_int.proofs.PutLaws.{put-nil, put-after, take_put}
-use Rattle.watch_topics.specs.declared.Order.TheVariants.{Greater}
+use Rattle.std.specs.declared.cmp.Ordering.TheVariants.{Greater}
 use Rattle.watch_topics.specs.declared.Place.{Place}
 use Rattle.watch_topics.specs.Topics.{order, has, insert_all, rising}
 use Rattle.watch_topics.specs.Packed.{encode_topic, encode_topics, size_topics, decode_topics, is_whole, topic_place}

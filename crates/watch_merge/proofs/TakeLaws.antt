@@ -15,8 +15,8 @@ use Rattle.slice_int.specs.Be.{be_at}
 use Rattle.slice_int.specs.Put.{put}
 use Rattle.slice_int.proofs.PutLaws.{put-nil, put-after}
 use Rattle.keyed.specs.Keyed.{filter}
-use Rattle.watch_topics.specs.declared.Order.{Order}
-use Rattle.watch_topics.specs.declared.Order.TheVariants.{Less, Equal, Greater}
+use Rattle.std.specs.declared.cmp.Ordering.{Ordering}
+use Rattle.std.specs.declared.cmp.Ordering.TheVariants.{Less, Equal, Greater}
 use Rattle.watch_topics.specs.declared.Place.{Place}
 use Rattle.watch_topics.specs.Topics.{order, by_order, has, rising}
 use Rattle.watch_topics.specs.Packed.{encode_topics, size_topics, decode_topics, is_whole, topic_place}
@@ -45,7 +45,7 @@ unfolding lower past has
 three-parts t [] r = refl
 three-parts t (u ∷ us) r = go (order t u) refl (three-parts t us (rising-tail u us r))
   where
-    go : (o : Order) → order t u ≡ o → us ≡ (lower t us ++ here t us) ++ past t us
+    go : (o : Ordering) → order t u ≡ o → us ≡ (lower t us ++ here t us) ++ past t us
         → u ∷ us
         ≡ (by_order (order t u) [] [] (u ∷ lower t us) ++ cond (same_bytes t u || has t us) (t ∷ []) [])
         ++ by_order (order t u) (u ∷ us) us (past t us)
@@ -61,7 +61,7 @@ unfolding past
 rising-past t [] r = r
 rising-past t (u ∷ us) r = go (order t u) refl (rising-past t us (rising-tail u us r))
   where
-    go : (o : Order) → order t u ≡ o → rising (past t us) ≡ true → rising (by_order (order t u) (u ∷ us) us (past t us)) ≡ true
+    go : (o : Ordering) → order t u ≡ o → rising (past t us) ≡ true → rising (by_order (order t u) (u ∷ us) us (past t us)) ≡ true
     go Less e h = rw e r
     go Equal e h = rw e (rising-tail u us r)
     go Greater e h = rw e h
@@ -71,7 +71,7 @@ unfolding past has
 past-behind t [] x r h = absurd (false≢true h)
 past-behind t (u ∷ us) x r h = go (order t u) refl h (past-behind t us x (rising-tail u us r))
   where
-    go : (o : Order) → order t u ≡ o → has x (by_order o (u ∷ us) us (past t us)) ≡ true
+    go : (o : Ordering) → order t u ≡ o → has x (by_order o (u ∷ us) us (past t us)) ≡ true
         → (has x (past t us) ≡ true → order t x ≡ Less) → order t x ≡ Less
     go Less e k ih = has-cases x u us k (λ q. ap (order t) q ∙ e) (λ q. order_trans t u x e (first-before u us x r q))
     go Equal e k ih = ap (λ (y : List ℕ). order y x) (order-equal t u e) ∙ first-before u us x r k

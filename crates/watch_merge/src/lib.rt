@@ -30,8 +30,8 @@ pub fn take_out(b: &mut [u8], gone: &[u8]) -> usize
         let end = at + LENGTH + n;
         let place = watch_topics::seek(&b[from..], &gone[at + LENGTH..end]);
         slice_moves::move_down(b, from, to, place.at);
-        to = to + place.at;
-        from = from + place.at + skip(place.present, LENGTH + n);
+        to += place.at;
+        from += place.at + skip(place.present, LENGTH + n);
         at = end;
     }
     let rest = b.len() - from;
@@ -58,10 +58,10 @@ pub fn merge(b: &mut [u8], used: usize, new: &[u8]) -> usize
         let next = at + LENGTH + n;
         let place = watch_topics::seek(&b[from..end], &new[at + LENGTH..next]);
         slice_moves::move_down(b, from, to, place.at);
-        to = to + place.at;
-        from = from + place.at;
+        to += place.at;
+        from += place.at;
         slice_int::put_bytes(b, to, &new[at..next]);
-        to = to + LENGTH + n;
+        to += LENGTH + n;
         at = next;
     }
     end

@@ -20,24 +20,26 @@ use Rattle.slice.proofs.SameLaws.{same_refl, same-eq}
 use Rattle.slice.proofs.PartLaws.{Bytes, Bytes-take, Bytes-drop}
 use Rattle.slice_int.specs.Be.{be, be_at, bytes_of}
 use Rattle.slice_int.proofs.BeLaws.{be-nil, be-append, be-snoc, be-at-one, be-at-add, be-below, bytes_of-front}
-use Rattle.watch_topics.specs.declared.Order.{Order}
-use Rattle.watch_topics.specs.declared.Order.TheVariants.{Less, Equal, Greater}
+use Rattle.std.specs.declared.cmp.Ordering.{Ordering}
+use Rattle.std.specs.declared.cmp.Ordering.TheVariants.{Less, Equal, Greater}
+use Rattle.std.specs.Ordering.{nat_cmp, is_lt}
+use Rattle.std.proofs.lemmas.Cmp.{by_ranked, ranked}
 use Rattle.watch_topics.specs.Topics.{order, by_order, before}
 
 -- ---- the three answers
 
-abbrev pub flip : Order → Order
+abbrev pub flip : Ordering → Ordering
 flip o = by_order o Greater Equal Less
 
 -- the answers differ
 pub less_equal : Less ≡ Equal → ⊥
-less_equal e = let z : ◌≡◌ {A = ℕ} 0 1 = ap (λ (o : Order). by_order o 0 1 2) e in omega arith
+less_equal e = let z : ◌≡◌ {A = ℕ} 0 1 = ap (λ (o : Ordering). by_order o 0 1 2) e in omega arith
 
 pub greater-equal : Greater ≡ Equal → ⊥
-greater-equal e = let z : ◌≡◌ {A = ℕ} 2 1 = ap (λ (o : Order). by_order o 0 1 2) e in omega arith
+greater-equal e = let z : ◌≡◌ {A = ℕ} 2 1 = ap (λ (o : Ordering). by_order o 0 1 2) e in omega arith
 
 pub greater-less : Greater ≡ Less → ⊥
-greater-less e = let z : ◌≡◌ {A = ℕ} 2 0 = ap (λ (o : Order). by_order o 0 1 2) e in omega arith
+greater-less e = let z : ◌≡◌ {A = ℕ} 2 0 = ap (λ (o : Ordering). by_order o 0 1 2) e in omega arith
 
 -- ---- byte order
 
@@ -86,7 +88,7 @@ order-refl (x ∷ xs) = let k : x ≤ x = omega arith in simp (le-ltb x x k, ord
 pub same-order : (a b : List ℕ) → same_bytes a b ≡ by_order (order a b) false true false
 same-order a b = go (same_bytes a b) refl (order a b) refl
   where
-    go : (s : Bool) → same_bytes a b ≡ s → (o : Order) → order a b ≡ o → same_bytes a b ≡ by_order (order a b) false true false
+    go : (s : Bool) → same_bytes a b ≡ s → (o : Ordering) → order a b ≡ o → same_bytes a b ≡ by_order (order a b) false true false
     go s e Equal f =
         let k : same_bytes a b ≡ true = ap (λ (x : List ℕ). same_bytes x b) (order-equal a b f) ∙ same_refl b in
         rw (k, f)
@@ -145,7 +147,7 @@ greater-trans a b c e f = less-flip c a (order_trans c b a (greater-flip b c f) 
 pub before-is : (a b : List ℕ) → before a b ≡ true → order a b ≡ Less
 before-is a b e = go (order a b) refl e
   where
-    go : (o : Order) → order a b ≡ o → by_order o true false false ≡ true → order a b ≡ Less
+    go : (o : Ordering) → order a b ≡ o → by_order o true false false ≡ true → order a b ≡ Less
     go Less f g = f
     go Equal f g = absurd (false≢true g)
     go Greater f g = absurd (false≢true g)
@@ -291,6 +293,12 @@ module _ {a b : List ℕ} {i x y : ℕ} (w : Words a b i x y) where
       ∙ less-flip (drop i b) (drop i a)
       (order-word-less 8 b a i w.bytes-b w.bytes-a w.fits-b w.fits-a (omega (arith, w.word-a, w.word-b)))
 
+  -- the order of two words that differ is the lists' own
+  pub words-order : (x ≡ y → ⊥) → (r : Ordering) → r ≡ nat_cmp x y → r ≡ order a b
+  words-order d r e =
+      by_ranked (x < y) (x ≡ y) (y < x) r (ranked x y r e)
+      (λ f l. f ∙ sym (words-less l)) (λ f l. absurd (d l)) (λ f l. f ∙ sym (words-greater l))
+
   pub words-alike : x ≤ y → y ≤ x → take (i + 8) a ≡ take (i + 8) b
   words-alike l m =
       front_same 8 a b i w.alike (same_word 8 a b i w.bytes-a w.bytes-b w.fits-a w.fits-b (omega (arith, w.word-a, w.word-b)))
@@ -316,6 +324,18 @@ module _ {a b : List ℕ} {n x y : ℕ} (w : Words a b (n - 8) x y) (h : 8 ≤ n
 
   pub end-equal : length a ≤ length b → length b ≤ length a → order a b ≡ Equal
   end-equal q r = behind-end ∙ order-end a b n (first_ends q) (second-ends r)
+
+  pub end-order : (r : Ordering) → r ≡ nat_cmp (length a) (length b) → r ≡ order a b
+  end-order r e =
+      by_ranked (length a < length b) (length a ≡ length b) (length b < length a) r (ranked (length a) (length b) r e)
+      (λ f k. f ∙ sym (end-shorter k)) (λ f k. f ∙ sym (end-equal (omega arith) (omega arith))) (λ f k. f ∙ sym (end-longer k))
+
+-- ---- what `is_lt` says
+
+pub is-lt-before : (a b : List ℕ) (o : Ordering) → o ≡ order a b → is_lt o ≡ before a b
+is-lt-before a b Less e = ap (λ (o : Ordering). by_order o true false false) e
+is-lt-before a b Equal e = ap (λ (o : Ordering). by_order o true false false) e
+is-lt-before a b Greater e = ap (λ (o : Ordering). by_order o true false false) e
 
 -- ---- a word read byte by byte
 

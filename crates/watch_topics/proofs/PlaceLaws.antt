@@ -10,8 +10,8 @@ use lib.ListN.{length, take, drop}
 use Rattle.slice.specs.Same.{same_bytes}
 use Rattle.slice.proofs.SameLaws.{same_refl, same-eq}
 use Rattle.slice.proofs.PartLaws.{Bytes}
-use Rattle.watch_topics.specs.declared.Order.{Order}
-use Rattle.watch_topics.specs.declared.Order.TheVariants.{Less, Equal, Greater}
+use Rattle.std.specs.declared.cmp.Ordering.{Ordering}
+use Rattle.std.specs.declared.cmp.Ordering.TheVariants.{Less, Equal, Greater}
 use Rattle.watch_topics.specs.declared.Place.{Place}
 use Rattle.watch_topics.specs.Topics.{order, by_order, has, insert, insert_all, leads, rising}
 use Rattle.watch_topics.specs.Packed.{encode_topics, size_topics, decode_topics, is_whole, topic_place}
@@ -33,7 +33,7 @@ unfolding lower upper
 lower-upper t [] = refl
 lower-upper t (u ∷ us) = go (order t u) refl (lower-upper t us)
   where
-    go : (o : Order) → order t u ≡ o → us ≡ lower t us ++ upper t us
+    go : (o : Ordering) → order t u ≡ o → us ≡ lower t us ++ upper t us
         → u ∷ us ≡ by_order (order t u) [] [] (u ∷ lower t us) ++ by_order (order t u) (u ∷ us) (u ∷ us) (upper t us)
     go Less e h = rw e
     go Equal e h = rw e
@@ -46,7 +46,7 @@ unfolding topic_place lower size_topics
 place_at t at [] = omega arith
 place_at t at (u ∷ us) = go (order t u) refl (topic_place t (at + (2 + length u)) us) (place_at t (at + (2 + length u)) us)
   where
-    go : (o : Order) → order t u ≡ o → (q : Place) → q.at ≡ at + (2 + length u) + size_topics (lower t us)
+    go : (o : Ordering) → order t u ≡ o → (q : Place) → q.at ≡ at + (2 + length u) + size_topics (lower t us)
         → (by_order (order t u) (record { at = at; present = false }) (record { at = at; present = true }) q).at
         ≡ at + size_topics (by_order (order t u) [] [] (u ∷ lower t us))
     go Less e q h = rw e (omega arith)
@@ -59,7 +59,7 @@ place-has t at [] r = refl
 place-has t at (u ∷ us) r =
     go (order t u) refl (topic_place t (at + (2 + length u)) us) (place-has t (at + (2 + length u)) us (rising-tail u us r))
   where
-    go : (o : Order) → order t u ≡ o → (q : Place) → q.present ≡ has t us
+    go : (o : Ordering) → order t u ≡ o → (q : Place) → q.present ≡ has t us
         → (by_order (order t u) (record { at = at; present = false }) (record { at = at; present = true }) q).present
         ≡ (same_bytes t u || has t us)
     go Less e q h = let g : (same_bytes t u || has t us) ≡ false = has-before t (u ∷ us) (is-before t u e) r in rw (e, g)
@@ -78,7 +78,7 @@ unfolding lower
 lower-below t [] = tt
 lower-below t (u ∷ us) = go (order t u) refl (lower-below t us)
   where
-    go : (o : Order) → order t u ≡ o → Below t (lower t us) → Below t (by_order (order t u) [] [] (u ∷ lower t us))
+    go : (o : Ordering) → order t u ≡ o → Below t (lower t us) → Below t (by_order (order t u) [] [] (u ∷ lower t us))
     go Less e h = rw e tt
     go Equal e h = rw e tt
     go Greater e h = rw e (e, h)
@@ -110,7 +110,7 @@ unfolding upper has
 has-upper t u [] n = refl
 has-upper t u (v ∷ vs) n = go (order t v) refl (has-upper t u vs n)
   where
-    go : (o : Order) → order t v ≡ o → has u (upper t vs) ≡ has u vs
+    go : (o : Ordering) → order t v ≡ o → has u (upper t vs) ≡ has u vs
         → has u (by_order (order t v) (v ∷ vs) (v ∷ vs) (upper t vs)) ≡ (same_bytes u v || has u vs)
     go Less e h = rw e
     go Equal e h = rw e
@@ -127,7 +127,7 @@ unfolding upper
 rising-upper t [] r = r
 rising-upper t (u ∷ us) r = go (order t u) refl (rising-upper t us (rising-tail u us r))
   where
-    go : (o : Order) → order t u ≡ o → rising (upper t us) ≡ true → rising (by_order (order t u) (u ∷ us) (u ∷ us) (upper t us)) ≡ true
+    go : (o : Ordering) → order t u ≡ o → rising (upper t us) ≡ true → rising (by_order (order t u) (u ∷ us) (u ∷ us) (upper t us)) ≡ true
     go Less e h = rw e r
     go Equal e h = rw e r
     go Greater e h = rw e h
@@ -142,7 +142,7 @@ upper-present t (u ∷ us) r h = go (order t u) refl (upper-present t us (rising
         → (vs : List (List ℕ)) × (by_order (order t u) (u ∷ us) (u ∷ us) (upper t us) ≡ t ∷ vs)
     on e (vs, q) = (vs, rw e q)
 
-    go : (o : Order) → order t u ≡ o → (has t us ≡ true → (vs : List (List ℕ)) × (upper t us ≡ t ∷ vs))
+    go : (o : Ordering) → order t u ≡ o → (has t us ≡ true → (vs : List (List ℕ)) × (upper t us ≡ t ∷ vs))
         → (vs : List (List ℕ)) × (by_order (order t u) (u ∷ us) (u ∷ us) (upper t us) ≡ t ∷ vs)
     go Less e ih = absurd (false≢true (sym (has-before t (u ∷ us) (is-before t u e) r) ∙ h))
     go Equal e ih = (us, rw (e, order-equal t u e))
@@ -156,7 +156,7 @@ unfolding upper has
 upper-absent t [] h = refl
 upper-absent t (u ∷ us) h = go (order t u) refl (upper-absent t us)
   where
-    go : (o : Order) → order t u ≡ o → (has t us ≡ false → leads t (upper t us) ≡ true)
+    go : (o : Ordering) → order t u ≡ o → (has t us ≡ false → leads t (upper t us) ≡ true)
         → leads t (by_order (order t u) (u ∷ us) (u ∷ us) (upper t us)) ≡ true
     go Less e ih = rw e (is-before t u e)
     go Equal e ih = absurd (true≢false (sym (has_first u us) ∙ ap (λ (x : List ℕ). has x (u ∷ us)) (sym (order-equal t u e)) ∙ h))
@@ -169,7 +169,7 @@ unfolding insert lower upper has
 insert-absent t [] h = refl
 insert-absent t (u ∷ us) h = go (order t u) refl (insert-absent t us)
   where
-    go : (o : Order) → order t u ≡ o → (has t us ≡ false → insert t us ≡ lower t us ++ (t ∷ upper t us))
+    go : (o : Ordering) → order t u ≡ o → (has t us ≡ false → insert t us ≡ lower t us ++ (t ∷ upper t us))
         → by_order (order t u) (t ∷ u ∷ us) (u ∷ us) (u ∷ insert t us)
         ≡ by_order (order t u) [] [] (u ∷ lower t us) ++ (t ∷ by_order (order t u) (u ∷ us) (u ∷ us) (upper t us))
     go Less e ih = rw e

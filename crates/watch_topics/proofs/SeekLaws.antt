@@ -10,8 +10,8 @@ use lib.ListN.{length, take, drop, length-drop}
 use lib.Seq.{length-take-le}
 use Rattle.slice.proofs.PartLaws.{Bytes, Bytes-take, Bytes-drop}
 use Rattle.slice_int.specs.Be.{be_at}
-use Rattle.watch_topics.specs.declared.Order.{Order}
-use Rattle.watch_topics.specs.declared.Order.TheVariants.{Less, Equal, Greater}
+use Rattle.std.specs.declared.cmp.Ordering.{Ordering}
+use Rattle.std.specs.declared.cmp.Ordering.TheVariants.{Less, Equal, Greater}
 use Rattle.watch_topics.specs.declared.Place.{Place}
 use Rattle.watch_topics.specs.Topics.{order, by_order, has, leads, rising, all_short}
 use Rattle.watch_topics.specs.Packed.{size_topics, decode_topics, is_whole, topic_place}
@@ -97,7 +97,7 @@ shift t k at (u ∷ us) =
     go (order t u) (ap (λ (n : ℕ). topic_place t n us) (let e : k + at + (2 + length u) ≡ k + (at + (2 + length u)) = omega arith in e)
     ∙ shift t k (at + (2 + length u)) us)
   where
-    go : (o : Order) → topic_place t (k + at + (2 + length u)) us ≡ moved k (topic_place t (at + (2 + length u)) us)
+    go : (o : Ordering) → topic_place t (k + at + (2 + length u)) us ≡ moved k (topic_place t (at + (2 + length u)) us)
         → by_order o (record { at = k + at; present = false }) (record { at = k + at; present = true }) (topic_place t (k + at + (2 + length u)) us)
         ≡ moved k (by_order o (record { at = at; present = false }) (record { at = at; present = true }) (topic_place t (at + (2 + length u)) us))
     go Less h = refl
@@ -186,7 +186,7 @@ module _ (s t : List ℕ) (low at : ℕ) (b : Bytes s) (v : Sought s t low) (k :
   pub seek-end : length s ≤ at → topic_place t low (decode_topics (take (at - low) (drop low s))) ≡ topic_place t 0 (decode_topics s)
   seek-end h = among (ap (leads t) (topics-end s at h))
 
-  module _ (n : ℕ) (h : at < length s) (e : n ≡ be_at 2 s at) (o : Order) (f : o ≡ order t (take (at + 2 + n - (at + 2)) (drop (at + 2) s))) where
+  module _ (n : ℕ) (h : at < length s) (e : n ≡ be_at 2 s at) (o : Ordering) (f : o ≡ order t (take (at + 2 + n - (at + 2)) (drop (at + 2) s))) where
     abbrev others : List (List ℕ)
     others = decode_topics (drop (at + 2 + n) s)
 

@@ -9,8 +9,8 @@ use Rattle.slice.specs.BoolLaws.{both, both_true}
 use Rattle.slice.specs.Same.{same_bytes}
 use Rattle.slice.proofs.SameLaws.{same_refl, same-eq}
 use Rattle.keyed.specs.Keyed.{filter}
-use Rattle.watch_topics.specs.declared.Order.{Order}
-use Rattle.watch_topics.specs.declared.Order.TheVariants.{Less, Equal, Greater}
+use Rattle.std.specs.declared.cmp.Ordering.{Ordering}
+use Rattle.std.specs.declared.cmp.Ordering.TheVariants.{Less, Equal, Greater}
 use Rattle.watch_topics.specs.Topics.{order, by_order, before, has, insert, insert_all, sorted, leads, rising}
 use Rattle.watch_topics.proofs.OrderLaws.{order-equal, order_trans, greater-flip, same-less, same-greater, before-is, is-before}
 
@@ -97,7 +97,7 @@ unfolding insert has
 has-insert u t [] = refl
 has-insert u t (v ∷ vs) = go (order t v) refl (has-insert u t vs)
   where
-    go : (o : Order) → order t v ≡ o → has u (insert t vs) ≡ (same_bytes u t || has u vs)
+    go : (o : Ordering) → order t v ≡ o → has u (insert t vs) ≡ (same_bytes u t || has u vs)
         → has u (by_order (order t v) (t ∷ v ∷ vs) (v ∷ vs) (v ∷ insert t vs)) ≡ (same_bytes u t || (same_bytes u v || has u vs))
     go Less e h = rw e
     go Equal e h = rw (e, order-equal t v e) (sym (or_self_left (same_bytes u v) (has u vs)))
@@ -108,7 +108,7 @@ unfolding insert
 leads-insert v t [] e l = rw e
 leads-insert v t (w ∷ ws) e l = go (order t w) refl
   where
-    go : (o : Order) → order t w ≡ o → leads v (by_order (order t w) (t ∷ w ∷ ws) (w ∷ ws) (w ∷ insert t ws)) ≡ true
+    go : (o : Ordering) → order t w ≡ o → leads v (by_order (order t w) (t ∷ w ∷ ws) (w ∷ ws) (w ∷ insert t ws)) ≡ true
     go Less f = rw f (is-before v t e)
     go Equal f = rw f l
     go Greater f = rw f l
@@ -118,7 +118,7 @@ unfolding insert
 rising-insert t [] r = rising-cons t [] refl r
 rising-insert t (u ∷ us) r = go (order t u) refl (rising-insert t us (rising-tail u us r))
   where
-    go : (o : Order) → order t u ≡ o → rising (insert t us) ≡ true
+    go : (o : Ordering) → order t u ≡ o → rising (insert t us) ≡ true
         → rising (by_order (order t u) (t ∷ u ∷ us) (u ∷ us) (u ∷ insert t us)) ≡ true
     go Less e h = rw e (rising-cons t (u ∷ us) (is-before t u e) r)
     go Equal e h = rw e r
@@ -129,7 +129,7 @@ unfolding insert has
 insert-there t [] r h = absurd (false≢true h)
 insert-there t (u ∷ us) r h = go (order t u) refl (insert-there t us (rising-tail u us r))
   where
-    go : (o : Order) → order t u ≡ o → (has t us ≡ true → insert t us ≡ us)
+    go : (o : Ordering) → order t u ≡ o → (has t us ≡ true → insert t us ≡ us)
         → by_order (order t u) (t ∷ u ∷ us) (u ∷ us) (u ∷ insert t us) ≡ u ∷ us
     go Less e ih = absurd (false≢true (sym (has-before t (u ∷ us) (is-before t u e) r) ∙ h))
     go Equal e ih = rw e
@@ -232,7 +232,7 @@ extensional (u ∷ us) (v ∷ vs) r s h = go (order u v) refl (λ k. extensional
             let g : same_bytes t v ≡ false = ap (same_bytes t) (sym e) ∙ f in
             ap (λ (b : Bool). b || has t us) (sym f) ∙ h t ∙ ap (λ (b : Bool). b || has t vs) g
 
-    go : (o : Order) → order u v ≡ o → (((t : List ℕ) → has t us ≡ has t vs) → us ≡ vs) → u ∷ us ≡ v ∷ vs
+    go : (o : Ordering) → order u v ≡ o → (((t : List ℕ) → has t us ≡ has t vs) → us ≡ vs) → u ∷ us ≡ v ∷ vs
     go Less e k = absurd (false≢true (sym (has-before u (v ∷ vs) (is-before u v e) s) ∙ sym (h u) ∙ has_first u us))
     go Equal e k = let x : u ≡ v = order-equal u v e in let y : us ≡ vs = k (tails x) in cc
     go Greater e k = absurd (false≢true (sym (has-before v (u ∷ us) (is-before v u (greater-flip u v e)) r) ∙ h v ∙ has_first v vs))

@@ -16,7 +16,7 @@ use Rattle.slice_int.specs.Be.{be_at}
 use Rattle.utf8.specs.Table.{is_utf8}
 use Rattle.utf8.specs.Passes.{Ascii}
 use Rattle.utf8.proofs.TextLaws.{ascii-text}
-use Rattle.watch_topics.specs.declared.Order.{Order}
+use Rattle.std.specs.declared.cmp.Ordering.{Ordering}
 use Rattle.watch_topics.specs.Topics.{order, by_order, before, leads, rising, max_topic}
 use Rattle.watch_topics.specs.Packed.{encode_topic, length_at, decode_topics, is_whole, all_utf8, is_set, topic_place}
 use Rattle.watch_topics.proofs.PackedLaws.{topics-nil, topics-cons, whole-nil, whole-cons, whole-short, whole-fits}
@@ -198,7 +198,7 @@ unfolding topic_place
 place_end s t at h = rw (topics-end s at h)
 
 pub place-next : (s : List ℕ) (at n : ℕ) → at < length s → n ≡ be_at 2 s at → at + 2 + n ≤ length s
-    → (t : List ℕ) (o : Order) → o ≡ order t (take (at + 2 + n - (at + 2)) (drop (at + 2) s))
+    → (t : List ℕ) (o : Ordering) → o ≡ order t (take (at + 2 + n - (at + 2)) (drop (at + 2) s))
     → topic_place t at (decode_topics (drop at s))
     ≡ by_order o (record { at = at; present = false }) (record { at = at; present = true })
     (topic_place t (at + 2 + n) (decode_topics (drop (at + 2 + n) s)))

@@ -3,18 +3,18 @@
 -- Assumes nothing.
 use Rattle.std.specs.Prelude.{ℕ, Bool, true, false, cond, ◌&&◌, ◌||◌, List, [], ◌∷◌, length, ltb, leb}
 use Rattle.slice.specs.Same.{same_bytes}
-use Rattle.watch_topics.specs.declared.Order.{Order}
-use Rattle.watch_topics.specs.declared.Order.TheVariants.{Less, Equal, Greater}
+use Rattle.std.specs.declared.cmp.Ordering.{Ordering}
+use Rattle.std.specs.declared.cmp.Ordering.TheVariants.{Less, Equal, Greater}
 
 -- ---- byte order: by the first byte that differs; a topic stands before its continuations
 
-unfoldable pub order : (xs ys : List ℕ) → Order
+unfoldable pub order : (xs ys : List ℕ) → Ordering
 order [] [] = Equal
 order [] (y ∷ ys) = Less
 order (x ∷ xs) [] = Greater
 order (x ∷ xs) (y ∷ ys) = cond (ltb x y) Less (cond (ltb y x) Greater (order xs ys))
 
-abbrev pub by_order {ℓ} : {A : Type ℓ} → Order → A → A → A → A
+abbrev pub by_order {ℓ} : {A : Type ℓ} → Ordering → A → A → A → A
 by_order Less a b c = a
 by_order Equal a b c = b
 by_order Greater a b c = c

@@ -2,23 +2,17 @@
 #![tactic(auto)]
 
 ghost use Rattle.std.specs.Prelude.{◌≡◌, true, ◌&&◌, ◌+◌, ◌-◌, ◌≤◌, min, length, take, drop};
+ghost use Rattle.std.specs.declared.cmp.Ordering.TheVariants.{Less};
 ghost use Rattle.watch_topics.specs.Topics.{order, before, rising};
 ghost use Rattle.watch_topics.specs.Skipped.{Skipped};
-ghost use Rattle.watch_topics.specs.declared.Order.TheVariants.{Less};
 ghost use Rattle.watch_topics.specs.Packed.{decode_topics, is_whole, all_utf8, is_set, topic_place};
+
+use std::cmp::Ordering;
 
 // The bytes of a topic's length, before the topic; of the longest topic that it can tell.
 pub const LENGTH: usize = 2;
 
 pub const MAX_TOPIC: usize = 65535;
-
-// How one topic stands to another.
-#[derive(Clone, Copy)]
-pub enum Order {
-    Less,
-    Equal,
-    Greater,
-}
 
 // Where a topic stands in a packed set, or would stand.
 #[derive(Clone, Copy)]
@@ -28,52 +22,43 @@ pub struct Place {
 }
 
 // How a stands to b in byte order, byte by byte.
-fn compare_bytes(a: &[u8], b: &[u8]) -> Order
+fn compare_bytes(a: &[u8], b: &[u8]) -> Ordering
     ensures { result ≡ order a.now b.now }
 {
     let mut i: usize = 0;
     while i < a.len() {
         if b.len() <= i {
-            return Order::Greater;
+            return Ordering::Greater;
         }
         let x = a[i];
         let y = b[i];
         if x < y {
-            return Order::Less;
+            return Ordering::Less;
         }
         if y < x {
-            return Order::Greater;
+            return Ordering::Greater;
         }
         i += 1;
     }
     if i < b.len() {
-        Order::Less
+        Ordering::Less
     } else {
-        Order::Equal
+        Ordering::Equal
     }
 }
 
 // How a stands to b in byte order, by the last word of the shorter one, whose n bytes are alike before it, and by the lengths.
-fn compare_end(a: &[u8], b: &[u8], n: usize) -> Order
+fn compare_end(a: &[u8], b: &[u8], n: usize) -> Ordering
     requires le_n { (8 ≤ n) × (n ≡ min (length a.now) (length b.now)) }
     requires a_value { take (n - 8) a.now ≡ take (n - 8) b.now }
     ensures { result ≡ order a.now b.now }
 {
     let x = slice_int::read_u64(a, n - 8);
     let y = slice_int::read_u64(b, n - 8);
-    if x < y {
-        return Order::Less;
+    if x != y {
+        return x.cmp(&y);
     }
-    if y < x {
-        return Order::Greater;
-    }
-    if a.len() < b.len() {
-        return Order::Less;
-    }
-    if b.len() < a.len() {
-        return Order::Greater;
-    }
-    Order::Equal
+    a.len().cmp(&b.len())
 }
 
 // A place up to which both are alike: the first word that differs, or `last`. The words are compared for equality alone, which needs no order of their bytes.
@@ -81,24 +66,24 @@ fn alike(a: &[u8], b: &[u8], last: usize) -> usize
     requires { (last + 8 ≤ length a.now) × (last + 8 ≤ length b.now) }
     ensures { (result ≤ last) × (take result a.now ≡ take result b.now) }
 {
-    let mut i: usize = 0;
-    while i < last {
-        let x = slice_int::read_u64(a, i);
-        let y = slice_int::read_u64(b, i);
+    let mut at: usize = 0;
+    while at < last {
+        let x = slice_int::read_u64(a, at);
+        let y = slice_int::read_u64(b, at);
         if x != y {
-            return i;
+            return at;
         }
-        i = i + 8;
+        at += 8;
     }
     last
 }
 
 // How a stands to b in byte order. Of two words, most significant byte first, the lower one stands first; bytes that do not fill a word are
 // compared with those before them, which are alike.
-pub fn compare(a: &[u8], b: &[u8]) -> Order
+pub fn compare(a: &[u8], b: &[u8]) -> Ordering
     ensures { result ≡ order a.now b.now }
 {
-    let n = slice_int::min_usize(a.len(), b.len());
+    let n = a.len().min(b.len());
     if n < 8 {
         return compare_bytes(a, b);
     }
@@ -107,10 +92,7 @@ pub fn compare(a: &[u8], b: &[u8]) -> Order
         let x = slice_int::read_u64(a, i);
         let y = slice_int::read_u64(b, i);
         if x != y {
-            if x < y {
-                return Order::Less;
-            }
-            return Order::Greater;
+            return x.cmp(&y);
         }
         i += 8;
     }
@@ -121,18 +103,14 @@ pub fn compare(a: &[u8], b: &[u8]) -> Order
 pub fn is_before(a: &[u8], b: &[u8]) -> bool
     ensures { result ≡ before a.now b.now }
 {
-    match compare(a, b) {
-        Order::Less => true,
-        Order::Equal => false,
-        Order::Greater => false,
-    }
+    compare(a, b).is_lt()
 }
 
 // Whether a stands before b by a word: where it does not, nothing is told.
 fn is_before_by_word(a: &[u8], b: &[u8]) -> bool
     ensures { result ≡ true → order a.now b.now ≡ Less }
 {
-    let n = slice_int::min_usize(a.len(), b.len());
+    let n = a.len().min(b.len());
     if n < 8 {
         return false;
     }
@@ -144,11 +122,7 @@ fn is_before_by_word(a: &[u8], b: &[u8]) -> bool
 fn is_before_next(a: &[u8], b: &[u8]) -> bool
     ensures { result ≡ before a.now b.now }
 {
-    if is_before_by_word(a, b) {
-        true
-    } else {
-        is_before(a, b)
-    }
+    is_before_by_word(a, b) || is_before(a, b)
 }
 
 // The lengths lead to the end of the slice, and each topic is UTF-8, topic by topic.
@@ -187,7 +161,7 @@ fn is_whole(s: &[u8]) -> bool
         if s.len() - at - LENGTH < n {
             return false;
         }
-        at = at + LENGTH + n;
+        at += LENGTH + n;
     }
     true
 }
@@ -230,7 +204,7 @@ fn is_rising(s: &[u8]) -> bool
 pub fn is_set(s: &[u8]) -> bool
     ensures { result ≡ is_set s.now }
 {
-    if is_list(s) { is_rising(s) } else { false }
+    is_list(s) && is_rising(s)
 }
 
 // Where a topic stands in a packed set.
@@ -244,13 +218,13 @@ pub fn find(s: &[u8], t: &[u8]) -> Place
         let from = at + LENGTH;
         let end = from + n;
         match compare(t, &s[from..end]) {
-            Order::Less => {
+            Ordering::Less => {
                 return Place { at, present: false };
             }
-            Order::Equal => {
+            Ordering::Equal => {
                 return Place { at, present: true };
             }
-            Order::Greater => {
+            Ordering::Greater => {
                 at = end;
             }
         }
@@ -264,14 +238,12 @@ fn skip(s: &[u8], from: usize, n: usize) -> usize
     ensures { Skipped s.now from result }
 {
     let mut at = from;
-    let mut left = n;
-    while 0 < left {
+    for _ in 0..n {
         if s.len() <= at {
             return at;
         }
         let z = slice_int::read_u16(s, at) as usize;
-        at = at + LENGTH + z;
-        left -= 1;
+        at += LENGTH + z;
     }
     at
 }
@@ -311,13 +283,13 @@ pub fn seek(s: &[u8], t: &[u8]) -> Place
         let from = at + LENGTH;
         let end = from + n;
         match compare(t, &s[from..end]) {
-            Order::Less => {
+            Ordering::Less => {
                 return find_between(s, t, low, at);
             }
-            Order::Equal => {
+            Ordering::Equal => {
                 return Place { at, present: true };
             }
-            Order::Greater => {
+            Ordering::Greater => {
                 low = end;
                 reach = farther(reach);
             }

@@ -1,5 +1,6 @@
 -- `watch::handle_update` meets its contract: each return is a case of `handle_update`.
 -- Assumes nothing.
+use Rattle.std.proofs.lemmas.Result.{err_from_is_err_and}
 use mathlib.Core.Bool.{true}
 use mathlib.Core.Path.{◌≡◌, sym, ◌∙◌}
 use lib.Seq.{length-take-le}
@@ -20,13 +21,14 @@ returns-then-not-is_set c = sym (set-bad _ _ _ _ _ (sym c.is_set.ensures ∙ c.i
 pub update-requires : goal.update-requires
 update-requires c = record { used_in_bounds = c.if-buffer-used.false; buffer_value = (let it : (let a = c.args in is_set (take a.used a.buffer.now) ≡ true) = sym c.is_set.ensures ∙ c.if-not-is_set.false in it) }
 
-pub returns-in-Err : goal.returns-in-Err
-returns-in-Err c =
-    let e = sym c.in-Err.is ∙ c.first_fault.ensures in
-    sym (checked _ _ _ _ _ c.if-buffer-used.false (let it : (let a = c.args in is_set (take a.used a.buffer.now) ≡ true) = sym c.is_set.ensures ∙ c.if-not-is_set.false in it) _ e)
+pub returns-in_err-first_fault : goal.returns-in_err-first_fault
+returns-in_err-first_fault c =
+    let e = sym c.in_err-first_fault.was ∙ c.first_fault.ensures in
+    let r = err_from_is_err_and c.from_residual.result c.from_residual.ensures.1 in
+    rw (r.1, r.2) (sym (checked _ _ _ _ _ c.if-buffer-used.false (let it : (let a = c.args in is_set (take a.used a.buffer.now) ≡ true) = sym c.is_set.ensures ∙ c.if-not-is_set.false in it) _ e))
 
-pub returns-in-Ok : goal.returns-in-Ok
-returns-in-Ok c =
-    let e = sym c.in-Ok.is ∙ c.first_fault.ensures in
+pub returns : goal.returns
+returns c =
+    let e = sym c.in_ok-first_fault.was ∙ c.first_fault.ensures in
     let u = c.update.ensures in
     told-by _ _ _ _ _ (checked _ _ _ _ _ c.if-buffer-used.false (let it : (let a = c.args in is_set (take a.used a.buffer.now) ≡ true) = sym c.is_set.ensures ∙ c.if-not-is_set.false in it) _ e) u

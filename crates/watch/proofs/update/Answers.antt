@@ -20,34 +20,34 @@ pub returns-then-got-id : goal.returns-then-got-id
 returns-then-got-id c = tell _ _ _ _ (id_other _ _ _ _ _ _ c.read_watch_update-head.ensures.id c.if-got-id.true)
 
 pub slice_bounds-snapshot-count : goal.slice_bounds-snapshot-count
-slice_bounds-snapshot-count c = (event-is _ _ _ (c.in-Some-Snapshot.is ∙ ap Some c.in-Some-Snapshot.field-0-is) c.read_watch_update-head.ensures.event).0
+slice_bounds-snapshot-count c = (event-is _ _ _ (c.in-Some.is ∙ ap Some c.in-Snapshot.is) c.read_watch_update-head.ensures.event).0
 
 pub slice_bounds-snapshot-start : goal.slice_bounds-snapshot-start
-slice_bounds-snapshot-start c = (event-is _ _ _ (c.in-Some-Snapshot.is ∙ ap Some c.in-Some-Snapshot.field-0-is) c.read_watch_update-head.ensures.event).0
+slice_bounds-snapshot-start c = (event-is _ _ _ (c.in-Some.is ∙ ap Some c.in-Snapshot.is) c.read_watch_update-head.ensures.event).0
 
 pub slice_bounds-diff-count : goal.slice_bounds-diff-count
-slice_bounds-diff-count c = (event-is _ _ _ (c.in-Some-Diff.is ∙ ap Some c.in-Some-Diff.field-0-is) c.read_watch_update-head.ensures.event).0
+slice_bounds-diff-count c = (event-is _ _ _ (c.in-Some.is ∙ ap Some c.in-Diff.is) c.read_watch_update-head.ensures.event).0
 
 pub slice_bounds-diff-start : goal.slice_bounds-diff-start
-slice_bounds-diff-start c = (event-is _ _ _ (c.in-Some-Diff.is ∙ ap Some c.in-Some-Diff.field-0-is) c.read_watch_update-head.ensures.event).0
+slice_bounds-diff-start c = (event-is _ _ _ (c.in-Some.is ∙ ap Some c.in-Diff.is) c.read_watch_update-head.ensures.event).0
 
-pub returns-in-Some-Snapshot : goal.returns-in-Some-Snapshot
-returns-in-Some-Snapshot c =
+pub returns-in-Snapshot : goal.returns-in-Snapshot
+returns-in-Snapshot c =
     let i = c.if-got-id.false in
-    let e = event-is _ _ _ (c.in-Some-Snapshot.is ∙ ap Some c.in-Some-Snapshot.field-0-is) c.read_watch_update-head.ensures.event in
+    let e = event-is _ _ _ (c.in-Some.is ∙ ap Some c.in-Snapshot.is) c.read_watch_update-head.ensures.event in
     let s = c.snapshot.ensures in
     tell-as _ _ _ _ _ (is-snapshot _ _ _ _ _ _ c.read_watch_update-head.ensures.id i _ e) s
 
-pub returns-in-Some-Diff : goal.returns-in-Some-Diff
-returns-in-Some-Diff c =
+pub returns-in-Diff : goal.returns-in-Diff
+returns-in-Diff c =
     let i = c.if-got-id.false in
-    let e = event-is _ _ _ (c.in-Some-Diff.is ∙ ap Some c.in-Some-Diff.field-0-is) c.read_watch_update-head.ensures.event in
+    let e = event-is _ _ _ (c.in-Some.is ∙ ap Some c.in-Diff.is) c.read_watch_update-head.ensures.event in
     let d = c.diff.ensures in
     tell-as _ _ _ _ _ (is-diff _ _ _ _ _ _ c.read_watch_update-head.ensures.id i _ e) d
 
-pub returns-in-None : goal.returns-in-None
-returns-in-None c =
+pub returns-in_default : goal.returns-in_default
+returns-in_default c =
     let h = c.read_watch_update-head.ensures in
-    let e = event-is _ _ _ c.in-None.is c.read_watch_update-head.ensures.event in
+    let e = event-is _ _ _ c.in_default.is c.read_watch_update-head.ensures.event in
     let o = is_none _ _ _ _ _ _ h.id c.if-got-id.false e _ h.error in
     tell _ _ _ _ (o ∙ ap (refuse _ _) (sym c.no_event.ensures))

@@ -122,10 +122,12 @@ pub loop-at-preserved : goal.loop-at-preserved
 loop-at-preserved c =
     let d = c.move_down in
     let w = c.put_bytes in
-    merge-next c.loop-at.invariant c.loop-at-test.true c.read_u16-n.result c.read_u16-n.ensures c.seek-place.result c.seek-place.ensures
+    let l = c.loop-at in
+    let e : l.to + c.seek-place.result.at + (2 + c.read_u16-n.result) ≡ l.to + c.seek-place.result.at + 2 + c.read_u16-n.result = omega arith in
+    rw e (merge-next c.loop-at.invariant c.loop-at-test.true c.read_u16-n.result c.read_u16-n.ensures c.seek-place.result c.seek-place.ensures
     d.new.b w.new.out d.ensures
     (w.ensures ∙ ap (put _ _) (piece c.loop-at.invariant c.loop-at-test.true c.read_u16-n.result c.read_u16-n.ensures ((let it : (Bytes c.args.new.now) = λ i. (c.shared_slice_known-1.given i).fits in it))))
-    (w.auto.out ∙ d.auto.b ∙ c.loop-at.invariant.long)
+    (w.auto.out ∙ d.auto.b ∙ c.loop-at.invariant.long))
 
 pub shape_of-b : goal.shape_of-b
 shape_of-b c =

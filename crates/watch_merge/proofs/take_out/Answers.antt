@@ -2,7 +2,7 @@
 -- Assumes nothing.
 use Prim.Native.Nat.{◌+◌, ◌≤◌}
 use native.Mathlib.Omega.{arith}
-use mathlib.Core.Path.{◌∙◌}
+use mathlib.Core.Path.{◌≡◌, ◌∙◌}
 use lib.ListN.{length}
 use Rattle.watch_topics.proofs.WalkLaws.{entry-two}
 use Rattle.watch_merge.proofs.TakeLaws.{take-start, part-whole, part-rises, gone-fits, place-room, take-room, take_next, take-end}
@@ -56,11 +56,15 @@ overflow_add-to c =
     let v = c.loop-at.invariant in
     omega (arith, (let it : (c.loop-at.from + c.seek-place.result.at ≤ length c.args.b.now) = place-room c.loop-at.invariant c.loop-at-test.true c.read_u16-n.result c.read_u16-n.ensures c.seek-place.result c.seek-place.ensures in it), v.down)
 
-pub overflow_add-from : goal.overflow_add-from
-overflow_add-from c = omega (arith, (let it : (c.loop-at.from + c.seek-place.result.at ≤ length c.args.b.now) = place-room c.loop-at.invariant c.loop-at-test.true c.read_u16-n.result c.read_u16-n.ensures c.seek-place.result c.seek-place.ensures in it))
-
 pub overflow_add-n : goal.overflow_add-n
 overflow_add-n c = omega (arith, (let it : (c.loop-at.at + 2 + c.read_u16-n.result ≤ length c.args.gone.now) = gone-fits c.loop-at.invariant c.loop-at-test.true c.read_u16-n.result c.read_u16-n.ensures in it))
+
+pub overflow_add-from : goal.overflow_add-from
+overflow_add-from c = omega (
+  arith,
+  (let it : (c.loop-at.from + c.seek-place.result.at + c.skip.result ≤ length c.args.b.now) = take-room c.loop-at.invariant c.loop-at-test.true c.read_u16-n.result c.read_u16-n.ensures c.seek-place.result c.seek-place.ensures
+      c.skip.result c.skip.ensures in it),
+)
 
 pub overflow_add-from-in-loop-at : goal.overflow_add-from-in-loop-at
 overflow_add-from-in-loop-at c = omega (
@@ -75,8 +79,9 @@ loop-at-smaller c = omega (arith, (let it : (c.loop-at.at + 2 + c.read_u16-n.res
 pub loop-at-preserved : goal.loop-at-preserved
 loop-at-preserved c =
     let d = c.move_down in
-    take_next c.loop-at.invariant c.loop-at-test.true c.read_u16-n.result c.read_u16-n.ensures c.seek-place.result c.seek-place.ensures
-    c.skip.result c.skip.ensures d.new.b d.ensures d.auto.b
+    let e : c.loop-at.from + (c.seek-place.result.at + c.skip.result) ≡ c.loop-at.from + c.seek-place.result.at + c.skip.result = omega arith in
+    rw e (take_next c.loop-at.invariant c.loop-at-test.true c.read_u16-n.result c.read_u16-n.ensures c.seek-place.result c.seek-place.ensures
+    c.skip.result c.skip.ensures d.new.b d.ensures d.auto.b)
 
 pub overflow_sub-rest : goal.overflow_sub-rest
 overflow_sub-rest c =

@@ -5,19 +5,19 @@ use mathlib.Core.Path.{refl}
 use Rattle.watch_topics.proofs.OrderLaws.{Words, words-alike, front-part}
 use Rattle.watch_topics.proofs.alike.Goals as goal
 
-pub loop-i-init : goal.loop-i-init
-loop-i-init c = (omega arith, refl)
+pub loop-at-init : goal.loop-at-init
+loop-at-init c = (omega arith, refl)
 
 pub returns-then-x-y : goal.returns-then-x-y
 returns-then-x-y c =
-    (omega arith, c.loop-i.invariant.1)
+    (omega arith, c.loop-at.invariant.1)
 
-pub loop-i-preserved : goal.loop-i-preserved
-loop-i-preserved c =
+pub loop-at-preserved : goal.loop-at-preserved
+loop-at-preserved c =
     let s = c.args in
-    let w : Words s.a.now s.b.now c.loop-i.i c.read_u64-x.result c.read_u64-y.result =
+    let w : Words s.a.now s.b.now c.loop-at.at c.read_u64-x.result c.read_u64-y.result =
     record {
-      alike = c.loop-i.invariant.1;
+      alike = c.loop-at.invariant.1;
       bytes-a = λ j. (c.shared_slice_known-1.given j).fits;
       bytes-b = λ j. (c.shared_slice_known-2-1.given j).fits;
       fits-a = omega arith;
@@ -30,4 +30,4 @@ loop-i-preserved c =
 pub returns : goal.returns
 returns c =
     let s = c.args in
-    (omega arith, front-part s.a.now s.b.now c.loop-i.i s.last (omega arith) c.loop-i.invariant.1)
+    (omega arith, front-part s.a.now s.b.now c.loop-at.at s.last (omega arith) c.loop-at.invariant.1)

@@ -12,7 +12,7 @@ returns-then-n-lt8 c = λ e. absurd (false≢true e)
 pub returns : goal.returns
 returns c =
     let i = c.alike-i in
-    let m = c.min_usize-n.ensures in
+    let m = c.min-n.ensures in
     let a = c.args in
     let w : Words a.a.now a.b.now i.result c.read_u64.result c.read_u64-2.result =
     record {

@@ -1,7 +1,8 @@
 -- `topics::is_whole` meets its contract: lengths lead to the place `at`, so what is behind it decides. The measure is what is left.
 -- Assumes nothing.
 use native.Mathlib.Omega.{arith}
-use mathlib.Core.Path.{refl, sym, ◌∙◌}
+use Prim.Native.Nat.{◌+◌}
+use mathlib.Core.Path.{◌≡◌, refl, sym, ◌∙◌}
 use Rattle.watch_topics.proofs.WalkLaws.{entry-one, entry-short, entry_whole, whole-end}
 use Rattle.watch_topics.proofs.is_whole.Goals as goal
 
@@ -23,9 +24,10 @@ pub loop-at-preserved : goal.loop-at-preserved
 loop-at-preserved c =
     let s = c.args.s.now in
     let r = c.read_u16-n in
+    let e : c.loop-at.at + (2 + r.result) ≡ c.loop-at.at + 2 + r.result = omega arith in
     record {
       within = omega arith;
-      alike = c.loop-at.invariant.alike ∙ entry_whole s c.loop-at.at r.result (omega arith) r.ensures (omega arith);
+      alike = rw e (c.loop-at.invariant.alike ∙ entry_whole s c.loop-at.at r.result (omega arith) r.ensures (omega arith));
     }
 
 pub returns : goal.returns
