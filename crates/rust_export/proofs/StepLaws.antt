@@ -1,6 +1,7 @@
 -- What an exported call leaves is what the call of 01 leaves (`lent_is`, `next-is`), for a refused call gives the record back that it was given
 -- (`step_stays`); so events and end of a list of them are those of 01's calls (`trace-is`, `ends-are`).
 -- Assumes nothing.
+use Rattle.std.specs.Prelude as std
 use Rattle.std.specs.Prelude.{Some, None, Ok, Err}
 use Prim.Native.Nat.{ℕ}
 use mathlib.Core.Path.{◌≡◌, refl, sym, ap, ap₂, ◌∙◌, subst}
@@ -60,7 +61,7 @@ step_stays r st w =
 
 -- ---- one call
 
-left_is : (r : Record) (a : Result Answer Refusal) (next : SessionRecord) → (is_accepted a ≡ false → next ≡ record_of r) → record_of (left_record r a next) ≡ next
+left_is : (r : Record) (a : std.Result Answer Refusal) (next : SessionRecord) → (is_accepted a ≡ false → next ≡ record_of r) → record_of (left_record r a next) ≡ next
 unfolding left_record
 left_is r (Err x) next stays = sym (stays refl)
 left_is r (Ok answer.Accepted) next stays = record-returns next
@@ -91,7 +92,7 @@ module _ (r : Record) (st : List ℕ) where
 
 -- ---- its event
 
-accepted-answered : (a : Result Answer Refusal) → not (eqb (answer_reply a).answer refused) ≡ is_accepted a
+accepted-answered : (a : std.Result Answer Refusal) → not (eqb (answer_reply a).answer refused) ≡ is_accepted a
 unfolding answer_reply refused_reply reply_with
 accepted-answered (Err x) = refl
 accepted-answered (Ok answer.Accepted) = refl
@@ -99,7 +100,7 @@ accepted-answered (Ok answer.Unchanged) = refl
 accepted-answered (Ok (answer.Delta n)) = refl
 accepted-answered (Ok (answer.Replay place n)) = refl
 
-none-answered : (a : Result Answer Refusal) → eqb (answer_reply a).answer unchanged ≡ is_none a
+none-answered : (a : std.Result Answer Refusal) → eqb (answer_reply a).answer unchanged ≡ is_none a
 unfolding answer_reply refused_reply reply_with
 none-answered (Err x) = refl
 none-answered (Ok answer.Accepted) = refl
@@ -107,7 +108,7 @@ none-answered (Ok answer.Unchanged) = refl
 none-answered (Ok (answer.Delta n)) = refl
 none-answered (Ok (answer.Replay place n)) = refl
 
-delta-answered : (a : Result Answer Refusal) (out : List ℕ) → delta_in (answer_reply a) out ≡ handed_out a out
+delta-answered : (a : std.Result Answer Refusal) (out : List ℕ) → delta_in (answer_reply a) out ≡ handed_out a out
 unfolding answer_reply refused_reply reply_with word_at word_of
 delta-answered (Err x) out = refl
 delta-answered (Ok answer.Accepted) out = refl

@@ -94,7 +94,7 @@ export_event s =
     record {
       call = call_of s.call;
       accepted = not (eqb s.left.reply.answer refused);
-      None = eqb s.left.reply.answer unchanged;
+      none = eqb s.left.reply.answer unchanged;
       delta = delta_in s.left.reply s.left.out;
       baseline = list_in s.left.store baseline_slot;
     }

@@ -4,6 +4,7 @@
 -- In order: a written segment as the readers say it is the Rust's (`segment-agrees`); what stands at the output's
 -- front, read (`written_is`); the theorems.
 -- Assumes nothing.
+use Rattle.std.specs.Prelude as std
 use Prim.Native.Nat.{ℕ, ◌<◌, ◌^◌}
 use native.Mathlib.Omega.{arith}
 use mathlib.Core.Logic.{◌⊎◌, inl, inr}
@@ -75,7 +76,7 @@ parent-unmarked t e =
     let q = both_true (has_three_parts (path_of t)) (front_clean (path_of t)) p.1 in
     rw (p.0, q.0, q.1)
 
-module _ (s parent o : List ℕ) (n : ℕ) (b : Bytes s) (short : length o < 2 ^ 64) (e : (write_outcome s parent o).answer ≡ Ok n) where
+module _ (s parent o : List ℕ) (n : ℕ) (b : Bytes s) (short : length o < 2 ^ 64) (e : (write_outcome s parent o).answer ≡ std.Ok n) where
   abbrev a : port.ConsumerAssignment
   a = decode_assignment s
 

@@ -7,6 +7,7 @@
 -- Rust's own assignment is `ReadAgrees`: its `try_from_pb`, which tests each name, makes it of what the writer has
 -- written.
 -- Assumes nothing.
+use Rattle.std.specs.Prelude as std
 use Rattle.std.specs.Prelude.{ℕ, ◌≤◌, ◌<◌, ◌^◌, ◌≡◌, Bool, true, false, List, map, length, take}
 use Rattle.slice.specs.Bytes.{Bytes}
 use Rattle.refusal.specs.declared.Refusal.{Refusal}
@@ -45,9 +46,9 @@ pub record HasIdentity (identity : List ℕ) (s : ScalableConsumerSession) : Typ
   pub consumer-type : s.consumer-type ≡ as_type (identity_kind identity)
 
 -- the Rust's answer
-abbrev pub match_if : Bool → Result Bool Refusal
-match_if true = Ok true
-match_if false = Ok false
+abbrev pub match_if : Bool → std.Result Bool Refusal
+match_if true = std.Ok true
+match_if false = std.Ok false
 
 -- where neither 1 nor 22 is due
 abbrev pub MatchesAgrees : Type 0
@@ -69,13 +70,13 @@ written_of s parent out n = readers.read_assignment (fields_of (take n (write_ou
 -- an output has fewer than 2 ^ 64 bytes, as every slice has
 abbrev pub ToPbAgrees : Type 0
 ToPbAgrees =
-    (s parent out : List ℕ) (n : ℕ) → Bytes s → length out < 2 ^ 64 → (write_outcome s parent out).answer ≡ Ok n
+    (s parent out : List ℕ) (n : ℕ) → Bytes s → length out < 2 ^ 64 → (write_outcome s parent out).answer ≡ std.Ok n
     → written_of s parent out n ≡ ConsumerAssignment-to-pb (as_assignment parent (decode_assignment s))
 
 -- `try_from_pb` makes the assignment of what was written
 abbrev pub ReadAgrees : Type 0
 ReadAgrees =
-    (s parent out : List ℕ) (n : ℕ) → Bytes s → length out < 2 ^ 64 → (write_outcome s parent out).answer ≡ Ok n
+    (s parent out : List ℕ) (n : ℕ) → Bytes s → length out < 2 ^ 64 → (write_outcome s parent out).answer ≡ std.Ok n
     → ConsumerAssignment-try-from-pb (written_of s parent out n) parent ≡ Ok (as_assignment parent (decode_assignment s))
 
 -- ---- source

@@ -1,5 +1,6 @@
 -- The name builder is the Rust's `KeyRange::new` and `canonical_segment_topic` (`build-agrees`).
 -- Assumes nothing.
+use Rattle.std.specs.Prelude as std
 use Prim.Native.Nat.{ℕ}
 use mathlib.Core.Path.{◌≡◌, refl, sym, ap, subst}
 use mathlib.Core.Bool.{Bool, true, false, cond}
@@ -47,10 +48,10 @@ module _ (parent : Text) (id : SegmentId) (out : List ℕ) (m : is_marked parent
   parent-stage range false = λ h. refl
 
   -- 9
-  range-stage : (s e : ℕ) (x : Result KeyRange KeyRangeError) → new_key_range s e ≡ x → Gives out (build_name parent x id out) (behind_range parent id (range_of x))
+  range-stage : (s e : ℕ) (x : std.Result KeyRange KeyRangeError) → new_key_range s e ≡ x → Gives out (build_name parent x id out) (behind_range parent id (range_of x))
   unfolding build_name
-  range-stage s e (Err error) p = λ h. refl
-  range-stage s e (Ok range) p =
+  range-stage s e (std.Err error) p = λ h. refl
+  range-stage s e (std.Ok range) p =
       gives-by out _ (segment-topic-agrees parent range id m (valid-made s e range p)) (parent-stage range (is_parent parent))
 
 pub build-agrees : BuildAgrees

@@ -19,12 +19,12 @@ use Rattle.keyed.proofs.KeyedLaws.{choose}
 
 -- P holds of the refusal, if there is one
 abbrev pub IfRefused : (Refusal → Type 0) → Result ⊤ Refusal → Type 0
-IfRefused P (Ok record {}) = Unit {0}
+IfRefused P (Ok u) = Unit {0}
 IfRefused P (Err x) = P x
 
 module _ (P : Refusal → Type 0) (wire : P InvalidWireFormat) (type : P WrongWireType) (lacks : P MissingField) (text : P InvalidUtf8) where
   first-if : (a b : Result ⊤ Refusal) → IfRefused P a → IfRefused P b → IfRefused P (first a b)
-  first-if (Ok record {}) b p q = q
+  first-if (Ok u) b p q = q
   first-if (Err x) b p q = p
 
   module _ (inner : MessageKind → List ℕ → Result ⊤ Refusal) (h : (k : MessageKind) (l : List ℕ) → IfRefused P (inner k l)) where

@@ -3,6 +3,7 @@
 -- In order: the split at the last '/' (`rsplit-agrees`); the parts of a descriptor read (`parts-agree`); the stages of a name, the last
 -- first.
 -- Assumes nothing.
+use Rattle.std.specs.Prelude as std
 use Rattle.std.specs.Prelude.{Option, Some, None}
 use Prim.Native.Nat.{ℕ, suc, ◌+◌, ◌-◌}
 use native.Mathlib.Omega.{arith}
@@ -114,10 +115,10 @@ module _ (t b : Text) (n : ℕ) (h : take (n - 10) (drop 10 t) ≡ b) where
   parent = topic_scheme ++ b
 
   -- 9
-  range-stage : (i : ℕ) (x : Result KeyRange KeyRangeError) → map-err paper (with_range t parent i (range_of x)) ≡ read_of t (range_stage n i x)
+  range-stage : (i : ℕ) (x : std.Result KeyRange KeyRangeError) → map-err paper (with_range t parent i (range_of x)) ≡ read_of t (range_stage n i x)
   unfolding range_stage
-  range-stage i (Err e) = refl
-  range-stage i (Ok range) = ap (λ (l : Text). Ok (name_of l i range)) (sym h)
+  range-stage i (std.Err e) = refl
+  range-stage i (std.Ok range) = ap (λ (l : Text). Ok (name_of l i range)) (sym h)
 
   -- 18
   descriptor-stage : (d : Text) → map-err paper (with_text t parent d) ≡ read_of t (descriptor_stage n d)
@@ -129,12 +130,12 @@ module _ (t b : Text) (n : ℕ) (h : take (n - 10) (drop 10 t) ≡ b) where
       i : ℕ
       i = decimal_value (id_part d)
 
-      r : Result KeyRange KeyRangeError
+      r : std.Result KeyRange KeyRangeError
       r = new_key_range (hex_value (start_part d)) (hex_value (end_part d))
 
       go : (u : Bool) → is_descriptor d ≡ u
           → map-err paper (cond u (with_descriptor t parent (parts_of d)) (Err (InvalidSegment t)))
-          ≡ read_of t (cond u (range_stage n i r) (Err refusal.InvalidSegment))
+          ≡ read_of t (cond u (range_stage n i r) (std.Err refusal.InvalidSegment))
       go true q =
           let e : with_descriptor t parent (parts_of d) ≡ with_range t parent i (range_of r) =
           parts-agree t parent (parts_of d)
@@ -145,13 +146,13 @@ module _ (t b : Text) (n : ℕ) (h : take (n - 10) (drop 10 t) ≡ b) where
   -- 12
   parent-stage : (d : Text) → is_marked_path b ≡ false
       → map-err paper (canonical-parent-path parent >>= (λ ignored. with_text t parent d))
-      ≡ read_of t (cond (is_path b) (descriptor_stage n d) (Err refusal.InvalidParent))
+      ≡ read_of t (cond (is_path b) (descriptor_stage n d) (std.Err refusal.InvalidParent))
   parent-stage d m =
       ap (λ (r : Result Text SegmentTopicError). map-err paper (r >>= (λ ignored. with_text t parent d))) (scheme-agrees b m) ∙ go (is_path b)
     where
       go : (u : Bool)
           → map-err paper (cond u (Ok b) (Err (InvalidParent parent)) >>= (λ ignored. with_text t parent d))
-          ≡ read_of t (cond u (descriptor_stage n d) (Err refusal.InvalidParent))
+          ≡ read_of t (cond u (descriptor_stage n d) (std.Err refusal.InvalidParent))
       go true = descriptor-stage d
       go false = refl
 
@@ -167,7 +168,7 @@ module _ (t : Text) where
 
   slash-stage : is_marked_path (before_last (drop 10 t)) ≡ false
       → map-err paper (with_path (drop 10 t))
-      ≡ read_of t (cond (has_slash (drop 10 t)) (parent_stage (drop 10 t)) (Err refusal.InvalidSegment))
+      ≡ read_of t (cond (has_slash (drop 10 t)) (parent_stage (drop 10 t)) (std.Err refusal.InvalidSegment))
   unfolding parent_stage
   slash-stage m =
       ap (λ (o : Option Split). map-err paper (ok_or (InvalidSegment t) o >>= with_halves)) (rsplit-agrees (drop 10 t))
@@ -175,7 +176,7 @@ module _ (t : Text) where
     where
       go : (u : Bool)
           → map-err paper (ok_or (InvalidSegment t) (cond u (Some (at_last (drop 10 t))) None) >>= with_halves)
-          ≡ read_of t (cond u (parent_stage (drop 10 t)) (Err refusal.InvalidSegment))
+          ≡ read_of t (cond u (parent_stage (drop 10 t)) (std.Err refusal.InvalidSegment))
       go true =
           let b : Text = before_last (drop 10 t) in
           let e : 10 + length b - 10 ≡ length b = omega arith in
@@ -190,6 +191,6 @@ parse-agrees t m =
   where
     go : (u : Bool) → (u && is_marked_path (before_last (drop 10 t))) ≡ false
         → map-err paper (ok_or (InvalidSegment t) (cond u (Some (drop 10 t)) None) >>= with_path t)
-        ≡ read_of t (cond (u && has_slash (drop 10 t)) (parent_stage (drop 10 t)) (Err refusal.InvalidSegment))
+        ≡ read_of t (cond (u && has_slash (drop 10 t)) (parent_stage (drop 10 t)) (std.Err refusal.InvalidSegment))
     go true m = slash-stage t m
     go false m = refl

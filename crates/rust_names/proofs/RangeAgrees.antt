@@ -5,6 +5,7 @@
 -- `is_adjacent_to` tests first that a range does not end at the highest value. Where it does, no range that `KeyRange::new` makes starts
 -- behind it (`touches-agrees`).
 -- Assumes nothing.
+use Rattle.std.specs.Prelude as std
 use Prim.Native.Nat.{ℕ, zero, suc, ◌+◌, ◌≤◌}
 use native.Mathlib.Omega.{arith}
 use mathlib.Core.Path.{◌≡◌, refl, sym, ap, ap₂, ◌∙◌}
@@ -35,7 +36,7 @@ new-agrees s e = go (ltb max_hash s) (ltb max_hash e) (ltb e s)
     go : (t u v : Bool)
         → cond t (Err (StartOutOfBounds s)) (cond u (Err (EndOutOfBounds e)) (cond v (Err (Reversed s e)) (Ok (key_range s e))))
         ≡ range_of
-        (cond t (Err (StartOutOfBounds s)) (cond u (Err (EndOutOfBounds e)) (cond v (Err (Reversed s e)) (Ok (key_range s e)))))
+        (cond t (std.Err (StartOutOfBounds s)) (cond u (std.Err (EndOutOfBounds e)) (cond v (std.Err (Reversed s e)) (std.Ok (key_range s e)))))
     go true u v = refl
     go false true v = refl
     go false false true = refl
@@ -44,12 +45,12 @@ new-agrees s e = go (ltb max_hash s) (ltb max_hash e) (ltb e s)
 pub new-bounds : (s e : ℕ) (r : KeyRange) → KeyRange-new s e ≡ Ok r → Makes s e r
 new-bounds s e r made = go (new_key_range s e) refl (sym (new-agrees s e) ∙ made)
   where
-    go : (x : Result KeyRange KeyRangeError) → new_key_range s e ≡ x → range_of x ≡ Ok r → Makes s e r
-    go (Ok range) p q = let z : range ≡ r = cc in new-valid s e r (p ∙ ap Ok z)
-    go (Err error) p q = let z : ◌≡◌ {A = ℕ} 0 1 = cc in absurd (omega arith)
+    go : (x : std.Result KeyRange KeyRangeError) → new_key_range s e ≡ x → range_of x ≡ Ok r → Makes s e r
+    go (std.Ok range) p q = let z : range ≡ r = cc in new-valid s e r (p ∙ ap std.Ok z)
+    go (std.Err error) p q = let z : ◌≡◌ {A = ℕ} 0 1 = cc in absurd (omega arith)
 
 -- the range that this port makes is made by the Rust of its own ends
-pub valid-made : (s e : ℕ) (r : KeyRange) → new_key_range s e ≡ Ok r → KeyRange-new r.start r.end ≡ Ok r
+pub valid-made : (s e : ℕ) (r : KeyRange) → new_key_range s e ≡ std.Ok r → KeyRange-new r.start r.end ≡ Ok r
 valid-made s e r v =
     let m = (new-valid s e r v).made in
     ap (λ (x : KeyRange). KeyRange-new x.start x.end) m ∙ new-agrees s e ∙ ap range_of v
@@ -62,9 +63,9 @@ length-agrees s e =
     ap (λ (r : Result KeyRange KeyRangeError). map-err InvalidKeyRange (r >>= (λ range. Ok (KeyRange-len range)))) (new-agrees s e)
     ∙ go (new_key_range s e)
   where
-    go : (x : Result KeyRange KeyRangeError) → map-err InvalidKeyRange (range_of x >>= (λ range. Ok (KeyRange-len range))) ≡ length_result (take_range Err x (λ r. Ok (values_in r)))
-    go (Ok range) = refl
-    go (Err error) = refl
+    go : (x : std.Result KeyRange KeyRangeError) → map-err InvalidKeyRange (range_of x >>= (λ range. Ok (KeyRange-len range))) ≡ length_result (take_range std.Err x (λ r. std.Ok (values_in r)))
+    go (std.Ok range) = refl
+    go (std.Err error) = refl
 
 pub contains-agrees : ContainsAgrees
 unfolding contains_of
@@ -74,33 +75,33 @@ contains-agrees s e hash =
     told : KeyRange → Result Bool KeyRangeError
     told range = Ok (KeyRange-contains range hash)
 
-    go : (x : Result KeyRange KeyRangeError) → map-err InvalidKeyRange (range_of x >>= told)
-        ≡ test_result (take_range Err x (λ range. Ok (KeyRange-contains range hash)))
-    go (Ok range) = refl
-    go (Err error) = refl
+    go : (x : std.Result KeyRange KeyRangeError) → map-err InvalidKeyRange (range_of x >>= told)
+        ≡ test_result (take_range std.Err x (λ range. std.Ok (KeyRange-contains range hash)))
+    go (std.Ok range) = refl
+    go (std.Err error) = refl
 
 -- ---- calls on two ranges
 
 module _ (s e os oe : ℕ) (f g : KeyRange → KeyRange → Bool) where
-  abbrev answer : (x y : Result KeyRange KeyRangeError) → Result Bool Refusal
-  answer x y = take_range Err x (λ a. take_range Err y (λ b. Ok (g a b)))
+  abbrev answer : (x y : std.Result KeyRange KeyRangeError) → std.Result Bool Refusal
+  answer x y = take_range std.Err x (λ a. take_range std.Err y (λ b. std.Ok (g a b)))
 
   second : Result KeyRange KeyRangeError → KeyRange → Result Bool KeyRangeError
   second y a = y >>= (λ b. Ok (f a b))
 
   -- two tests that agree on the ranges that the ends make
-  both-agree : ((a b : KeyRange) → new_key_range s e ≡ Ok a → new_key_range os oe ≡ Ok b → f a b ≡ g a b)
+  both-agree : ((a b : KeyRange) → new_key_range s e ≡ std.Ok a → new_key_range os oe ≡ std.Ok b → f a b ≡ g a b)
       → map-err InvalidKeyRange (both f s e os oe) ≡ test_result (answer (new_key_range s e) (new_key_range os oe))
   unfolding second
   both-agree h =
       ap₂ (λ (x y : Result KeyRange KeyRangeError). map-err InvalidKeyRange (x >>= second y)) (new-agrees s e) (new-agrees os oe)
       ∙ go (new_key_range s e) (new_key_range os oe) h
     where
-      go : (x y : Result KeyRange KeyRangeError) → ((a b : KeyRange) → x ≡ Ok a → y ≡ Ok b → f a b ≡ g a b)
+      go : (x y : std.Result KeyRange KeyRangeError) → ((a b : KeyRange) → x ≡ std.Ok a → y ≡ std.Ok b → f a b ≡ g a b)
           → map-err InvalidKeyRange (range_of x >>= second (range_of y)) ≡ test_result (answer x y)
-      go (Err error) y k = refl
-      go (Ok a) (Err error) k = refl
-      go (Ok a) (Ok b) k = ap (λ (t : Bool). Ok t) (k a b refl refl)
+      go (std.Err error) y k = refl
+      go (std.Ok a) (std.Err error) k = refl
+      go (std.Ok a) (std.Ok b) k = ap (λ (t : Bool). Ok t) (k a b refl refl)
 
 pub contains-range-agrees : ContainsRangeAgrees
 unfolding contains_range_of
@@ -117,7 +118,7 @@ behind-agrees n m h = go (ltb n MAX-HASH) refl
 touches-agrees : (a b : KeyRange) → a.start ≤ max_hash → b.start ≤ max_hash → KeyRange-is-adjacent-to a b ≡ touches a b
 touches-agrees a b h k = rw (behind-agrees a.end b.start k, behind-agrees b.end a.start h)
 
-start-bound : (s e : ℕ) (r : KeyRange) → new_key_range s e ≡ Ok r → r.start ≤ max_hash
+start-bound : (s e : ℕ) (r : KeyRange) → new_key_range s e ≡ std.Ok r → r.start ≤ max_hash
 start-bound s e r p = let m = new-valid s e r p in omega (arith, m.order, m.bound)
 
 pub adjacent-agrees : AdjacentAgrees

@@ -3,6 +3,7 @@
 -- In order: errors renamed before or behind a `?` (`map-err-bind`); `SegmentSource::new`; `parent_topic`, which cuts off what is behind the
 -- last '/' of the whole name (`cut-path`); the parent of a name.
 -- Assumes nothing.
+use Rattle.std.specs.Prelude as std
 use Rattle.std.specs.Prelude.{Some}
 use Prim.Native.Nat.{ℕ, ◌+◌, ◌-◌}
 use native.Mathlib.Omega.{arith}
@@ -48,15 +49,15 @@ module _ (id : SegmentId) (t : Text) (m : is_marked_name t ≡ false) where
       cond (not (eqb x.id.0 id.0)) (Err (SegmentIdMismatch id x.id))
       (Ok (record { segment-id = id; topic = t; key-range = x.key-range }))
 
-  source-stage : (x : Result (ℕ × KeyRange × SegmentId) Refusal) → (read_of t x >>= (λ (y : ParsedTopic). map-err paper (with_id y))) ≡ source_of t (source_stage id x)
+  source-stage : (x : std.Result (ℕ × KeyRange × SegmentId) Refusal) → (read_of t x >>= (λ (y : ParsedTopic). map-err paper (with_id y))) ≡ source_of t (source_stage id x)
   unfolding source_stage
-  source-stage (Err x) = refl
-  source-stage (Ok (n, range, i)) = go (eqb i.0 id.0)
+  source-stage (std.Err x) = refl
+  source-stage (std.Ok (n, range, i)) = go (eqb i.0 id.0)
     where
       go : (u : Bool)
           → map-err paper (cond (not u) (Err (SegmentIdMismatch id i)) (Ok (record { segment-id = id; topic = t; key-range = range })))
           ≡ source_of t
-          (cond u (Ok (record { segment_id = id; key_range = range })) (Err (refusal.SegmentIdMismatch id i)))
+          (cond u (std.Ok (record { segment_id = id; key_range = range })) (std.Err (refusal.SegmentIdMismatch id i)))
       go true = refl
       go false = refl
 
@@ -101,11 +102,11 @@ module _ (t : Text) (m : is_marked_name t ≡ false) where
   abbrev with_source : Result SegmentSource SegmentTopicError → Result Text SegmentTopicError
   with_source r = r >>= (λ made. Ok (parent-topic made))
 
-  abbrev parent_read : Result (ℕ × KeyRange × SegmentId) Refusal → Result Text Refusal
-  parent_read (Err x) = Err x
-  parent_read (Ok (n, range, id)) = Ok (topic_scheme ++ take (n - 10) (drop 10 t))
+  abbrev parent_read : std.Result (ℕ × KeyRange × SegmentId) Refusal → Result Text Refusal
+  parent_read (std.Err x) = Err x
+  parent_read (std.Ok (n, range, id)) = Ok (topic_scheme ++ take (n - 10) (drop 10 t))
 
-  module _ (n : ℕ) (range : KeyRange) (id : SegmentId) (e : parse_segment_topic t ≡ Ok (n, range, id)) where
+  module _ (n : ℕ) (range : KeyRange) (id : SegmentId) (e : parse_segment_topic t ≡ std.Ok (n, range, id)) where
     own-id : map-err paper (SegmentSource-new id t) ≡ Ok (record { segment-id = id; topic = t; key-range = range })
     unfolding source_stage
     own-id = source-read id t m ∙ rw (e, eq-eqb id.0 id.0 refl)
@@ -131,20 +132,20 @@ module _ (t : Text) (m : is_marked_name t ≡ false) where
       own : ParsedTopic → Result Text Refusal
       own name = map-err paper (with_source (SegmentSource-new name.id t))
 
-      go : (x : Result (ℕ × KeyRange × SegmentId) Refusal) → parse_segment_topic t ≡ x → (read_of t x >>= own) ≡ parent_read x
-      go (Err x) p = refl
-      go (Ok (n, range, id)) p = own-parent n range id p
+      go : (x : std.Result (ℕ × KeyRange × SegmentId) Refusal) → parse_segment_topic t ≡ x → (read_of t x >>= own) ≡ parent_read x
+      go (std.Err x) p = refl
+      go (std.Ok (n, range, id)) p = own-parent n range id p
 
-  parent-stage : (out : List ℕ) (x : Result (ℕ × KeyRange × SegmentId) Refusal) (r : Result Text SegmentTopicError) → map-err paper r ≡ parent_read x
+  parent-stage : (out : List ℕ) (x : std.Result (ℕ × KeyRange × SegmentId) Refusal) (r : Result Text SegmentTopicError) → map-err paper r ≡ parent_read x
       → Gives out (parent_outcome t out x) r
   unfolding parent_outcome
-  parent-stage out (Err x) (Ok text) e = λ h. cc
-  parent-stage out (Err x) (Err error) e = λ h. cc
-  parent-stage out (Ok (n, range, id)) (Ok text) e =
+  parent-stage out (std.Err x) (Ok text) e = λ h. cc
+  parent-stage out (std.Err x) (Err error) e = λ h. cc
+  parent-stage out (std.Ok (n, range, id)) (Ok text) e =
       let path : Text = take (n - 10) (drop 10 t) in
       let q : text ≡ topic_scheme ++ path = cc in
       gives-by out (written (topic_scheme ++ path) out) (ap (λ (l : Text). Ok l) q) (gives-text (topic_scheme ++ path) out)
-  parent-stage out (Ok (n, range, id)) (Err error) e = λ h. cc
+  parent-stage out (std.Ok (n, range, id)) (Err error) e = λ h. cc
 
 pub parent-topic-agrees : ParentTopicAgrees
 unfolding parent_topic parse_text parent_outcome

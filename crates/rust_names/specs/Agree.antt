@@ -6,6 +6,7 @@
 -- inputs: a text is UTF-8, as a `str` is; what the Rust gives for them fits the output; and the parent is none that the Rust takes and 02 h
 -- forbids (`is_marked`, `is_marked_name`).
 -- Assumes nothing.
+use Rattle.std.specs.Prelude as std
 use Rattle.std.specs.Prelude.{ℕ, ◌-◌, ◌≡◌, Bool, true, false, cond, not, ◌&&◌, List, ◌++◌, length, take, drop, ℤ, leb}
 use Rattle.topic_types.specs.declared.KeyRange.{KeyRange}
 use Rattle.topic_types.specs.declared.KeyRangeError.{KeyRangeError}
@@ -23,6 +24,7 @@ use Rattle.name_parents.specs.Parents.{topic_scheme, has_three_parts, front_clea
 use Rattle.name_topic.specs.Names.{segment_scheme, segment_scheme_size, segment_topic}
 use Rattle.name_topic.specs.Build.{NameOutcome, name_outcome, refuse, canonical_segment_topic}
 use Rattle.name_source.specs.Parse.{before_last, parse_segment_topic, segment_source, parent_topic}
+use Rattle.name_source.specs.declared.SegmentSource.{SegmentSource as PortSource}
 use Rattle.rust_magnetar.specs.Result.{Result, Ok, Err, ◌>>=◌, map-err}
 use Rattle.rust_magnetar.specs.Text.{Text}
 use Rattle.rust_magnetar.specs.Ranges.{KeyRange-new, KeyRange-len, KeyRange-contains, KeyRange-contains-range, KeyRange-is-adjacent-to}
@@ -73,7 +75,7 @@ SegmentTopicAgrees =
 
 -- a call with an output: the text at its front and the text's length, or a refusal and the output as it was
 abbrev pub outcome_of : List ℕ → Result Text SegmentTopicError → NameOutcome
-outcome_of out (Ok text) = name_outcome (Ok (length text)) (put out 0 text)
+outcome_of out (Ok text) = name_outcome (std.Ok (length text)) (put out 0 text)
 outcome_of out (Err error) = refuse (paper error) out
 
 -- what the Rust gives fits the output
@@ -95,18 +97,18 @@ BuildAgrees =
 -- ---- names read
 
 -- a name as it was read: its parent is `topic://` and the path that ends at the answered place
-abbrev pub read_of : Text → Result (ℕ × KeyRange × SegmentId) Refusal → Result ParsedTopic Refusal
-read_of t (Ok (path_end, range, id)) =
+abbrev pub read_of : Text → std.Result (ℕ × KeyRange × SegmentId) Refusal → Result ParsedTopic Refusal
+read_of t (std.Ok (path_end, range, id)) =
     Ok (record { parent = topic_scheme ++ take (path_end - segment_scheme_size) (drop segment_scheme_size t); key-range = range; id = id })
-read_of t (Err x) = Err x
+read_of t (std.Err x) = Err x
 
 -- `parse_segment_topic`
 abbrev pub ParseAgrees : Type 0
 ParseAgrees = (t : Text) → is_marked_name t ≡ false → map-err paper (parse-segment-topic t) ≡ read_of t (parse_segment_topic t)
 
-abbrev pub source_of : Text → Result SegmentSource Refusal → Result SegmentSource Refusal
-source_of t (Ok s) = Ok (record { segment-id = s.segment_id; topic = t; key-range = s.key_range })
-source_of t (Err x) = Err x
+abbrev pub source_of : Text → std.Result PortSource Refusal → Result SegmentSource Refusal
+source_of t (std.Ok s) = Ok (record { segment-id = s.segment_id; topic = t; key-range = s.key_range })
+source_of t (std.Err x) = Err x
 
 -- `SegmentSource::new`
 abbrev pub SourceAgrees : Type 0
@@ -128,17 +130,17 @@ ParentTopicAgrees =
 
 -- ---- ranges given by their ends
 
-abbrev pub range_of : Result KeyRange KeyRangeError → Result KeyRange KeyRangeError
-range_of (Ok range) = Ok range
-range_of (Err error) = Err error
+abbrev pub range_of : std.Result KeyRange KeyRangeError → Result KeyRange KeyRangeError
+range_of (std.Ok range) = Ok range
+range_of (std.Err error) = Err error
 
-abbrev pub length_result : Result ℕ Refusal → Result ℕ Refusal
-length_result (Ok n) = Ok n
-length_result (Err x) = Err x
+abbrev pub length_result : std.Result ℕ Refusal → Result ℕ Refusal
+length_result (std.Ok n) = Ok n
+length_result (std.Err x) = Err x
 
-abbrev pub test_result : Result Bool Refusal → Result Bool Refusal
-test_result (Ok b) = Ok b
-test_result (Err x) = Err x
+abbrev pub test_result : std.Result Bool Refusal → Result Bool Refusal
+test_result (std.Ok b) = Ok b
+test_result (std.Err x) = Err x
 
 -- `KeyRange::new`
 abbrev pub NewAgrees : Type 0

@@ -131,7 +131,7 @@ module _ (room : ℕ) (most : room ≤ slot_size) where
           → Clean (update_checked s link message k)
       unfolding update_valid content_of update_content
       clean-update (Err x) h f = absurd (false≢true h)
-      clean-update (Ok record {}) h f =
+      clean-update (Ok _) h f =
           let a : WireAssignment = (update_of message).assignment in
           choose Clean (not (eqb link.0 s.state.incarnation.0)) (λ t. (refl, tt)) (λ t.
           choose Clean (not (eqb (update_of message).consumer_id s.state.consumer_id)) (λ t. (refl, tt)) (λ t.
@@ -143,7 +143,7 @@ module _ (room : ℕ) (most : room ≤ slot_size) where
           → Clean (response_checked s link message k)
       unfolding response_valid content_of response_content
       clean-response (Err x) h f = absurd (false≢true h)
-      clean-response (Ok record {}) h f =
+      clean-response (Ok _) h f =
           let a : WireAssignment = (response_of message).assignment in
           choose Clean (not (eqb link.0 s.state.incarnation.0)) (λ t. (refl, tt)) (λ t.
           choose Clean (response_of message).has_assignment

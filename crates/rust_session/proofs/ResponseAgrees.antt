@@ -1,6 +1,7 @@
 -- A response: `handle_subscribe_response_for` answers as this port's response does, where ours do not refuse, and the sessions stay alike
 -- (`fair-response`).
 -- Assumes nothing.
+use Rattle.std.specs.Prelude as std
 use Rattle.std.specs.Prelude.{Option, Some, None, ℤ, ⊤, Ok, Err}
 use Prim.Native.Nat.{ℕ}
 use native.Mathlib.Omega.{arith}
@@ -230,11 +231,11 @@ module _ (n : Registration) (message : List ℕ) (link : ControllerIncarnation) 
         (response-valid (holding s) [] c.session.replayed-updates c.taken (subst (Mirror n s) d.is h) (rw u) (rw u) (rw u) tt)
 
     -- 3 to 7
-    response-checked : (k : Result ⊤ Refusal) → first_fault CommandScalableTopicSubscribeResponse message ≡ k
+    response-checked : (k : std.Result ⊤ Refusal) → first_fault CommandScalableTopicSubscribeResponse message ≡ k
         → Fair n call s (response_checked s link message k) (rust_response c link message k)
     response-checked (Err x) e =
         λ f. absurd (true≢false (sym (subst OursIf e (fault-ours CommandScalableTopicSubscribeResponse message)) ∙ f))
-    response-checked (Ok record {}) e = response-taken h.state
+    response-checked (Ok _) e = response-taken h.state
 
     -- 1, 22
     pub fair-response : Fair n call s (response_call s message link) (rust_step c call)

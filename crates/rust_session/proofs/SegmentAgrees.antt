@@ -1,6 +1,7 @@
 -- One segment of a message: the Rust's `AssignedSegment::try_from_pb` refuses it and takes it as this port does (`segment-agrees`), the
 -- first refusal with its numbers.
 -- Assumes nothing.
+use Rattle.std.specs.Prelude as std
 use Rattle.std.specs.Prelude.{Option, Some, None}
 use Prim.Native.Nat.{ℕ, ◌+◌}
 use native.Mathlib.Omega.{arith}
@@ -58,8 +59,8 @@ range-agrees id a b = go (ltb max_hash a) (ltb max_hash b) (ltb b a)
     go : (t u v : Bool)
         → map-err paper (map-err (λ source. InvalidRange id source)
         (cond t (Err (StartOutOfBounds a)) (cond u (Err (EndOutOfBounds b)) (cond v (Err (Reversed a b)) (Ok (key_range a b))))))
-        ≡ verdict (range_fault_by id (cond t (Err (StartOutOfBounds a)) (cond u (Err (EndOutOfBounds b))
-        (cond v (Err (Reversed a b)) (Ok (key_range a b)))))) (key_range a b)
+        ≡ verdict (range_fault_by id (cond t (std.Err (StartOutOfBounds a)) (cond u (std.Err (EndOutOfBounds b))
+        (cond v (std.Err (Reversed a b)) (std.Ok (key_range a b)))))) (key_range a b)
     go true u v = refl
     go false true v = refl
     go false false true = refl
@@ -69,9 +70,9 @@ range-agrees id a b = go (ltb max_hash a) (ltb max_hash b) (ltb b a)
 range-made : (id : SegmentId) (a b : ℕ) → range_fault_by id (new_key_range a b) ≡ None → KeyRange-new a b ≡ Ok (key_range a b)
 range-made id a b n = new-agrees a b ∙ go (new_key_range a b) refl n
   where
-    go : (x : Result KeyRange KeyRangeError) → new_key_range a b ≡ x → range_fault_by id x ≡ None → range_of x ≡ Ok (key_range a b)
-    go (Ok r) p n = ap (λ (q : KeyRange). Ok q) (new-valid a b r p).made
-    go (Err e) p n = let z : ◌≡◌ {A = ℕ} 0 1 = cc in absurd (omega arith)
+    go : (x : std.Result KeyRange KeyRangeError) → new_key_range a b ≡ x → range_fault_by id x ≡ None → range_of x ≡ Ok (key_range a b)
+    go (std.Ok r) p n = ap (λ (q : KeyRange). Ok q) (new-valid a b r p).made
+    go (std.Err e) p n = let z : ◌≡◌ {A = ℕ} 0 1 = cc in absurd (omega arith)
 
 -- with one error for all of its errors
 valid-agrees : (e : AssignmentError) (a b : ℕ)
@@ -83,8 +84,8 @@ valid-agrees e a b = go (ltb max_hash a) (ltb max_hash b) (ltb b a)
     go : (t u v : Bool)
         → map-err paper (map-err (λ source. e)
         (cond t (Err (StartOutOfBounds a)) (cond u (Err (EndOutOfBounds b)) (cond v (Err (Reversed a b)) (Ok (key_range a b))))))
-        ≡ verdict (cond (is_valid (cond t (Err (StartOutOfBounds a)) (cond u (Err (EndOutOfBounds b))
-        (cond v (Err (Reversed a b)) (Ok (key_range a b)))))) None (Some (paper e))) (key_range a b)
+        ≡ verdict (cond (is_valid (cond t (std.Err (StartOutOfBounds a)) (cond u (std.Err (EndOutOfBounds b))
+        (cond v (std.Err (Reversed a b)) (std.Ok (key_range a b)))))) None (Some (paper e))) (key_range a b)
     go true u v = refl
     go false true v = refl
     go false false true = refl

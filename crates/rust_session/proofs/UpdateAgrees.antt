@@ -261,7 +261,7 @@ module _ (n : Registration) (message : List ℕ) (link : ControllerIncarnation) 
         → Fair n call s (update_checked s link message k) (rust_update c link message k)
     update-checked (Err x) e =
         λ f. absurd (true≢false (sym (subst OursIf e (fault-ours CommandScalableTopicAssignmentUpdate message)) ∙ f))
-    update-checked (Ok record {}) e = update-taken h.state
+    update-checked (Ok _) e = update-taken h.state
 
     -- 1, 2, 22
     pub fair-update : Fair n call s (update_call s message link (length out)) (rust_step c call)

@@ -11,6 +11,7 @@
 -- Three statements, each proved in proofs/: `DemandTwoFed` has no other condition, and feeds the Rust the calls that none of ours refuses;
 -- `DemandTwo` is 01's wording; `DemandTwoOfInputs` says when none of ours is due, by the inputs alone.
 -- Assumes nothing.
+use Rattle.std.specs.Prelude as std
 use Rattle.std.specs.Prelude.{ℕ, ◌+◌, ◌*◌, ◌≤◌, ◌≡◌, Bool, true, false, cond, not, ◌&&◌, ◌||◌, List, [], ◌∷◌, ◌++◌, map, length, take, drop, get_or, pos, nat_abs, eqb, leb, ltb, option_map, Option, Some, None, ⊤}
 use Rattle.topic_types.specs.declared.ControllerIncarnation.{ControllerIncarnation}
 use Rattle.refusal.specs.declared.Refusal.{Refusal}
@@ -86,12 +87,12 @@ abbrev pub sheet_at : List ℕ → ℕ → port.ConsumerAssignment
 sheet_at store place = decode_assignment (take slot_size (drop place store))
 
 -- an answer, with the lists and the delta that it refers to; "The baseline is read from its slot"
-abbrev pub answered_by : Call → Result Answer Refusal → List ℕ → List ℕ → Answered
-answered_by c (Err x) store out = refuses x (text_beside c x)
-answered_by c (Ok Accepted) store out = cond (is_response c) (baseline (as_assignment (topic_in store) (list_in store baseline_slot))) done
-answered_by c (Ok Unchanged) store out = no_change
-answered_by c (Ok (Delta n)) store out = delta (as_delta (topic_in store) (decode_delta (take n out)))
-answered_by c (Ok (Replay place n)) store out = replay (as_replay (topic_in store) (sheet_at store place) (decode_delta (take n out)))
+abbrev pub answered_by : Call → std.Result Answer Refusal → List ℕ → List ℕ → Answered
+answered_by c (std.Err x) store out = refuses x (text_beside c x)
+answered_by c (std.Ok Accepted) store out = cond (is_response c) (baseline (as_assignment (topic_in store) (list_in store baseline_slot))) done
+answered_by c (std.Ok Unchanged) store out = no_change
+answered_by c (std.Ok (Delta n)) store out = delta (as_delta (topic_in store) (decode_delta (take n out)))
+answered_by c (std.Ok (Replay place n)) store out = replay (as_replay (topic_in store) (sheet_at store place) (decode_delta (take n out)))
 
 -- with what is left for that reader to drain
 abbrev pub port_shown : (reader : ℕ) → Call → CallOutcome → Shown
@@ -155,14 +156,14 @@ after_take taken session (Err e) = refusing e session taken
 after_take taken session (Ok rs) = hand_on session (taken ++ rs)
 
 -- a message that the reader does not take is not fed to the Rust
-abbrev pub rust_update : Caller → ControllerIncarnation → List ℕ → Result ⊤ Refusal → Turn
-rust_update c incarnation message (Err x) = turn (refuses x []) c.session c.taken
-rust_update c incarnation message (Ok record {}) =
+abbrev pub rust_update : Caller → ControllerIncarnation → List ℕ → std.Result ⊤ Refusal → Turn
+rust_update c incarnation message (std.Err x) = turn (refuses x []) c.session c.taken
+rust_update c incarnation message (std.Ok _) =
     let d = handle-assignment-update-for incarnation (update_of message) c.session in after_update c.taken d.after d.result
 
-abbrev pub rust_response : Caller → ControllerIncarnation → List ℕ → Result ⊤ Refusal → Turn
-rust_response c incarnation message (Err x) = turn (refuses x []) c.session c.taken
-rust_response c incarnation message (Ok record {}) =
+abbrev pub rust_response : Caller → ControllerIncarnation → List ℕ → std.Result ⊤ Refusal → Turn
+rust_response c incarnation message (std.Err x) = turn (refuses x []) c.session c.taken
+rust_response c incarnation message (std.Ok _) =
     let d = handle-subscribe-response-for incarnation (response_of message) c.session in after_response c.taken d.after d.result
 
 abbrev pub rust_step : Caller → Call → Turn
@@ -216,12 +217,12 @@ no_room x = eqb (number_of x) 28 && not (eqb (first_value x) max_queue)
 abbrev pub ours : Refusal → Bool
 ours x = ours_by_number (number_of x) || no_room x
 
-abbrev pub is_ours : Result Answer Refusal → Bool
-is_ours (Err x) = ours x
-is_ours (Ok Accepted) = false
-is_ours (Ok Unchanged) = false
-is_ours (Ok (Delta n)) = false
-is_ours (Ok (Replay place n)) = false
+abbrev pub is_ours : std.Result Answer Refusal → Bool
+is_ours (std.Err x) = ours x
+is_ours (std.Ok Accepted) = false
+is_ours (std.Ok Unchanged) = false
+is_ours (std.Ok (Delta n)) = false
+is_ours (std.Ok (Replay place n)) = false
 
 -- none of ours is due in the run
 abbrev pub none_ours : SessionRecord → List ℕ → List Call → Bool
@@ -264,9 +265,9 @@ fits_by (Some x) short = not (ours x)
 abbrev pub fits : ℕ → Text → WireAssignment → Bool
 fits room parent a = fits_by (first_refusal parent [] a.segments) (leb (size_assignment (consumer_assignment a)) room)
 
-abbrev pub is_taken : Result ⊤ Refusal → Bool
-is_taken (Ok record {}) = true
-is_taken (Err x) = false
+abbrev pub is_taken : std.Result ⊤ Refusal → Bool
+is_taken (std.Ok _) = true
+is_taken (std.Err x) = false
 
 -- pushes have room for so many bytes each
 abbrev pub roomy : ℕ → Text → Call → Bool

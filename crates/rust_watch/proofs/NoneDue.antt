@@ -102,7 +102,7 @@ module _ (id : ℕ) (h : Held) (u : Update) where
       → all_short (named_by (watch_update_of u.message).event) ≡ true
       → Clean (when_checked buffer out id old u.message k) (handle-update (watch_update_of u.message) (opened id h))
   checked-clean r (Err x) t a = absurd (false≢true t)
-  checked-clean r (Ok record {}) t a = valid-clean r (watch_update_of u.message) a
+  checked-clean r (Ok v) t a = valid-clean r (watch_update_of u.message) a
 
 pub none-due : NoneDue
 unfolding handle_update for_watch by_event settle

@@ -145,7 +145,7 @@ module _ (buffer out : List ℕ) where
   moves-checked : (id : ℕ) (old : List Text) (m : List ℕ) (k : Result ⊤ Refusal) → Moves (when_checked buffer out id old m k)
   unfolding for_watch
   moves-checked id o m (Err x) = (refl, refl)
-  moves-checked id o m (Ok record {}) =
+  moves-checked id o m (Ok v) =
       let w = watch_update_of m in choose Moves (not (eqb w.watch_id id)) (λ t. (refl, refl)) (λ t. moves-event o w w.event)
 
   moves : (id used : ℕ) (m : List ℕ) → Moves (handle_update buffer out id used m)

@@ -10,8 +10,8 @@ use lib.Dec.{eqb, ltb}
 use borrow.Author.Tests.{ltb-false, eqb-true, eqb-false, lt-ltb, le-ltb}
 use Rattle.slice.specs.Same.{same_bytes}
 use Rattle.keyed.specs.Keyed as keyed
-use Rattle.watch_topics.specs.declared.Order.{Order}
-use Rattle.watch_topics.specs.declared.Order.TheVariants as port
+use Rattle.std.specs.declared.cmp.Ordering as std
+use Rattle.std.specs.declared.cmp.Ordering.TheVariants as port
 use Rattle.watch_topics.specs.Topics.{order, by_order, has, insert, insert_all}
 use Rattle.watch_topics.proofs.OrderLaws.{same-order}
 use Rattle.rust_magnetar.specs.Text.{Text}
@@ -20,7 +20,7 @@ use Rattle.rust_magnetar.specs.BTree.{BTreeSet-contains, BTreeSet-insert, BTreeS
 
 -- ---- compared
 
-abbrev as_order : Ordering → Order
+abbrev as_order : Ordering → std.Ordering
 as_order Less = port.Less
 as_order Equal = port.Equal
 as_order Greater = port.Greater

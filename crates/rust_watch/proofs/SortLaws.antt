@@ -5,8 +5,8 @@ use mathlib.Core.Bool.{Bool, true, false, cond, ◌||◌, or-false, false≢true
 use mathlib.Core.List.{List, [], ◌∷◌, ◌++◌}
 use Rattle.slice.specs.Same.{same_bytes}
 use Rattle.slice.proofs.SameLaws.{same_refl, same-eq}
-use Rattle.watch_topics.specs.declared.Order.{Order}
-use Rattle.watch_topics.specs.declared.Order.TheVariants.{Less, Equal, Greater}
+use Rattle.std.specs.declared.cmp.Ordering.{Ordering}
+use Rattle.std.specs.declared.cmp.Ordering.TheVariants.{Less, Equal, Greater}
 use Rattle.watch_topics.specs.Topics.{order, by_order, has, insert, insert_all, sorted}
 use Rattle.watch_topics.proofs.OrderLaws.{order-equal}
 use Rattle.watch_topics.proofs.SetLaws.{has-append, has-insert, rising-insert, rising-sorted, has-sorted, extensional}
@@ -62,7 +62,7 @@ place_is t (u ∷ us) h =
     ap (λ (b : Bool). cond b (t ∷ u ∷ us) (u ∷ insert-by at_most t us)) (by_agrees t u true true false)
     ∙ go (order t u) refl (place_is t us (neither (same_bytes t u) (has t us) h).1)
   where
-    go : (o : Order) → order t u ≡ o → insert-by at_most t us ≡ insert t us
+    go : (o : Ordering) → order t u ≡ o → insert-by at_most t us ≡ insert t us
         → cond (by_order o true true false) (t ∷ u ∷ us) (u ∷ insert-by at_most t us)
         ≡ by_order o (t ∷ u ∷ us) (u ∷ us) (u ∷ insert t us)
     go Less e k = refl

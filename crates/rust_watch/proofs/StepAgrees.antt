@@ -209,7 +209,7 @@ module _ (id : ℕ) (h : Held) (u : Update) where
     checked-step : rising old ≡ true → (k : Result ⊤ Refusal) → OursIf k
         → Step (when_checked buffer out id old u.message k) (handle-update (watch_update_of u.message) (opened id h))
     checked-step r (Err x) o = ours-step x o _
-    checked-step r (Ok record {}) o = valid-step r (watch_update_of u.message) refl
+    checked-step r (Ok v) o = valid-step r (watch_update_of u.message) refl
 
     pub step-agrees : Step (watch_step id h u) (handle-update (watch_update_of u.message) (opened id h))
     unfolding handle_update for_watch by_event settle

@@ -4,7 +4,7 @@
 -- The port's run goes by `handle_update`, which the program's contract cites, on the bytes of buffer and output; the Rust's by the transcription in the crate magnetar. What is
 -- shown is in the Rust's types: the error with its numbers and the broker's text, or the change, read from the output's bytes; and the set, read from the buffer.
 -- Assumes nothing.
-use Rattle.std.specs.Prelude.{ℕ, ◌+◌, ◌^◌, ◌≤◌, ◌≡◌, Bool, true, false, cond, not, ◌&&◌, ◌||◌, List, [], ◌∷◌, ◌++◌, length, take, drop, eqb, leb, ltb, ⊤}
+use Rattle.std.specs.Prelude.{ℕ, ◌+◌, ◌^◌, ◌≤◌, ◌≡◌, Bool, true, false, cond, not, ◌&&◌, ◌||◌, List, [], ◌∷◌, ◌++◌, length, take, drop, eqb, leb, ltb, ⊤, Result, Ok, Err}
 use Rattle.slice.specs.Bytes.{Bytes}
 use Rattle.refusal.specs.declared.Refusal.{Refusal}
 use Rattle.refusal.specs.declared.Refusal.TheVariants as refusal
@@ -17,7 +17,7 @@ use Rattle.watch_topics.specs.Topics.{all_short}
 use Rattle.watch_topics.specs.Packed.{decode_topics, size_topics, is_set}
 use Rattle.wire_values.specs.Values.{parts_of}
 use Rattle.watch.specs.Watch.{WatchOutcome, handle_update}
-use Rattle.rust_magnetar.specs.Result.{Result, Ok, Err}
+use Rattle.rust_magnetar.specs.Result as rust
 use Rattle.rust_magnetar.specs.Text.{Text}
 use Rattle.rust_magnetar.specs.Watch.{TopicsChange, Snapshot, Diff, TopicsWatchError, WatchMismatch, Broker, Empty, ScalableTopicsWatch, WatchDid, handle-update}
 
@@ -86,9 +86,9 @@ port_shown h u x = record { answered = answered_by u x.answer x.out; topics = se
 
 -- ---- the Rust's run, fed what the reader makes of a message
 
-abbrev pub answered_of : Result TopicsChange TopicsWatchError → Answered
-answered_of (Ok c) = changes c
-answered_of (Err e) = refuses (paper e) (text_of e)
+abbrev pub answered_of : rust.Result TopicsChange TopicsWatchError → Answered
+answered_of (rust.Ok c) = changes c
+answered_of (rust.Err e) = refuses (paper e) (text_of e)
 
 abbrev pub rust_shown : WatchDid → Shown
 rust_shown d = record { answered = answered_of d.result; topics = d.after.topics }
@@ -139,7 +139,7 @@ DemandTwoWatch =
 -- fits buffer and output
 
 abbrev pub is_taken : Result ⊤ Refusal → Bool
-is_taken (Ok record {}) = true
+is_taken (Ok v) = true
 is_taken (Err x) = false
 
 abbrev pub named_by : WireEvent → List Text
@@ -151,9 +151,9 @@ abbrev pub fits_change : TopicsChange → ℕ → Bool
 fits_change (Snapshot topics) room = leb (1 + size_topics topics) room
 fits_change (Diff added removed) room = ltb (size_topics added) (2 ^ 32) && leb (5 + size_topics added + size_topics removed) room
 
-abbrev pub fits_did : WatchDid → Result TopicsChange TopicsWatchError → Held → Update → Bool
-fits_did d (Err e) h u = true
-fits_did d (Ok c) h u = leb (size_topics d.after.topics) (length h.buffer) && fits_change c (length u.out)
+abbrev pub fits_did : WatchDid → rust.Result TopicsChange TopicsWatchError → Held → Update → Bool
+fits_did d (rust.Err e) h u = true
+fits_did d (rust.Ok c) h u = leb (size_topics d.after.topics) (length h.buffer) && fits_change c (length u.out)
 
 abbrev pub roomy : ℕ → Held → Update → Bool
 roomy id h u =
