@@ -16,7 +16,7 @@ pub extern "C" fn cuddrewyn_segment_for_key(key: &[u8], assignment: &[u8]) -> Re
 {
     match key_lookup::segment_for_key(key, assignment) {
         Ok(Some(id)) => export_reply::one(export_reply::FOUND, id.0),
-        Ok(None) => export_reply::plain(export_reply::NO),
+        Ok(None) => export_reply::plain(export_reply::NO), // no segment takes it
         Err(x) => export_reply::refused(x),
     }
 }
@@ -51,7 +51,7 @@ pub extern "C" fn cuddrewyn_key_in_segment(assignment: &[u8], segment_id: u64) -
 {
     match key_in_segment::key_in_segment(assignment, SegmentId(segment_id)) {
         Ok(Some(k)) => key_reply(k),
-        Ok(None) => export_reply::plain(export_reply::NO),
+        Ok(None) => export_reply::plain(export_reply::NO), // none falls in it
         Err(x) => export_reply::refused(x),
     }
 }

@@ -25,6 +25,5 @@ pub extern "C" fn cuddrewyn_restore(bytes: &[u8], store: &mut [u8]) -> SessionRe
         ≡ open_of (restore_outcome bytes.now store.old) }
 {
     let restored = session_saved::restore(bytes, store);
-    let answer = restored.answer;
-    open_reply(answer, restored.next)
+    open_reply(restored.answer, restored.next)
 }

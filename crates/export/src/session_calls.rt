@@ -38,8 +38,7 @@ pub extern "C" fn cuddrewyn_open(
         kind,
         store,
     );
-    let answer = opened.answer;
-    open_reply(answer, opened.next)
+    open_reply(opened.answer, opened.next)
 }
 
 // A new link to the controller: `begin_incarnation`.

@@ -42,26 +42,25 @@ fn is_set(n: u8) -> bool
 fn flag(set: bool) -> u8
     ensures { result ≡ flag set }
 {
-    if set { 1 } else { 0 }
+    u8::from(set)
 }
 
 fn floor_of(any: bool, floor: u64) -> Option<u64>
     ensures { result ≡ floor_of any floor }
 {
-    if any { Some(floor) } else { None }
+    any.then_some(floor)
 }
 
 pub fn record_of(c: Record) -> SessionRecord
     ensures { result ≡ record_of c }
 {
-    let epoch_floor = floor_of(is_set(c.has_floor), c.epoch_floor);
     let drain_positions = c.drain_positions;
     SessionRecord {
         consumer_id: c.consumer_id,
         incarnation: ControllerIncarnation(c.incarnation),
         registered: is_set(c.registered),
         invalidated: is_set(c.invalidated),
-        epoch_floor,
+        epoch_floor: floor_of(is_set(c.has_floor), c.epoch_floor),
         queue_count: c.queue_count,
         drain_positions,
     }
@@ -70,25 +69,20 @@ pub fn record_of(c: Record) -> SessionRecord
 fn has_floor(floor: Option<u64>) -> bool
     ensures { result ≡ floor_is_set floor }
 {
-    match floor {
-        None => false,
-        Some(_) => true,
-    }
+    floor.is_some()
 }
 
 pub fn export_record(r: SessionRecord) -> Record
     ensures { result ≡ export_record r }
 {
-    let link = r.incarnation;
-    let floor = r.epoch_floor;
     let drain_positions = r.drain_positions;
     Record {
         consumer_id: r.consumer_id,
-        incarnation: link.0,
-        epoch_floor: session_record::floor_value(floor),
+        incarnation: r.incarnation.0,
+        epoch_floor: session_record::floor_value(r.epoch_floor),
         queue_count: r.queue_count,
         drain_positions,
-        has_floor: flag(has_floor(floor)),
+        has_floor: flag(has_floor(r.epoch_floor)),
         registered: flag(r.registered),
         invalidated: flag(r.invalidated),
     }
@@ -116,10 +110,7 @@ fn left_record(r: Record, a: Result<Answer, Refusal>, next: SessionRecord) -> Re
 {
     match a {
         Err(_) => r,
-        Ok(Answer::Accepted) => export_record(next),
-        Ok(Answer::Unchanged) => export_record(next),
-        Ok(Answer::Delta(_)) => export_record(next),
-        Ok(Answer::Replay(_, _)) => export_record(next),
+        Ok(_) => export_record(next),
     }
 }
 

@@ -44,11 +44,7 @@ pub struct Reply {
 pub fn word(v: i32) -> u64
     ensures { result ≡ word_of v }
 {
-    if 0 <= v {
-        v as u64
-    } else {
-        u64::MAX - ((-(v + 1)) as u64)
-    }
+    i64::from(v).cast_unsigned()
 }
 
 // An answer without values.

@@ -19,8 +19,7 @@ pub fn begun(r: Record, incarnation: u64) -> SessionReply
     ensures { result ≡ changed_reply r (begin_of (record_of r) (record { 0 = incarnation })) }
 {
     let begun = session_link::begun(record_of(r), ControllerIncarnation(incarnation));
-    let answer = begun.answer;
-    session_reply(r, answer, begun.next)
+    session_reply(r, begun.answer, begun.next)
 }
 
 // The controller is not to be trusted any more: `invalidate_authority`.
@@ -28,8 +27,7 @@ pub fn invalidated(r: Record) -> SessionReply
     ensures { result ≡ changed_reply r (invalidate_of (record_of r)) }
 {
     let invalidated = session_link::invalidated(record_of(r));
-    let answer = invalidated.answer;
-    session_reply(r, answer, invalidated.next)
+    session_reply(r, invalidated.answer, invalidated.next)
 }
 
 // A push of the controller: `handle_assignment_update_for`.
@@ -50,8 +48,7 @@ pub fn updated(
         ControllerIncarnation(incarnation),
         out,
     );
-    let answer = updated.answer;
-    session_reply(r, answer, updated.next)
+    session_reply(r, updated.answer, updated.next)
 }
 
 // The answer to a registration: `handle_subscribe_response_for`.
@@ -65,8 +62,7 @@ pub fn responded(r: Record, store: &mut [u8], message: &[u8], incarnation: u64) 
         message,
         ControllerIncarnation(incarnation),
     );
-    let answer = responded.answer;
-    session_reply(r, answer, responded.next)
+    session_reply(r, responded.answer, responded.next)
 }
 
 // The next push of the queue, for one of the readers, that differs from its predecessor: `take_replayed_updates`, one per call.
@@ -75,8 +71,7 @@ pub fn drained(r: Record, store: &[u8], reader: usize, out: &mut [u8]) -> Sessio
         ≡ lent_of r (drain_outcome (record_of r) store.now reader out.old) }
 {
     let drained = session_drain::drained(record_of(r), store, reader, out);
-    let answer = drained.answer;
-    session_reply(r, answer, drained.next)
+    session_reply(r, drained.answer, drained.next)
 }
 
 // What every call over a store asks first of it and the record: 1, then 22.

@@ -51,8 +51,6 @@ pub enum Line {
     Question(Question),
     // The session kept.
     Save,
-    // It is no call, and why was written.
-    Damaged,
 }
 
 // `LINE damaged: REASON`, where `at` is the line's number. Answers false: the line is no call.
@@ -75,18 +73,17 @@ fn damaged_word<W: Write>(to: &mut W, at: u64, reason: &[u8], word: &[u8]) -> io
 }
 
 fn test_number<W: Write>(to: &mut W, at: u64, word: &[u8]) -> io::Result<bool> {
-    match log_lines::number(word) {
-        Some(_) => Ok(true),
-        None => damaged_word(to, at, b"not a number: ", word),
+    if log_lines::number(word).is_some() {
+        return Ok(true);
     }
+    damaged_word(to, at, b"not a number: ", word)
 }
 
 fn test_length<W: Write>(to: &mut W, at: u64, n: usize, most: usize) -> io::Result<bool> {
     if n <= most {
-        Ok(true)
-    } else {
-        damaged(to, at, b"too long")
+        return Ok(true);
     }
+    damaged(to, at, b"too long")
 }
 
 fn test_bytes<W: Write>(to: &mut W, at: u64, word: &[u8]) -> io::Result<bool> {
@@ -128,19 +125,17 @@ fn test_count<W: Write>(to: &mut W, at: u64, found: usize, count: usize) -> io::
 
 // Each word behind the call's name is what its letter says.
 fn test_words<W: Write>(to: &mut W, at: u64, line: &[u8], form: &[u8]) -> io::Result<bool> {
-    let mut k: usize = 1;
-    while k < form.len() {
-        if !test_word(to, at, log_lines::word(line, k), form[k])? {
+    for (k, letter) in form.iter().enumerate().skip(1) {
+        if !test_word(to, at, log_lines::word(line, k), *letter)? {
             return Ok(false);
         }
-        k = k + 1;
     }
     Ok(true)
 }
 
-// The lines by the places of their first words among the names.
-fn line_at(place: usize) -> Line {
-    match place {
+// The line whose first word stands at this place among the names; None where it is none of them.
+fn line_at(place: usize) -> Option<Line> {
+    let line = match place {
         0 => Line::Call(CallName::Open),
         1 => Line::Call(CallName::Update),
         2 => Line::Call(CallName::Response),
@@ -157,29 +152,28 @@ fn line_at(place: usize) -> Line {
         13 => Line::Question(Question::Command),
         14 => Line::Save,
         15 => Line::Call(CallName::Restore),
-        _ => Line::Damaged,
-    }
+        _ => return None,
+    };
+    Some(line)
 }
 
-// Tests line number `at`. The form of a call has a letter for each word: `c` the call's name, `n` a number, `b` bytes, `k` a kind of consumer.
-pub fn tested<W: Write>(to: &mut W, at: u64, line: &[u8]) -> io::Result<Line> {
+// Tests line number `at`; None where it is no call, and why was written. The form of a call has a letter for each word: `c` the call's name, `n` a number,
+// `b` bytes, `k` a kind of consumer.
+pub fn tested<W: Write>(to: &mut W, at: u64, line: &[u8]) -> io::Result<Option<Line>> {
     let name = log_lines::word(line, 0);
     let place = log_lines::place_of(
         b"open update response drain begin invalidate segment key charge churn is_open earliest_open check_log command save restore",
         name,
     );
+    let Some(call) = line_at(place) else {
+        damaged_word(to, at, b"unknown call ", name)?;
+        return Ok(None);
+    };
     let form = log_lines::word(
         b"cnnbbbk cnb cnb cn cn c cb cn cbnnn c cbn cbn cbb cb c c",
         place,
     );
-    if form.len() == 0 {
-        damaged_word(to, at, b"unknown call ", name)?;
-        return Ok(Line::Damaged);
-    }
     let count = log_lines::word_count(line);
-    if test_count(to, at, count, form.len())? && test_words(to, at, line, form)? {
-        Ok(line_at(place))
-    } else {
-        Ok(Line::Damaged)
-    }
+    let passes = test_count(to, at, count, form.len())? && test_words(to, at, line, form)?;
+    Ok(passes.then_some(call))
 }

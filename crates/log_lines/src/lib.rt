@@ -22,28 +22,17 @@ pub enum ByteClass {
     Plain,
 }
 
-fn is_digit(b: u8) -> bool {
-    match b {
-        0x30..=0x39 => true,
-        0x41..=0x46 => true,
-        0x61..=0x66 => true,
-        _ => false,
-    }
-}
-
 fn is_plain(b: u8) -> bool {
-    match b {
-        0x22 | 0x5c => false,
-        0x20..=0x7e => true,
-        _ => false,
-    }
+    matches!(b, 0x20..=0x7e) && b != b'"' && b != b'\\'
 }
 
-fn is_of(b: u8, class: ByteClass) -> bool {
-    match class {
-        ByteClass::Not(x) => b != x,
-        ByteClass::Digit => is_digit(b),
-        ByteClass::Plain => is_plain(b),
+impl ByteClass {
+    fn has(self, b: u8) -> bool {
+        match self {
+            ByteClass::Not(x) => b != x,
+            ByteClass::Digit => b.is_ascii_hexdigit(),
+            ByteClass::Plain => is_plain(b),
+        }
     }
 }
 
@@ -52,14 +41,12 @@ pub fn end_of(s: &[u8], from: usize, class: ByteClass) -> usize
     requires { from ≤ length s.now }
     ensures { (from ≤ result) × (result ≤ length s.now) }
 {
-    let mut i = from;
-    while i < s.len() {
-        if !is_of(s[i], class) {
+    for i in from..s.len() {
+        if !class.has(s[i]) {
             return i;
         }
-        i = i + 1;
     }
-    i
+    s.len()
 }
 
 // Where the line that starts at a place ends.
@@ -72,18 +59,7 @@ pub fn line_end(s: &[u8], from: usize) -> usize
 
 // Part k of a text, counted from 0, with a separator between two; empty where there are not as many.
 pub fn part(s: &[u8], k: usize, separator: u8) -> &[u8] {
-    let mut at: usize = 0;
-    let mut left = k;
-    while 0 < left {
-        at = end_of(s, at, ByteClass::Not(separator));
-        if s.len() <= at {
-            return &s[at..];
-        }
-        at = at + 1;
-        left = left - 1;
-    }
-    let end = end_of(s, at, ByteClass::Not(separator));
-    &s[at..end]
+    s.split(|b| *b == separator).nth(k).unwrap_or(&[])
 }
 
 // Word k of a line.
@@ -93,60 +69,35 @@ pub fn word(line: &[u8], k: usize) -> &[u8] {
 
 // How many words a line has: one more than it has spaces.
 pub fn word_count(line: &[u8]) -> usize {
-    let mut n: usize = 0;
-    let mut i: usize = 0;
-    while i < line.len() {
-        if line[i] == b' ' {
-            n = n + 1;
-        }
-        i = i + 1;
-    }
-    n + 1
+    line.split(|b| *b == b' ').count()
 }
 
 // Where a word stands in a row of words, counted from 0; their number where it is none of them.
 pub fn place_of(row: &[u8], w: &[u8]) -> usize {
     let count = word_count(row);
-    let mut k: usize = 0;
-    while k < count {
-        if slice::same(word(row, k), w) {
-            return k;
-        }
-        k = k + 1;
-    }
-    k
+    (0..count)
+        .find(|k| slice::same(word(row, *k), w))
+        .unwrap_or(count)
 }
 
+// A word as a decimal number; None where it is none, or not below 2^64.
 pub fn number(s: &[u8]) -> Option<u64> {
-    let mut v: u64 = 0;
-    let mut i: usize = 0;
-    while i < s.len() {
-        let b = s[i];
-        if b < b'0' {
-            return None;
-        }
-        if b'9' < b {
-            return None;
-        }
-        let d = (b - b'0') as u64;
-        if (u64::MAX - d) / 10 < v {
-            return None;
-        }
-        v = v * 10 + d;
-        i = i + 1;
-    }
-    if i == 0 {
+    if s.is_empty() {
         return None;
+    }
+    let mut v: u64 = 0;
+    for b in s {
+        if !b.is_ascii_digit() {
+            return None;
+        }
+        v = v.checked_mul(10)?.checked_add(u64::from(*b - b'0'))?;
     }
     Some(v)
 }
 
 // Number k of a line; 0 where the word is none.
 pub fn number_at(line: &[u8], k: usize) -> u64 {
-    match number(word(line, k)) {
-        Some(v) => v,
-        None => 0,
-    }
+    number(word(line, k)).unwrap_or(0)
 }
 
 // The same, cut to 32 bits.
@@ -159,22 +110,16 @@ fn digit(b: u8) -> u8
     ensures { result < 16 }
 {
     match b {
-        0x30..=0x39 => b - 0x30,
-        0x41..=0x46 => b - 0x37,
-        0x61..=0x66 => b - 0x57,
+        b'0'..=b'9' => b - b'0',
+        b'A'..=b'F' => b - b'A' + 10,
+        b'a'..=b'f' => b - b'a' + 10,
         _ => 0,
     }
 }
 
 // Behind the 0x of a word stand digits alone, two for each byte.
 pub fn is_hexadecimal(s: &[u8]) -> bool {
-    if s.len() < 2 {
-        return false;
-    }
-    if end_of(s, 2, ByteClass::Digit) < s.len() {
-        return false;
-    }
-    s.len() % 2 == 0
+    2 <= s.len() && s.len() % 2 == 0 && end_of(s, 2, ByteClass::Digit) == s.len()
 }
 
 // Writes the bytes of a word in hexadecimal to the output, as many as fit, and answers how many.
@@ -182,15 +127,9 @@ fn unhex(s: &[u8], out: &mut [u8]) -> usize
     ensures in_bounds { result ≤ length out.new }
     ensures front { result ≡ length (take result out.new) }
 {
-    let mut i: usize = 0;
-    let mut n: usize = 0;
-    while i + 1 < s.len() {
-        if out.len() <= n {
-            return n;
-        }
-        out[n] = digit(s[i]) * 16 + digit(s[i + 1]);
-        n = n + 1;
-        i = i + 2;
+    let n = out.len().min(s.len() / 2);
+    for i in 0..n {
+        out[i] = digit(s[2 * i]) * 16 + digit(s[2 * i + 1]);
     }
     n
 }
@@ -200,14 +139,8 @@ fn copy(s: &[u8], out: &mut [u8]) -> usize
     ensures in_bounds { result ≤ length out.new }
     ensures front { result ≡ length (take result out.new) }
 {
-    let mut n: usize = 0;
-    while n < s.len() {
-        if out.len() <= n {
-            return n;
-        }
-        out[n] = s[n];
-        n = n + 1;
-    }
+    let n = out.len().min(s.len());
+    out[..n].copy_from_slice(&s[..n]);
     n
 }
 
@@ -217,10 +150,9 @@ pub fn bytes_at(line: &[u8], k: usize, out: &mut [u8]) -> usize
     ensures front { result ≡ length (take result out.new) }
 {
     let s = word(line, k);
-    if slice::starts_with(s, b"0x") {
-        unhex(&s[2..], out)
-    } else {
-        copy(s, out)
+    match s.strip_prefix(b"0x") {
+        Some(digits) => unhex(digits, out),
+        None => copy(s, out),
     }
 }
 
@@ -248,7 +180,7 @@ pub fn read_full<R: Read>(from: &mut R, buffer: &mut [u8]) -> io::Result<usize>
         if got == 0 {
             return Ok(n);
         }
-        n = n + got;
+        n += got;
     }
     Ok(n)
 }

@@ -29,13 +29,9 @@ fn buckets<W: Write>(to: &mut W, s: &[u8], at: usize, n: usize) -> io::Result<()
         return text(to, b"-");
     }
     range(to, s, at)?;
-    let mut p = at + BUCKET;
-    let mut left = n - 1;
-    while 0 < left {
+    for k in 1..n {
         text(to, b",")?;
-        range(to, s, p)?;
-        p = p + BUCKET;
-        left = left - 1;
+        range(to, s, at + BUCKET * k)?;
     }
     Ok(())
 }
@@ -67,10 +63,8 @@ fn segments<W: Write>(to: &mut W, s: &[u8], label: &[u8], at: usize, n: u16) -> 
     requires { at ≤ length s.now }
 {
     let mut p = at;
-    let mut left = n;
-    while 0 < left {
+    for _ in 0..n {
         p = segment(to, s, label, p)?;
-        left = left - 1;
     }
     Ok(())
 }
@@ -81,15 +75,13 @@ fn lost<W: Write>(to: &mut W, s: &[u8], at: usize, n: u16) -> io::Result<usize>
     ensures { IfOk result (λ p. p ≤ length s.now) }
 {
     let mut p = at;
-    let mut left = n;
-    while 0 < left {
+    for _ in 0..n {
         if s.len() - p < packed_delta::ID {
             return Ok(s.len());
         }
         labelled(to, b"  lost ", slice_int::read_u64(s, p))?;
         newline(to)?;
-        p = p + packed_delta::ID;
-        left = left - 1;
+        p += packed_delta::ID;
     }
     Ok(p)
 }

@@ -72,7 +72,7 @@ pub fn quoted<W: Write>(to: &mut W, s: &[u8]) -> io::Result<()> {
         at = end;
         if at < s.len() {
             escaped(to, s[at])?;
-            at = at + 1;
+            at += 1;
         }
     }
     text(to, b"\"")

@@ -23,8 +23,9 @@ fn named<W: Write>(to: &mut W, number: usize) -> io::Result<()> {
 
 // A space, then a number; where it may be negative it is a word of 64 bits in two's complement.
 pub fn attached_as<W: Write>(to: &mut W, is_signed: bool, v: u64) -> io::Result<()> {
-    if is_signed && 9223372036854775807 < v {
-        labelled(to, b" -", 0u64.wrapping_sub(v))
+    if is_signed {
+        let n = v.cast_signed();
+        write!(to, " {n}")
     } else {
         attached(to, v)
     }
@@ -32,17 +33,9 @@ pub fn attached_as<W: Write>(to: &mut W, is_signed: bool, v: u64) -> io::Result<
 
 // The numbers of a refusal, each behind a space, as words.
 pub fn values<W: Write>(to: &mut W, r: Reply) -> io::Result<()> {
-    if 0 < r.count {
-        attached(to, r.first)?;
-    }
-    if 1 < r.count {
-        attached(to, r.second)?;
-    }
-    if 2 < r.count {
-        attached(to, r.third)?;
-    }
-    if 3 < r.count {
-        attached(to, r.fourth)?;
+    let all = [r.first, r.second, r.third, r.fourth];
+    for v in all.into_iter().take(usize::from(r.count)) {
+        attached(to, v)?;
     }
     Ok(())
 }
@@ -62,17 +55,14 @@ fn named_value<W: Write>(
 
 // The numbers of a refusal, each behind its name. A broker's code and the ends of a bucket range may be negative.
 fn named_values<W: Write>(to: &mut W, r: Reply, names: &[u8]) -> io::Result<()> {
-    if 0 < r.count {
-        named_value(to, names, 0, r.number == 16, r.first)?;
-    }
-    if 1 < r.count {
-        named_value(to, names, 1, false, r.second)?;
-    }
-    if 2 < r.count {
-        named_value(to, names, 2, true, r.third)?;
-    }
-    if 3 < r.count {
-        named_value(to, names, 3, true, r.fourth)?;
+    let all = [
+        (r.first, r.number == 16),
+        (r.second, false),
+        (r.third, true),
+        (r.fourth, true),
+    ];
+    for (k, (v, is_signed)) in all.into_iter().enumerate().take(usize::from(r.count)) {
+        named_value(to, names, k, is_signed, v)?;
     }
     Ok(())
 }

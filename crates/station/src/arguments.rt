@@ -5,7 +5,7 @@ use std::io;
 use std::io::Write;
 
 // What the arguments ask of a run.
-#[derive(Clone, Copy)]
+#[derive(Clone, Copy, Default)]
 pub struct Options {
     // After each call: what changed, and the list that is held.
     pub lists: bool,
@@ -19,16 +19,6 @@ pub struct Options {
     pub is_wrong: bool,
 }
 
-fn none() -> Options {
-    Options {
-        lists: false,
-        state: false,
-        stop: false,
-        help: false,
-        is_wrong: false,
-    }
-}
-
 fn show_unknown<E: Write>(errors: &mut E, word: &[u8]) -> io::Result<()> {
     text(errors, b"unknown option ")?;
     quoted(errors, word)?;
@@ -37,21 +27,35 @@ fn show_unknown<E: Write>(errors: &mut E, word: &[u8]) -> io::Result<()> {
 
 // The options with one more argument.
 fn with<E: Write>(errors: &mut E, options: Options, word: &[u8]) -> io::Result<Options> {
-    let mut next = options;
-    match log_lines::place_of(b"--lists --state --stop --help", word) {
-        0 => next.lists = true,
-        1 => next.state = true,
-        2 => next.stop = true,
-        3 => next.help = true,
+    let next = match log_lines::place_of(b"--lists --state --stop --help", word) {
+        0 => Options {
+            lists: true,
+            ..options
+        },
+        1 => Options {
+            state: true,
+            ..options
+        },
+        2 => Options {
+            stop: true,
+            ..options
+        },
+        3 => Options {
+            help: true,
+            ..options
+        },
         _ => {
             show_unknown(errors, word)?;
-            next.is_wrong = true;
+            Options {
+                is_wrong: true,
+                ..options
+            }
         }
-    }
+    };
     Ok(next)
 }
 
-// The options with argument i, or nothing where there is none. One that is longer than the buffer counts as unknown, by
+// The options with argument i; None where there is none. One that is longer than the buffer counts as unknown, by
 // its first bytes.
 fn with_argument<R: Env, E: Write>(
     rt: &R,
@@ -69,12 +73,12 @@ fn with_argument<R: Env, E: Write>(
 
 // The options that the program was started with.
 pub fn given<R: Env, E: Write>(rt: &R, errors: &mut E) -> io::Result<Options> {
-    let mut options = none();
+    let mut options = Options::default();
     for i in 1..usize::MAX {
-        match with_argument(rt, errors, options, i)? {
-            Some(next) => options = next,
-            None => return Ok(options),
-        }
+        let Some(next) = with_argument(rt, errors, options, i)? else {
+            return Ok(options);
+        };
+        options = next;
     }
     Ok(options)
 }

@@ -13,14 +13,11 @@ fn consumer_type(word: &[u8]) -> ScalableConsumerType {
 
 // The session behind an open; one that is refused leaves it as it was.
 fn opened(r: Record, x: SessionReply) -> SessionReply {
-    let told = x.reply;
-    if told.answer == export_reply::REFUSED {
-        return SessionReply {
-            state: r,
-            reply: told,
-        };
+    if x.reply.answer == export_reply::REFUSED {
+        SessionReply { state: r, ..x }
+    } else {
+        x
     }
-    x
 }
 
 // open CONSUMER INCARNATION TOPIC SUBSCRIPTION NAME KIND
@@ -40,15 +37,13 @@ fn open(line: &[u8], store: &mut [u8]) -> SessionReply {
         consumer_type(log_lines::word(line, 6)),
         store,
     );
-    let answer = opened.answer;
-    export_record::open_reply(answer, opened.next)
+    export_record::open_reply(opened.answer, opened.next)
 }
 
 // The session that was saved; a refusal leaves the one that is open.
 fn restored(r: Record, bytes: &[u8], store: &mut [u8]) -> SessionReply {
     let restored = session_saved::restore(bytes, store);
-    let answer = restored.answer;
-    opened(r, export_record::open_reply(answer, restored.next))
+    opened(r, export_record::open_reply(restored.answer, restored.next))
 }
 
 // The call of a line, by the function to which the exported call hands on. Its message is that of an update or a

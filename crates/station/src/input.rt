@@ -12,18 +12,7 @@ use std::io::{Read, Write};
 
 // The run with so many bytes left to be run.
 fn with_waiting(run: Run, n: usize) -> Run {
-    let mut next = run;
-    next.waiting = n;
-    next
-}
-
-// The run, which is over at the end of the input.
-fn with_end(run: Run, is_last: bool) -> Run {
-    let mut next = run;
-    if is_last {
-        next.is_over = true;
-    }
-    next
+    Run { waiting: n, ..run }
 }
 
 // Runs the lines that are whole; the bytes behind them wait.
@@ -43,12 +32,11 @@ fn run_lines<W: Write>(
         if lines_read.len() <= end {
             return Ok(with_waiting(next, lines_read.len() - at));
         }
-        let behind = end + 1;
         next = step::run_line(to, options, next, &lines_read[at..end], store, window, kept)?;
         if next.is_over {
             return Ok(next);
         }
-        at = behind;
+        at = end + 1;
     }
     Ok(with_waiting(next, 0))
 }
@@ -57,12 +45,7 @@ fn run_lines<W: Write>(
 fn move_down(buffer: &mut [u8], from: usize, n: usize)
     requires { from + n ≤ length buffer.old }
 {
-    let mut i: usize = 0;
-    while i < n {
-        let b = buffer[from + i];
-        buffer[i] = b;
-        i = i + 1;
-    }
+    buffer.copy_within(from..from + n, 0);
 }
 
 // Reads once, behind the first n bytes, and answers how many came: none at the end of the input.
@@ -118,27 +101,27 @@ fn read_and_run<R: Read, W: Write>(
     window: &mut [u8],
     kept: &mut [u8],
 ) -> io::Result<Run> {
-    let waiting = run.waiting;
-    if buffer.len() <= waiting {
-        let mut cut = with_waiting(run, 0);
-        cut.is_cut = true;
-        return Ok(cut);
+    if buffer.len() <= run.waiting {
+        return Ok(Run {
+            is_cut: true,
+            waiting: 0,
+            ..run
+        });
     }
-    let filled = fill(from, buffer, waiting, run.is_cut)?;
-    let end = filled.end;
-    let next = with_end(
-        run_lines(to, options, run, &buffer[..end], store, window, kept)?,
-        filled.is_last,
-    );
+    let Filled { end, is_last } = fill(from, buffer, run.waiting, run.is_cut)?;
+    let next = run_lines(to, options, run, &buffer[..end], store, window, kept)?;
     let left = next.waiting;
     if left <= end {
         move_down(buffer, end - left, left);
     }
-    Ok(next)
+    Ok(Run {
+        is_over: next.is_over || is_last,
+        ..next
+    })
 }
 
-// A proved loop has to end, and nothing says that the input does: the turns are counted down from a number that no run
-// uses up. The answers to what was read are written out before more is read.
+// A proved loop has to end, and nothing says that the input does: it has a number of turns that no run uses up. The
+// answers to what was read are written out before more is read.
 fn run_input<R: Read, W: Write>(
     from: &mut R,
     to: &mut W,
@@ -149,14 +132,12 @@ fn run_input<R: Read, W: Write>(
     kept: &mut [u8],
 ) -> io::Result<Run> {
     let mut run = step::at_start();
-    let mut turns = u64::MAX;
-    while 0 < turns {
+    for _ in 0..u64::MAX {
         run = read_and_run(from, to, options, run, buffer, store, window, kept)?;
         to.flush()?;
         if run.is_over {
             return Ok(run);
         }
-        turns = turns - 1;
     }
     Ok(run)
 }

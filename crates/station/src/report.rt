@@ -4,7 +4,6 @@ use export_reply::Reply;
 use log_calls::CallName;
 use log_text::{decimal, labelled, newline, quoted, space, text};
 use packed::SLOT;
-use session::READERS;
 use std::io;
 use std::io::Write;
 
@@ -71,22 +70,14 @@ pub fn show_answer<W: Write>(
     store: &[u8],
     out: &[u8],
 ) -> io::Result<()> {
-    if r.answer == export_reply::REFUSED {
-        show_refused(to, r, message, store)?;
+    match r.answer {
+        export_reply::REFUSED => show_refused(to, r, message, store),
+        export_reply::ACCEPTED => show_accepted(to, name, store),
+        export_reply::UNCHANGED => text(to, b"none"),
+        export_reply::DELTA => show_delta(to, out),
+        export_reply::REPLAY => show_replay(to, r.first, out),
+        _ => Ok(()),
     }
-    if r.answer == export_reply::ACCEPTED {
-        show_accepted(to, name, store)?;
-    }
-    if r.answer == export_reply::UNCHANGED {
-        text(to, b"none")?;
-    }
-    if r.answer == export_reply::DELTA {
-        show_delta(to, out)?;
-    }
-    if r.answer == export_reply::REPLAY {
-        show_replay(to, r.first, out)?;
-    }
-    Ok(())
 }
 
 fn show_flag<W: Write>(to: &mut W, label: &[u8], b: bool) -> io::Result<()> {
@@ -104,10 +95,9 @@ fn show_floor<W: Write>(to: &mut W, r: Record) -> io::Result<()> {
 
 // How many pushes of the queue each reader has drained.
 fn show_drained<W: Write>(to: &mut W, r: Record) -> io::Result<()> {
-    let positions = r.drain_positions;
     text(to, b" drained")?;
-    for reader in 0..READERS {
-        labelled(to, b" ", positions[reader] as u64)?;
+    for position in r.drain_positions {
+        labelled(to, b" ", position as u64)?;
     }
     Ok(())
 }
@@ -160,15 +150,13 @@ pub fn show_lists<W: Write>(
     store: &[u8],
     out: &[u8],
 ) -> io::Result<()> {
-    if r.answer == export_reply::DELTA {
-        log_lists::changes(to, out)?;
-        show_held(to, is_registered, store)?;
+    match r.answer {
+        export_reply::DELTA => {
+            log_lists::changes(to, out)?;
+            show_held(to, is_registered, store)
+        }
+        export_reply::REPLAY => log_lists::changes(to, out),
+        export_reply::ACCEPTED => show_set(to, name, is_registered, store),
+        _ => Ok(()),
     }
-    if r.answer == export_reply::REPLAY {
-        log_lists::changes(to, out)?;
-    }
-    if r.answer == export_reply::ACCEPTED {
-        show_set(to, name, is_registered, store)?;
-    }
-    Ok(())
 }

@@ -55,32 +55,30 @@ pub fn at_start() -> Run {
     }
 }
 
-fn one_more(n: u64) -> u64 {
-    if n < u64::MAX { n + 1 } else { n }
-}
-
 // The run with one line more that was accepted or refused.
 fn counted(run: Run, is_refused: bool) -> Run {
-    let mut next = run;
     if is_refused {
-        next.refused = one_more(run.refused);
+        Run {
+            refused: run.refused.saturating_add(1),
+            ..run
+        }
     } else {
-        next.accepted = one_more(run.accepted);
+        Run {
+            accepted: run.accepted.saturating_add(1),
+            ..run
+        }
     }
-    next
 }
 
 // The run behind a call. An open that is refused before any was accepted leaves no session.
 fn settled(run: Run, changed: SessionReply) -> Run {
-    let mut next = run;
-    let record = changed.state;
-    let told = changed.reply;
-    next.record = record;
-    if told.answer == export_reply::REFUSED {
-        return counted(next, true);
-    }
-    next.is_open = true;
-    counted(next, false)
+    let is_refused = changed.reply.answer == export_reply::REFUSED;
+    let next = Run {
+        record: changed.state,
+        is_open: run.is_open || !is_refused,
+        ..run
+    };
+    counted(next, is_refused)
 }
 
 // The rows below a call that the options ask for: the record, then the lists.
@@ -182,9 +180,7 @@ fn run_save<W: Write>(to: &mut W, run: Run, store: &[u8], kept: &mut [u8]) -> io
         Ok(n) => {
             labelled(to, b"saved ", n as u64)?;
             newline(to)?;
-            let mut next = run;
-            next.kept = n;
-            Ok(counted(next, false))
+            Ok(counted(Run { kept: n, ..run }, false))
         }
         Err(x) => {
             log_text::refused(to, x)?;
@@ -217,37 +213,24 @@ fn run_question<W: Write>(
 
 // The run behind a damaged line.
 fn with_damaged(options: Options, run: Run) -> Run {
-    let mut next = run;
-    next.damaged = one_more(run.damaged);
-    if options.stop {
-        next.is_over = true;
+    Run {
+        damaged: run.damaged.saturating_add(1),
+        is_over: run.is_over || options.stop,
+        ..run
     }
-    next
 }
 
 // The line holds no call.
 fn is_passed_over(line: &[u8]) -> bool {
-    if line.len() == 0 {
-        return true;
-    }
-    slice::starts_with(line, b"#")
+    line.is_empty() || slice::starts_with(line, b"#")
 }
 
 // The line asks for a session that is open.
 fn needs_session(tested: Line) -> bool {
     match tested {
-        Line::Call(name) => match name {
-            CallName::Open => false,
-            CallName::Restore => false,
-            _ => true,
-        },
-        Line::Question(question) => match question {
-            Question::Segment => true,
-            Question::Key => true,
-            _ => false,
-        },
+        Line::Call(name) => !matches!(name, CallName::Open | CallName::Restore),
+        Line::Question(question) => matches!(question, Question::Segment | Question::Key),
         Line::Save => true,
-        Line::Damaged => false,
     }
 }
 
@@ -267,22 +250,10 @@ fn run_tested<W: Write>(
     text(to, log_lines::word(line, 0))?;
     space(to)?;
     match tested {
-        Line::Damaged => Ok(run),
         Line::Question(question) => run_question(to, run, question, line, store, window),
         Line::Save => run_save(to, run, store, kept),
         Line::Call(name) => run_call(to, options, run, name, line, store, window, kept),
     }
-}
-
-// The line is no call, or one that cannot be run now; why was written.
-fn is_damaged<W: Write>(to: &mut W, run: Run, tested: Line) -> io::Result<bool> {
-    if let Line::Damaged = tested {
-        return Ok(true);
-    }
-    if needs_session(tested) && !run.is_open {
-        return Ok(!log_calls::damaged(to, run.line, b"no session is open")?);
-    }
-    Ok(false)
 }
 
 // Runs a line, and shows what comes of it.
@@ -295,18 +266,23 @@ pub fn run_line<W: Write>(
     window: &mut [u8],
     kept: &mut [u8],
 ) -> io::Result<Run> {
-    let mut next = run;
-    next.line = one_more(run.line);
-    if next.is_cut {
-        next.is_cut = false;
+    let next = Run {
+        line: run.line.saturating_add(1),
+        is_cut: false,
+        ..run
+    };
+    if run.is_cut {
         log_calls::damaged(to, next.line, b"too long")?;
         return Ok(with_damaged(options, next));
     }
     if is_passed_over(line) {
         return Ok(next);
     }
-    let tested = log_calls::tested(to, next.line, line)?;
-    if is_damaged(to, next, tested)? {
+    let Some(tested) = log_calls::tested(to, next.line, line)? else {
+        return Ok(with_damaged(options, next));
+    };
+    if needs_session(tested) && !next.is_open {
+        log_calls::damaged(to, next.line, b"no session is open")?;
         return Ok(with_damaged(options, next));
     }
     run_tested(to, options, next, tested, line, store, window, kept)

@@ -79,10 +79,7 @@ fn run_all<W: Write>(to: &mut W, text: &[u8]) -> io::Result<()> {
     while at < text.len() {
         let end = log_lines::line_end(text, at);
         run(to, &text[at..end])?;
-        at = end;
-        if at < text.len() {
-            at = at + 1;
-        }
+        at = end + 1;
     }
     Ok(())
 }

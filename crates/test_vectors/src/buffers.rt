@@ -26,17 +26,7 @@ pub fn front_mut(s: &mut [u8], n: usize) -> &mut [u8] {
 
 // The bytes of a slice from a place on are as they were.
 pub fn stay(from: usize, before: &[u8], s: &[u8]) -> bool {
-    let mut i = from;
-    while i < s.len() {
-        if before.len() <= i {
-            return false;
-        }
-        if s[i] != before[i] {
-            return false;
-        }
-        i = i + 1;
-    }
-    true
+    s.len() <= from || (s.len() <= before.len() && slice::same(&s[from..], &before[from..s.len()]))
 }
 
 // The bytes of an output from a place on are as they were.

@@ -27,14 +27,13 @@ fn is_packed(s: &[u8]) -> bool
 
 // difference OLD NEW
 fn write_between<W: Write>(to: &mut W, old: &[u8], new: &[u8]) -> io::Result<()> {
-    if is_packed(old) {
-        if is_packed(new) {
-            let mut out = [FILL; packed_diff::LONGEST];
-            let n = packed_diff::write_delta(old, new, &mut out);
-            return written(to, &out, n);
-        }
+    if is_packed(old) && is_packed(new) {
+        let mut out = [FILL; packed_diff::LONGEST];
+        let n = packed_diff::write_delta(old, new, &mut out);
+        written(to, &out, n)
+    } else {
+        print::malformed(to)
     }
-    print::malformed(to)
 }
 
 pub fn run<W: Write>(to: &mut W, name: &[u8], a: &[u8], b: &[u8]) -> io::Result<bool> {

@@ -27,28 +27,15 @@ const INPUT: usize = 1048576;
 // Runs a line whose words 1 and 2 stand for the bytes a and b.
 fn run_command<W: Write>(to: &mut W, line: &[u8], a: &[u8], b: &[u8]) -> io::Result<()> {
     let name = log_lines::word(line, 0);
-    if packed_vectors::run(to, name, a)? {
-        return Ok(());
-    }
-    if name_vectors::run(to, name, line, b)? {
-        return Ok(());
-    }
-    if range_vectors::run(to, name, line)? {
-        return Ok(());
-    }
-    if wire_vectors::run(to, name, line, a, b)? {
-        return Ok(());
-    }
-    if delta_vectors::run(to, name, a, b)? {
-        return Ok(());
-    }
-    if output_vectors::run(to, name, line, a, b)? {
-        return Ok(());
-    }
-    if intake_vectors::run(to, name, line, b)? {
-        return Ok(());
-    }
-    if watch_vectors::run(to, name, line)? {
+    let is_known = packed_vectors::run(to, name, a)?
+        || name_vectors::run(to, name, line, b)?
+        || range_vectors::run(to, name, line)?
+        || wire_vectors::run(to, name, line, a, b)?
+        || delta_vectors::run(to, name, a, b)?
+        || output_vectors::run(to, name, line, a, b)?
+        || intake_vectors::run(to, name, line, b)?
+        || watch_vectors::run(to, name, line)?;
+    if is_known {
         return Ok(());
     }
     text(to, b"unknown command\n")
@@ -70,10 +57,7 @@ fn run_all<W: Write>(to: &mut W, text: &[u8]) -> io::Result<()> {
     while at < text.len() {
         let end = log_lines::line_end(text, at);
         run(to, &text[at..end])?;
-        at = end;
-        if at < text.len() {
-            at = at + 1;
-        }
+        at = end + 1;
     }
     Ok(())
 }

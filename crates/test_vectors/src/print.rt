@@ -30,10 +30,8 @@ pub fn malformed<W: Write>(to: &mut W) -> io::Result<()> {
 // Bytes in hexadecimal.
 pub fn bytes<W: Write>(to: &mut W, s: &[u8]) -> io::Result<()> {
     text(to, b" 0x")?;
-    let mut i: usize = 0;
-    while i < s.len() {
-        hex2(to, s[i])?;
-        i = i + 1;
+    for b in s {
+        hex2(to, *b)?;
     }
     Ok(())
 }

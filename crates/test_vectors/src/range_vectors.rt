@@ -52,17 +52,13 @@ fn share<W: Write>(to: &mut W, row: [KeyRange; ROW], n: usize) -> io::Result<()>
 fn overlap<W: Write>(to: &mut W, line: &[u8]) -> io::Result<()> {
     let mut row = [KeyRange { start: 0, end: 0 }; ROW];
     let count = log_lines::number_at(line, 1) as usize;
-    let mut n: usize = 0;
-    while n < ROW {
-        if count <= n {
-            return share(to, row, n);
-        }
-        let start = log_lines::number32_at(line, 2 * n + 2);
-        let end = log_lines::number32_at(line, 2 * n + 3);
-        row[n] = KeyRange { start, end };
-        n = n + 1;
+    let n = count.min(ROW);
+    for k in 0..n {
+        let start = log_lines::number32_at(line, 2 * k + 2);
+        let end = log_lines::number32_at(line, 2 * k + 3);
+        row[k] = KeyRange { start, end };
     }
-    share(to, row, ROW)
+    share(to, row, n)
 }
 
 pub fn run<W: Write>(to: &mut W, name: &[u8], line: &[u8]) -> io::Result<bool> {

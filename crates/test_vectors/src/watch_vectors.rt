@@ -51,10 +51,10 @@ fn call(
 
 fn refused<W: Write>(to: &mut W, x: Refusal, broker: &[u8]) -> io::Result<()> {
     print::refusal(to, x)?;
-    if refusal::number(x) == 16 {
-        print::bytes(to, broker)?;
+    match x {
+        Refusal::Broker { code: _ } => print::bytes(to, broker),
+        _ => Ok(()),
     }
-    Ok(())
 }
 
 // The lengths of the new set and of the output, and both unless they are long.

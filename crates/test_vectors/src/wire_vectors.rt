@@ -1,6 +1,7 @@
 // UTF-8, varints, messages and their values.
 use crate::print;
 use log_text::{newline, text};
+use std::cmp::Ordering;
 use std::io;
 use std::io::Write;
 use wire_messages::MessageKind;
@@ -62,14 +63,11 @@ fn uint32<W: Write>(to: &mut W, line: &[u8]) -> io::Result<()> {
 fn int32<W: Write>(to: &mut W, line: &[u8]) -> io::Result<()> {
     let a = wire_values::int32(log_lines::number_at(line, 1));
     let b = wire_values::int32(log_lines::number_at(line, 2));
-    let mut k: usize = 2;
-    if a < b {
-        k = 0;
-    } else if a == b {
-        k = 1;
+    match a.cmp(&b) {
+        Ordering::Less => text(to, b"less\n"),
+        Ordering::Equal => text(to, b"equal\n"),
+        Ordering::Greater => text(to, b"greater\n"),
     }
-    text(to, log_lines::word(b"less equal greater", k))?;
-    newline(to)
 }
 
 // utf8 BYTES

@@ -1,25 +1,23 @@
--- `reply::word` meets its contract; the reckoning is that of WordLaws.
+-- `reply::word` meets its contract: the bits of an integer of 64 bits are its word.
 -- Assumes nothing.
-use Rattle.export_reply.proofs.WordLaws.{cast_fits, word-positive, sum_fits, size_fits, size-cast, size_small, word-negative}
+use Rattle.std.proofs.Common.{◌≡◌, ℕ, ℤ, pos, negsuc, w32, w64, of_z, to_z}
+use native.Mathlib.Omega.{arith}
+use mathlib.Core.Path.{refl, ap, ◌∙◌}
+use mir.Val.{SFits}
+use mir.Facts.{to_z-of_z}
+use Rattle.export_reply.specs.Replies.{word_of}
 use Rattle.export_reply.proofs.word.Goals as goal
 
-pub overflow_cast-result : goal.overflow_cast-result
-overflow_cast-result c = cast_fits c.args.v c.ranges.v c.if-v-ge0.true
+bits : (v : ℤ) → of_z w64 v ≡ word_of v
+unfolding word_of
+bits (pos n) = refl
+bits (negsuc n) = omega arith
 
-pub overflow_add-result : goal.overflow_add-result
-overflow_add-result c = sum_fits c.args.v c.ranges.v c.if-v-ge0.false
+wide : (v : ℤ) → SFits w32 v → SFits w64 v
+wide v f = record { sfits = omega (arith, f.sfits) }
 
-pub overflow_sub-result : goal.overflow_sub-result
-overflow_sub-result c = size_fits c.args.v c.ranges.v c.if-v-ge0.false
+word-bits : {v x : ℤ} {n : ℕ} → SFits w32 v → n ≡ of_z w64 (to_z w64 (of_z w64 x)) → x ≡ v → n ≡ word_of v
+word-bits {v = v} f h e = h ∙ ap (λ (z : ℤ). of_z w64 (to_z w64 (of_z w64 z))) e ∙ ap (of_z w64) (to_z-of_z (wide v f)) ∙ bits v
 
-pub overflow_cast-result-else-v-ge0 : goal.overflow_cast-result-else-v-ge0
-overflow_cast-result-else-v-ge0 c = size-cast c.args.v c.ranges.v c.if-v-ge0.false
-
-pub overflow_sub-result-else-v-ge0 : goal.overflow_sub-result-else-v-ge0
-overflow_sub-result-else-v-ge0 c = size_small c.args.v c.ranges.v c.if-v-ge0.false
-
-pub returns-then-v-ge0 : goal.returns-then-v-ge0
-returns-then-v-ge0 c = word-positive c.args.v c.ranges.v c.if-v-ge0.true
-
-pub returns-else-v-ge0 : goal.returns-else-v-ge0
-returns-else-v-ge0 c = word-negative c.args.v c.ranges.v c.if-v-ge0.false
+pub returns : goal.returns
+returns c = word-bits c.ranges.v c.cast_unsigned.ensures (rw (to_z-of_z c.ranges.v) at c.from.ensures)

@@ -1,9 +1,6 @@
--- `lost` stays in bounds and ends. The measure is the number of ids left. Assumes nothing.
+-- `lost` stays in bounds. Assumes nothing.
 use Rattle.std.proofs.Common.{◌≤◌, length}
 use Rattle.log_lists.proofs.lost.Given as goal
 
-abbrev pub invariant-loop-left : goal.invariant-loop-left
-invariant-loop-left g l = l.p ≤ length l.s
-
-abbrev pub decreases-loop-left : goal.decreases-loop-left
-decreases-loop-left g l = l.left
+abbrev pub invariant-loop : goal.invariant-loop
+invariant-loop g l = l.p ≤ length l.s

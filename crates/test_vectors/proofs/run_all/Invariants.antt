@@ -1,10 +1,6 @@
--- `run_all` stays in bounds and ends. The measure is what is left of the text.
--- Assumes nothing.
-use Rattle.std.proofs.Common.{◌-◌, ◌≤◌, length}
+-- `run_all` ends. The measure is what is left of the text. Assumes nothing.
+use Rattle.std.proofs.Common.{◌-◌, length}
 use Rattle.test_vectors.proofs.run_all.Given as goal
-
-abbrev pub invariant-loop-at : goal.invariant-loop-at
-invariant-loop-at g l = l.at ≤ length l.text
 
 abbrev pub decreases-loop-at : goal.decreases-loop-at
 decreases-loop-at g l = length l.text - l.at

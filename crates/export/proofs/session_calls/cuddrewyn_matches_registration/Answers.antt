@@ -30,11 +30,11 @@ told k e = ap match_reply (sym e ∙ rw (k.from_pb_i32-kind.ensures, to_z-of_z k
 
 pub returns-in-Ok-true : goal.returns-in-Ok-true
 unfolding match_reply
-returns-in-Ok-true c = c.plain.ensures ∙ told (goal.at.returns-in-Ok-true c).After-matches_registration (c.in-Ok-true.is ∙ ap Ok c.in-Ok-true.field-0-is)
+returns-in-Ok-true c = c.plain.ensures ∙ told (goal.at.returns-in-Ok-true c).After-matches_registration (c.in-Ok-true.is ∙ ap Ok c.in-Ok-true.field-0-test)
 
 pub returns-in-Ok-false : goal.returns-in-Ok-false
 unfolding match_reply
-returns-in-Ok-false c = c.plain-in-Ok-false.ensures ∙ told (goal.at.returns-in-Ok-false c).After-matches_registration (c.in-Ok-false.is ∙ ap Ok c.in-Ok-false.field-0-is)
+returns-in-Ok-false c = c.plain-in-Ok-false.ensures ∙ told (goal.at.returns-in-Ok-false c).After-matches_registration (c.in-Ok-false.is ∙ ap Ok c.in-Ok-false.field-0-test)
 
 pub returns-in-Err : goal.returns-in-Err
 unfolding match_reply

@@ -1,9 +1,0 @@
--- `place_of` ends. The measure is the number of words left. Assumes nothing.
-use Prim.Native.Nat.{◌-◌}
-use Rattle.log_lines.proofs.place_of.Given as goal
-
-abbrev pub invariant-loop-k : goal.invariant-loop-k
-invariant-loop-k l = Unit {0}
-
-abbrev pub decreases-loop-k : goal.decreases-loop-k
-decreases-loop-k l = l.count - l.k
