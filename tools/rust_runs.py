@@ -14,8 +14,7 @@ SESSIONS = 20
 HEAD = """-- Public: sessions that the Rust has answered (compare/recorded), as equations of its transcription, by computation.
 -- tools/rust_runs.py writes this file.
 -- Assumes nothing.
-use Rattle.std.specs.Prelude.{◌≡◌, refl, true, false, [], ◌∷◌, pos, negsuc}
-use Rattle.std.proofs.Math.Option.{some, none}
+use Rattle.std.specs.Prelude.{◌≡◌, refl, true, false, [], ◌∷◌, pos, negsuc, Some, None}
 use Rattle.topic_types.specs.KeyRanges.{key_range, error_kind, error_numbers}
 use Rattle.slice_int.specs.Be.{bytes_of}
 use Rattle.utf8.specs.Table.{table, fits, sequence_in, sequence_of, text_after, is_utf8}
@@ -87,7 +86,7 @@ def held_by(block, before):
     if held is None:
         return before
     segments = [segment(r.split()) for r in block if r.startswith("    ")]
-    return "none" if held == "  held none" else f"(some (list {held.split()[2]} ({row(segments)})))"
+    return "None" if held == "  held none" else f"(Some (list {held.split()[2]} ({row(segments)})))"
 
 
 def shown(block, kept):
@@ -95,7 +94,7 @@ def shown(block, kept):
     answer = block[0].split(" ", 2)[2]
     state = block[1].split()
     value = dict(zip(state[1:9:2], state[2:9:2]))
-    floor = "none" if value["floor"] == "none" else f"(some {value['floor']})"
+    floor = "None" if value["floor"] == "none" else f"(Some {value['floor']})"
     flags = " ".join("true" if value[flag] == "yes" else "false" for flag in ("registered", "invalidated"))
     return f"seen ({line(answer.split(), answer, block)}) {kept} {floor} {value['incarnation']} {flags}"
 
@@ -115,7 +114,7 @@ def sessions():
         if not text_line.startswith(" "):
             block = answers.setdefault(int(text_line.split()[0]), [])
         block.append(text_line)
-    found, kept = [], "none"
+    found, kept = [], "None"
     for number, text_line in enumerate((ROOT / "compare/recorded/stdin").read_text().splitlines(), 1):
         words = text_line.split()
         kept = held_by(answers.get(number, []), kept)
