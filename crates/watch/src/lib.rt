@@ -20,16 +20,6 @@ use watch_window::{Listing, Sorted};
 use wire_readers::Event;
 use wire_schema::MessageKind;
 
-// Whether there is room for a diff's set and output.
-#[derive(Clone, Copy)]
-enum Room {
-    Fits,
-    // The set is longer than its buffer.
-    NoSet,
-    // The set fits, but not the output.
-    NoOutput,
-}
-
 // The topics of a snapshot as the set at the front of buffer. Answers its length. The bytes of spare up to that length may change.
 fn write_topics(order: Sorted, buffer: &mut [u8], p: &[u8], spare: &mut [u8]) -> usize
     requires sorted_of { SortedOf 2 p.now order }
@@ -186,25 +176,25 @@ fn fits_lists(n: usize, set: usize, out: usize) -> bool
     n <= out - 5
 }
 
-// Whether the set after a diff and its output fit rooms of so many bytes.
-fn room_for(set: &[u8], order: Sorted, p: &[u8], room: usize, out: usize) -> Room
+// Refuses a diff whose set is longer than its buffer, or whose output is longer than its own, of so many bytes.
+fn room_for(set: &[u8], order: Sorted, p: &[u8], room: usize, out: usize) -> Result<(), Refusal>
     requires set_len_bound { length set.now ≤ room }
     requires set_value { is_set set.now ≡ true }
     requires sorted_of { SortedOf 3 p.now order }
     ensures { RoomIs (decode_topics set.now) p.now room out result }
 {
     if fits_lists(p.len(), room - set.len(), out) {
-        return Room::Fits;
+        return Ok(());
     }
     let gone = watch_lists::measure(Listing::Removed, order, set, p, 3);
     let z = watch_lists::measure(Listing::Added, order, set, p, 3);
     if room - (set.len() - gone) < z {
-        return Room::NoSet;
+        return Err(Refusal::SetTooLong);
     }
     if !fits(z, gone, out) {
-        return Room::NoOutput;
+        return Err(Refusal::ResultTooLong);
     }
-    Room::Fits
+    Ok(())
 }
 
 // The set and the output of a diff. Answers their lengths in bytes, or why nothing was changed.
@@ -228,11 +218,8 @@ fn diff(buffer: &mut [u8], used: usize, p: &[u8], out: &mut [u8]) -> Result<(usi
         removed: r.rises,
     };
     let room = buffer.len();
-    match room_for(&buffer[..used], order, p, room, out.len()) {
-        Room::Fits => write_diff(buffer, used, order, p, out),
-        Room::NoSet => Err(Refusal::SetTooLong),
-        Room::NoOutput => Err(Refusal::ResultTooLong),
-    }
+    room_for(&buffer[..used], order, p, room, out.len())?;
+    write_diff(buffer, used, order, p, out)
 }
 
 fn no_event(id: u64, error: Option<i32>) -> Refusal

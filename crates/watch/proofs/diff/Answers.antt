@@ -1,5 +1,6 @@
 -- `watch::diff` meets its contract: each return is a case of `settle`.
 -- Assumes nothing.
+use Rattle.std.proofs.lemmas.Result.{err_from_is_err_and}
 use native.Mathlib.Omega.{arith}
 use mathlib.Core.Bool.{true}
 use mathlib.Core.Path.{◌≡◌, sym, ◌∙◌}
@@ -9,7 +10,7 @@ use Rattle.watch_topics.specs.Topics.{all_short}
 use Rattle.watch_window.specs.Window.{SortedOf}
 use Rattle.watch_window.specs.Lists.{named_in}
 use Rattle.watch_lists.proofs.SurveyLaws.{survey-short, survey-rises}
-use Rattle.watch.proofs.SettleLaws.{tell, tell-as, diff-told, diff-long, diff-long-removed, diff-big, diff-short, diff-done}
+use Rattle.watch.proofs.SettleLaws.{tell, tell-as, diff-told, diff-long, diff-long-removed, diff-refused, diff-done}
 use Rattle.watch.proofs.diff.Goals as goal
 
 pub returns-then-not-a : goal.returns-then-not-a
@@ -45,25 +46,23 @@ write_diff-requires c =
         sym (survey-short _ _ c.survey-a.ensures) ∙ (not-false _ c.if-not-a.false),
         sym (survey-short _ _ c.survey-r.ensures) ∙ (not-false _ c.if-not-r.false),
       ) in it);
-      diff_fits = c.in-Fits.ensures;
+      diff_fits = c.in_ok-room_for.ensures;
     }
 
-pub returns-in-Fits : goal.returns-in-Fits
-returns-in-Fits c =
+pub returns-in_err-room_for : goal.returns-in_err-room_for
+returns-in_err-room_for c =
     let s = (let it : (let p = c.args.p.now in (all_short (named_in 3 1 p) ≡ true) × (all_short (named_in 3 2 p) ≡ true)) = (
       sym (survey-short _ _ c.survey-a.ensures) ∙ (not-false _ c.if-not-a.false),
       sym (survey-short _ _ c.survey-r.ensures) ∙ (not-false _ c.if-not-r.false),
     ) in it) in
-    let d = diff-done _ _ _ _ s.0 s.1 (c.in-Fits.ensures) in
+    let r = err_from_is_err_and c.from_residual.result c.from_residual.ensures.1 in
+    rw (r.1, r.2) (tell _ _ _ _ (diff-refused _ _ _ _ s.0 s.1 _ c.in_err-room_for.ensures))
+
+pub returns : goal.returns
+returns c =
+    let s = (let it : (let p = c.args.p.now in (all_short (named_in 3 1 p) ≡ true) × (all_short (named_in 3 2 p) ≡ true)) = (
+      sym (survey-short _ _ c.survey-a.ensures) ∙ (not-false _ c.if-not-a.false),
+      sym (survey-short _ _ c.survey-r.ensures) ∙ (not-false _ c.if-not-r.false),
+    ) in it) in
+    let d = diff-done _ _ _ _ s.0 s.1 c.in_ok-room_for.ensures in
     tell-as _ _ _ _ _ d c.write_diff.ensures
-
-pub returns-in-NoSet : goal.returns-in-NoSet
-returns-in-NoSet c = tell _ _ _ _ (diff-big _ _ _ _ (c.in-NoSet.ensures))
-
-pub returns-in-NoOutput : goal.returns-in-NoOutput
-returns-in-NoOutput c =
-    let s = (let it : (let p = c.args.p.now in (all_short (named_in 3 1 p) ≡ true) × (all_short (named_in 3 2 p) ≡ true)) = (
-      sym (survey-short _ _ c.survey-a.ensures) ∙ (not-false _ c.if-not-a.false),
-      sym (survey-short _ _ c.survey-r.ensures) ∙ (not-false _ c.if-not-r.false),
-    ) in it) in
-    tell _ _ _ _ (diff-short _ _ _ _ s.0 s.1 (c.in-NoOutput.ensures))
