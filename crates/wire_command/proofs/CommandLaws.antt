@@ -1,5 +1,5 @@
 -- Laws of what a command carries: the message of a field, by what was found of its parts (`one-part`, `one-message`, `other-parts`); each type
--- (`by-response` to `by-other`);
+-- (`made`, `by-response` to `by-other`);
 -- the command from its first fault and its type (`command-broken`, `command-untyped`, `command-typed`); its reply (`parts-reply`,
 -- `other-reply`).
 -- Assumes nothing.
@@ -26,13 +26,14 @@ use Rattle.export_reply.specs.declared.Reply.{Reply}
 use Rattle.export_reply.specs.Replies.{no, word_of, word_at, reply_with, taken_reply}
 use Rattle.wire_required.proofs.LookLaws.{number-found}
 use Rattle.wire_command.specs.declared.Found.{Found}
+use Rattle.wire_command.specs.declared.Message.{Message}
 use Rattle.wire_command.specs.declared.Message.TheVariants as message
 use Rattle.wire_command.specs.declared.Command.{Command}
 use Rattle.wire_command.specs.declared.Command.TheVariants as command
 use Rattle.wire_command.specs.Shell.{shell_fields, shell_fault}
 use Rattle.wire_command.specs.Places.{Place, places_of}
 use Rattle.wire_command.specs.Steps.{found_after, found_in}
-use Rattle.wire_command.specs.Commands.{message_by, message_in, answer_for, command_by, command_of}
+use Rattle.wire_command.specs.Commands.{Made, message_by, message_in, answer_for, command_by, command_of}
 use Rattle.wire_command.specs.Replies.{command_reply}
 use Rattle.wire_command.proofs.PlaceLaws.{AllInside, places-inside}
 
@@ -81,6 +82,12 @@ module _ (l : List ℕ) where
     other-parts e = rw g (several (places_of n l) (λ d. e (ap (λ (y : Found). y.count) g ∙ d)))
 
 -- ---- the type
+
+-- a command with a message, made as f makes it
+pub made : {f : ℕ → ℕ → ℕ → Command} {post : ℕ → ℕ → ℕ → Command → Type 0} → ((x y z : ℕ) (c : Command) → post x y z c → c ≡ f x y z)
+    → (t : ℤ) (m n : Message) (c : Command) → Made post t m c → m ≡ n → Ok c ≡ answer_for (λ x y z. Ok (f x y z)) t n
+made h t (message.At start len id) n c e g = ap Ok (h start len id c e) ∙ ap (answer_for _ t) g
+made h t (message.Parts k) n c e g = ap Ok e ∙ ap (answer_for _ t) g
 
 module _ (t : ℤ) (l : List ℕ) where
   pub by-response : t ≡ pos 74 → answer_for (λ x y z. Ok (command.Response x y z)) (pos 74) (message_in 74 l) ≡ command_by t l

@@ -4,7 +4,7 @@
 -- The type says which message a command carries: parts of other fields are passed over. The message has to stand in one part, since the calls that it
 -- is handed to take bytes that lie together. Where it is absent, or merged from several parts (02 b), the answer is in how many it stands.
 -- Assumes nothing.
-use Rattle.std.specs.Prelude.{ℕ, cond, List, [], ◌∷◌, eqb, ℤ, pos, negsuc, length, Result, Ok, Err}
+use Rattle.std.specs.Prelude.{ℕ, ◌≡◌, cond, List, [], ◌∷◌, eqb, ℤ, pos, negsuc, length, Result, Ok, Err}
 use Rattle.wire.specs.Fields.{fields_of}
 use Rattle.wire_values.specs.Values.{number_in}
 use Rattle.wire_values.specs.Integers.{int32_of}
@@ -31,6 +31,11 @@ message_in n l = message_by l (places_of n l)
 abbrev pub answer_for : (ℕ → ℕ → ℕ → Result Command Refusal) → ℤ → Message → Result Command Refusal
 answer_for found t (message.At start len id) = found start len id
 answer_for found t (message.Parts k) = Ok (command.Parts t k)
+
+-- the command of the type t with a message: one that `post` says may be made of it, or in how many parts it stands
+abbrev pub Made : (ℕ → ℕ → ℕ → Command → Type 0) → ℤ → Message → Command → Type 0
+Made post t (message.At start len id) c = post start len id c
+Made post t (message.Parts k) c = c ≡ command.Parts t k
 
 -- by the type (enum BaseCommand.Type): SCALABLE_TOPIC_SUBSCRIBE_RESPONSE, SCALABLE_TOPIC_ASSIGNMENT_UPDATE, WATCH_SCALABLE_TOPICS_UPDATE, or another
 unfoldable pub command_by : ℤ → List ℕ → Result Command Refusal

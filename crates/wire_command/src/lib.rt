@@ -11,7 +11,7 @@ ghost use Rattle.wire.specs.Field.{key_read};
 ghost use Rattle.wire.specs.Fields.{fields_of};
 ghost use Rattle.wire_command.specs.Shell.{shell_value, shell_fields};
 ghost use Rattle.wire_command.specs.Places.{places_of};
-ghost use Rattle.wire_command.specs.Commands.{answer_for, message_in, command_by, command_of};
+ghost use Rattle.wire_command.specs.Commands.{Made, message_in, command_by, command_of};
 ghost use Rattle.wire_command.specs.Steps.{step_by, found_in};
 ghost use Rattle.wire_command.specs.Replies.{command_reply};
 
@@ -143,48 +143,31 @@ fn find_message(s: &[u8], n: u64) -> Message
     Message::Parts(found.count)
 }
 
-// A command of the type SCALABLE_TOPIC_SUBSCRIBE_RESPONSE.
-fn response(s: &[u8]) -> Result<Command, Refusal>
-    ensures { result ≡ answer_for (λ x y z. Ok (Command.Response x y z)) (pos 74) (message_in 74 s.now) }
-{
-    match find_message(s, 74) {
-        Message::At(start, len, id) => Ok(Command::Response(start, len, id)),
-        Message::Parts(k) => Ok(Command::Parts(74, k)),
+impl Message {
+    // The command of the type t with this message: what `make` makes of it, or in how many parts it stands.
+    fn command<F: FnOnce(usize, usize, u64) -> Command>(self, t: i32, make: F) -> Command
+        requires { F.IsAlwaysCallable make }
+        ensures { Made (F.post make) t self result }
+    {
+        match self {
+            Message::At(start, len, id) => make(start, len, id),
+            Message::Parts(k) => Command::Parts(t, k),
+        }
     }
 }
 
-// A command of the type SCALABLE_TOPIC_ASSIGNMENT_UPDATE.
-fn update(s: &[u8]) -> Result<Command, Refusal>
-    ensures { result ≡ answer_for (λ x y z. Ok (Command.Update x y z)) (pos 75) (message_in 75 s.now) }
-{
-    match find_message(s, 75) {
-        Message::At(start, len, id) => Ok(Command::Update(start, len, id)),
-        Message::Parts(k) => Ok(Command::Parts(75, k)),
-    }
-}
-
-// A command of the type WATCH_SCALABLE_TOPICS_UPDATE.
-fn watch_update(s: &[u8]) -> Result<Command, Refusal>
-    ensures { result ≡ answer_for (λ x y z. Ok (Command.Watch x y z)) (pos 77) (message_in 77 s.now) }
-{
-    match find_message(s, 77) {
-        Message::At(start, len, id) => Ok(Command::Watch(start, len, id)),
-        Message::Parts(k) => Ok(Command::Parts(77, k)),
-    }
-}
-
-// A command of the type t.
+// A command of the type t: SCALABLE_TOPIC_SUBSCRIBE_RESPONSE, SCALABLE_TOPIC_ASSIGNMENT_UPDATE, WATCH_SCALABLE_TOPICS_UPDATE, or another.
 fn by_type(s: &[u8], t: i32) -> Result<Command, Refusal>
     ensures { result ≡ command_by t s.now }
 {
     if t == 74 {
-        return response(s);
+        return Ok(find_message(s, 74).command(74, Command::Response));
     }
     if t == 75 {
-        return update(s);
+        return Ok(find_message(s, 75).command(75, Command::Update));
     }
     if t == 77 {
-        return watch_update(s);
+        return Ok(find_message(s, 77).command(77, Command::Watch));
     }
     Ok(Command::Other(t))
 }
