@@ -1,9 +1,9 @@
 -- What an exported call gives, from what the call under it gives and its answer in numbers: with an output, with a window, an opening, a log, a kind.
 -- Assumes nothing.
-use Rattle.std.specs.Prelude.{Bool, Option, Result}
+use Rattle.std.specs.Prelude.{Bool, Option, Result, Ok, Err}
 use Prim.Native.Nat.{ℕ}
 use native.Mathlib.Omega.{arith}
-use mathlib.Core.Path.{◌≡◌, ap, ◌∙◌}
+use mathlib.Core.Path.{◌≡◌, refl, ap, ◌∙◌}
 use mathlib.Core.List.{List}
 use lib.IntN.{ℤ}
 use mir.Syntax.{w32}
@@ -41,9 +41,15 @@ pub write-call :
     {x : Reply} {a : Result ℕ Refusal} {out : List ℕ} {o : output.Outcome} → x ≡ write_reply a → output.outcome a out ≡ o → outputs x out ≡ write_of o
 write-call {out = out} e f = ap (λ (y : Reply). outputs y out) e ∙ ap write_of f
 
+-- a name that is written is told as a list that is written
+written-name : (a : Result ℕ Refusal) → write_reply a ≡ name_reply a
+unfolding write_reply name_reply
+written-name (Ok n) = refl
+written-name (Err x) = refl
+
 pub name-call :
-    {x : Reply} {a : Result ℕ Refusal} {out : List ℕ} {o : build.NameOutcome} → x ≡ name_reply a → build.name_outcome a out ≡ o → outputs x out ≡ name_of o
-name-call {out = out} e f = ap (λ (y : Reply). outputs y out) e ∙ ap name_of f
+    {x : Reply} {a : Result ℕ Refusal} {out : List ℕ} {o : build.NameOutcome} → x ≡ write_reply a → build.name_outcome a out ≡ o → outputs x out ≡ name_of o
+name-call {a = a} {out = out} e f = ap (λ (y : Reply). outputs y out) (e ∙ written-name a) ∙ ap name_of f
 
 abbrev pub windowed : Reply → List ℕ → Windowed
 windowed x window = record { reply = x; window = window }

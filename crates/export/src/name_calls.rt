@@ -2,20 +2,11 @@
 ghost use Rattle.std.specs.Prelude.{◌≡◌};
 ghost use Rattle.name_topic.specs.Build.{canonical_segment_topic};
 ghost use Rattle.name_source.specs.Parse.{segment_source, parent_topic};
-ghost use Rattle.export.specs.Exports.{name_reply, name_of, source_reply};
+ghost use Rattle.export.specs.Exports.{name_of, source_reply};
 
+use crate::list_calls::write_reply;
 use export_reply::Reply;
-use refusal::Refusal;
 use topic_types::SegmentId;
-
-fn name_reply(a: Result<usize, Refusal>) -> Reply
-    ensures { result ≡ name_reply a }
-{
-    match a {
-        Ok(n) => export_reply::one(export_reply::WRITTEN, n as u64),
-        Err(x) => export_reply::refused(x),
-    }
-}
 
 // The name of a segment: `canonical_segment_topic`.
 #[unsafe(no_mangle)]
@@ -29,7 +20,7 @@ pub extern "C" fn cuddrewyn_segment_topic(
     ensures { record { reply = result; out = out.new }
         ≡ name_of (canonical_segment_topic parent.now start end (record { 0 = segment_id }) out.old) }
 {
-    name_reply(name_topic::canonical_segment_topic(parent, start, end, SegmentId(segment_id), out))
+    write_reply(name_topic::canonical_segment_topic(parent, start, end, SegmentId(segment_id), out))
 }
 
 // The range in a segment's name: `SegmentSource::new`.
@@ -52,5 +43,5 @@ pub extern "C" fn cuddrewyn_parent_topic(topic: &[u8], out: &mut [u8]) -> Reply
     ensures { record { reply = result; out = out.new }
         ≡ name_of (parent_topic topic.now out.old) }
 {
-    name_reply(name_source::parent_topic(topic, out))
+    write_reply(name_source::parent_topic(topic, out))
 }

@@ -4,4 +4,4 @@ use Rattle.export.proofs.ExportLaws.{name-call}
 use Rattle.export.proofs.name_calls.cuddrewyn_parent_topic.Goals as goal
 
 pub returns : goal.returns
-returns c = name-call c.name_reply.ensures c.parent_topic.ensures
+returns c = name-call c.write_reply.ensures c.parent_topic.ensures
