@@ -26,7 +26,7 @@ use Rattle.export_record.specs.declared.SessionReply.{SessionReply}
 use Rattle.export_record.specs.Replies.{open_reply}
 use Rattle.export_record.specs.Exported.{Opening, open_of}
 use Rattle.export.specs.Exports.{Output, write_reply, write_of, name_reply, name_of}
-use Rattle.export.specs.Exports.{Watched, watch_reply, watch_of, earliest_reply, EarliestReply, log_reply, LogReply}
+use Rattle.export.specs.Exports.{Watched, watch_reply, watch_of, earliest_reply, EarliestReply, log_reply, LogReply, answered_reply, hours_reply}
 use Rattle.export.specs.Exports.{Windowed, churn_reply, window_of}
 use Rattle.refusal.specs.declared.Refusal.{Refusal}
 use Rattle.churn.specs.declared.Totals.{Totals}
@@ -76,8 +76,19 @@ pub watch-call :
     x ≡ watch_reply a → watch.outcome a buffer out ≡ o → watched x buffer out ≡ watch_of o
 watch-call {buffer = buffer} {out = out} e f = ap (λ (y : Reply). watched y buffer out) e ∙ ap watch_of f
 
-pub log-call : {deltas entries : List ℕ} {x : Reply} (a : Result Bool Refusal) → Checked deltas entries a → x ≡ log_reply a → LogReply deltas entries x
-log-call a h e = record { answer = a; checked = h; reply-is = e }
+-- a log's answer and that of hours are told as a range's
+answered-log : (a : Result Bool Refusal) → answered_reply a ≡ log_reply a
+unfolding answered_reply log_reply
+answered-log (Ok b) = refl
+answered-log (Err x) = refl
+
+pub answered-hours : (a : Result Bool Refusal) → answered_reply a ≡ hours_reply a
+unfolding answered_reply hours_reply
+answered-hours (Ok b) = refl
+answered-hours (Err x) = refl
+
+pub log-call : {deltas entries : List ℕ} {x : Reply} (a : Result Bool Refusal) → Checked deltas entries a → x ≡ answered_reply a → LogReply deltas entries x
+log-call a h e = record { answer = a; checked = h; reply-is = e ∙ answered-log a }
 
 -- the integer of a kind, as its 32 bits read back
 wire-fits : (k : ScalableConsumerType) → SFits w32 (to_wire k)

@@ -3,6 +3,7 @@ ghost use Rattle.std.specs.Prelude.{◌≡◌};
 ghost use Rattle.hours.specs.Hours.{open_answer};
 ghost use Rattle.export.specs.Exports.{hours_reply, EarliestReply};
 
+use crate::range_calls::answered_reply;
 use export_reply::Reply;
 
 // Whether a second is open by the contract.
@@ -10,10 +11,7 @@ use export_reply::Reply;
 pub extern "C" fn cuddrewyn_is_open(contract: &[u8], second: u64) -> Reply
     ensures { result ≡ hours_reply (open_answer contract.now second) }
 {
-    match hours::is_open(contract, second) {
-        Ok(b) => export_reply::test(b),
-        Err(x) => export_reply::refused(x),
-    }
+    answered_reply(hours::is_open(contract, second))
 }
 
 // The earliest open second not before the one given; no if there is none.

@@ -1,6 +1,7 @@
 // Attach logs.
 ghost use Rattle.export.specs.Exports.{LogReply};
 
+use crate::range_calls::answered_reply;
 use export_reply::Reply;
 
 // Whether a log is what deltas, packed one behind another, ask for.
@@ -8,8 +9,5 @@ use export_reply::Reply;
 pub extern "C" fn cuddrewyn_check_log(deltas: &[u8], log: &[u8]) -> Reply
     ensures { LogReply deltas.now log.now result }
 {
-    match attach_log::check(deltas, log) {
-        Ok(b) => export_reply::test(b),
-        Err(x) => export_reply::refused(x),
-    }
+    answered_reply(attach_log::check(deltas, log))
 }

@@ -8,7 +8,8 @@ use export_reply::Reply;
 use refusal::Refusal;
 use topic_types::ScalableConsumerType;
 
-fn answered_reply(a: Result<bool, Refusal>) -> Reply
+// A test's answer.
+pub fn answered_reply(a: Result<bool, Refusal>) -> Reply
     ensures { result ≡ answered_reply a }
 {
     match a {

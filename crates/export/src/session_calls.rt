@@ -96,6 +96,7 @@ pub extern "C" fn cuddrewyn_response(
 }
 
 // The next push of the queue, for one of the readers, that differs from its predecessor: `take_replayed_updates`, one per call.
+// It stays beside `cuddrewyn_response`, which has its shape: each is a call of the C interface.
 #[unsafe(no_mangle)]
 pub extern "C" fn cuddrewyn_drain_for(
     r: &mut Record,
