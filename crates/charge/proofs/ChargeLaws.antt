@@ -2,11 +2,11 @@
 --
 -- In order: products (`product-fits` to `factor-large`); the lengths of a row (`order-first`, `lengths-first`,
 -- `ranges-next`, `ranges-all`, `lengths_none`); what a record holds (`holds-bad`, `holds-longer`, `holds-range`,
--- `holds-buckets`); the answers of `charge` (`refused`, `refused-malformed` to `charged`), and what a charge says
+-- `holds-buckets`); the answers of `charge` (`refused-malformed` to `charged`), and what a charge says
 -- (`charges`).
 -- Assumes nothing.
-use Rattle.std.specs.Prelude.{Option, Some, None, Result, Ok, Err}
-use Rattle.std.specs.Option.{ok_or, SomeIff}
+use Rattle.std.specs.Prelude.{Option, Some, None, Ok, Err}
+use Rattle.std.specs.Option.{SomeIff}
 use Rattle.std.specs.Result.{result_ok}
 use Rattle.std.proofs.lemmas.Option.{some_pair_parts}
 use Prim.Native.Nat.{ℕ, zero, suc, ◌+◌, ◌-◌, ◌*◌, ◌/◌, ◌%◌, ◌^◌, ◌≤◌, ◌<◌}
@@ -21,7 +21,6 @@ use borrow.Author.Tests.{le-leb, lt-leb, leb-true, eq-eqb, ne_eqb, eqb-true}
 use Rattle.slice.specs.BoolLaws.{both_true}
 use Rattle.slice.proofs.TestLaws.{cond-first, cond-second}
 use Rattle.topic_types.specs.declared.KeyRange.{KeyRange}
-use Rattle.refusal.specs.declared.Refusal.{Refusal}
 use Rattle.refusal.specs.declared.Refusal.TheVariants.{MalformedInput, ChargeTooLarge}
 use Rattle.ranges_calls.specs.Calls.{values_in}
 use Rattle.slice_int.specs.Be.{be_at}
@@ -201,11 +200,6 @@ module _ (l : List ℕ) where
             holds-values v (k ∙ sym (held-some (decode_range (drop 8 l)) n (drop 14 l) p) ∙ sym held-is)
 
 -- ---- the answers of `charge`
-
--- what is refused where there is no value
-pub refused : (o : Option ℕ) (x y : Refusal) → o ≡ None → Err x ≡ ok_or o y → x ≡ y
-refused o x y h e =
-    let f : ◌≡◌ {A = Result ℕ Refusal} (Err x) (Err y) = e ∙ ap (λ (p : Option ℕ). ok_or p y) h in cc
 
 pub record Held (l : List ℕ) (v : ℕ) : Type 0 where
   pub valid : is_segment l ≡ true

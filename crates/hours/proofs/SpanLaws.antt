@@ -3,10 +3,9 @@
 -- In order: spans at a place (`span-read`, `spans-row`, `span-first`, `span-none`, `span-all`); a walk that asks each
 -- (`Turn`, `turn_end`, `turn-first`, `turn-next`); the tests of the first of a row (`ok-first`,
 -- `holds-found`, ..); the cases of `shape_of` (`shape-short` to `shape-valid`) and what it says (`Shaped`, `shaped`,
--- `not-shaped`, `refused`).
+-- `not-shaped`).
 -- Assumes nothing.
-use Rattle.std.specs.Prelude.{Option, Some, None, Result, Err}
-use Rattle.std.specs.Option.{ok_or}
+use Rattle.std.specs.Prelude.{Some, None}
 use Rattle.std.proofs.lemmas.Option.{some_pair_parts}
 use Prim.Native.Nat.{ℕ, ◌+◌, ◌-◌, ◌*◌, ◌%◌, ◌≤◌, ◌<◌, min, max}
 use native.Mathlib.Omega.{arith}
@@ -21,8 +20,6 @@ use Rattle.slice.specs.BoolLaws.{both_true}
 use Rattle.slice.proofs.TestLaws.{cond-first, cond-second}
 use Rattle.slice_int.specs.Be.{be_at}
 pub use Rattle.slice_int.proofs.RowLaws.{Row, row-none, row_at}
-use Rattle.refusal.specs.declared.Refusal.{Refusal}
-use Rattle.refusal.specs.declared.Refusal.TheVariants.{InvalidContract}
 use Rattle.hours.specs.declared.Span.{Span}
 use Rattle.hours.specs.Contract.{week, largest, span_of, spans_of, term_count, window_count, terms_of, windows_of}
 use Rattle.hours.specs.Contract.{ok_spans, is_contract}
@@ -278,9 +275,3 @@ shaped l m n e =
 pub not-shaped : (l : List ℕ) → None ≡ shape_of l → is_contract l ≡ false
 unfolding shape_of
 not-shaped l e = (cond-second (is_contract l) _ _ _ (λ q. let o : ◌≡◌ {A = ℕ} 0 1 = cc in omega arith) (sym e)).0
-
--- what is refused where there are no counts
-pub refused : (o : Option (ℕ × ℕ)) (x : Refusal) → o ≡ None → Err x ≡ ok_or o InvalidContract → x ≡ InvalidContract
-refused o x h e =
-    let f : ◌≡◌ {A = Result (ℕ × ℕ) Refusal} (Err x) (Err InvalidContract) =
-    e ∙ ap (λ (p : Option (ℕ × ℕ)). ok_or p InvalidContract) h in cc

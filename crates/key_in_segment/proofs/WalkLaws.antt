@@ -2,10 +2,9 @@
 --
 -- In order: ranges at a place (`ranges-next`, `ranges-all`); size and least hash of the record at a place, by its range and its count (`at_size`, `at-whole`,
 -- `at-bucketed`); records by the first of them (`key-found`, `key-further`, `key-none`); the cases of `key_in_segment`
--- (`refused`, `key-malformed`, `key-whole`).
+-- (`key-malformed`, `key-whole`).
 -- Assumes nothing.
-use Rattle.std.specs.Prelude.{Option, Some, None, Result, Ok, Err}
-use Rattle.std.specs.Option.{ok_or}
+use Rattle.std.specs.Prelude.{Some, None, Ok, Err}
 use Prim.Native.Nat.{ℕ, ◌+◌, ◌-◌, ◌*◌, ◌≤◌, ◌<◌}
 use native.Mathlib.Omega.{arith}
 use mathlib.Core.Path.{◌≡◌, refl, sym, ap, ap₂, ◌∙◌}
@@ -16,7 +15,6 @@ use lib.Dec.{leb}
 use borrow.Author.Tests.{leb-true, eq-eqb, ne_eqb}
 use Rattle.slice.specs.BoolLaws.{both_true}
 use Rattle.topic_types.specs.declared.KeyRange.{KeyRange}
-use Rattle.refusal.specs.declared.Refusal.{Refusal}
 use Rattle.refusal.specs.declared.Refusal.TheVariants.{MalformedInput}
 use Rattle.keyed.specs.Keyed.{find}
 use Rattle.slice_int.specs.Be.{be_at}
@@ -93,12 +91,6 @@ unfolding key_in
 key-none id = refl
 
 -- ---- the cases of `key_in_segment`
-
--- what is refused where nothing was read
-pub refused : (o : Option (ℕ × ℕ)) (x : Refusal) → o ≡ None → Err x ≡ ok_or o MalformedInput → x ≡ MalformedInput
-refused o x h e =
-    let f : ◌≡◌ {A = Result (ℕ × ℕ) Refusal} (Err x) (Err MalformedInput) =
-    e ∙ ap (λ (p : Option (ℕ × ℕ)). ok_or p MalformedInput) h in cc
 
 module _ (s : List ℕ) (id : ℕ) where
   pub key-malformed : is_assignment s ≡ false → Err MalformedInput ≡ key_in_segment s id

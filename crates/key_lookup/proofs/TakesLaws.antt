@@ -2,10 +2,9 @@
 --
 -- In order: a row of ranges (`any-point`); a record by its range and its count (`counted-size`,
 -- `takes-outside`, `takes_whole`, `takes-bucketed`); records by the first of them (`first_found`, `first-further`,
--- `first-none`); the cases of `segment_for_key` (`refused`, `for-long`, `for-malformed`, `for-whole`).
+-- `first-none`); the cases of `segment_for_key` (`for-long`, `for-malformed`, `for-whole`).
 -- Assumes nothing.
-use Rattle.std.specs.Prelude.{Option, Some, None, Result, Ok, Err}
-use Rattle.std.specs.Option.{ok_or}
+use Rattle.std.specs.Prelude.{Some, None, Ok, Err}
 use Prim.Native.Nat.{ℕ, zero, suc, ◌+◌, ◌*◌, ◌≤◌, ◌<◌}
 use mathlib.Core.Path.{◌≡◌, refl, sym, ap, ◌∙◌}
 use mathlib.Core.Bool.{Bool, true, false, ◌&&◌, ◌||◌}
@@ -13,7 +12,6 @@ use mathlib.Core.List.{List, [], ◌∷◌}
 use lib.ListN.{length, drop}
 use borrow.Author.Tests.{lt-ltb, le-ltb}
 use Rattle.topic_types.specs.declared.KeyRange.{KeyRange}
-use Rattle.refusal.specs.declared.Refusal.{Refusal}
 use Rattle.refusal.specs.declared.Refusal.TheVariants.{KeyTooLong, MalformedInput}
 use Rattle.ranges.specs.Overlap.{overlaps_any}
 use Rattle.ranges_calls.specs.Calls.{holds}
@@ -78,12 +76,6 @@ unfolding first_taking
 first-none hash = refl
 
 -- ---- the cases of `segment_for_key`
-
--- what is refused where nothing was read
-pub refused : (o : Option (ℕ × ℕ)) (x : Refusal) → o ≡ None → Err x ≡ ok_or o MalformedInput → x ≡ MalformedInput
-refused o x h e =
-    let f : ◌≡◌ {A = Result (ℕ × ℕ) Refusal} (Err x) (Err MalformedInput) =
-    e ∙ ap (λ (p : Option (ℕ × ℕ)). ok_or p MalformedInput) h in cc
 
 module _ (key s : List ℕ) where
   pub for-long : longest_key < length key → Err KeyTooLong ≡ segment_for_key key s

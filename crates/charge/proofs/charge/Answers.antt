@@ -2,17 +2,17 @@
 -- Assumes nothing.
 use Prim.Native.Nat.{◌+◌, ◌*◌}
 use native.Mathlib.Omega.{arith}
-use mathlib.Core.Path.{sym, ◌∙◌}
+use mathlib.Core.Path.{◌≡◌, sym, ◌∙◌}
 use Rattle.std.proofs.lemmas.Result.{err_from_is_err_and}
 use Rattle.refusal.specs.declared.Refusal.TheVariants.{MalformedInput, ChargeTooLarge}
-use Rattle.charge.proofs.ChargeLaws.{refused, checked-fits, checked-large, product_is, product-not, held}
+use Rattle.charge.proofs.ChargeLaws.{checked-fits, checked-large, product_is, product-not, held}
 use Rattle.charge.proofs.ChargeLaws.{refused-malformed, refused-remainder, refused-sum, charged}
 use Rattle.charge.proofs.charge.Goals as goal
 
 pub returns-in_err-values : goal.returns-in_err-values
 returns-in_err-values c =
     let p = err_from_is_err_and c.from_residual.result c.from_residual.ensures.1 in
-    rw (p.1, p.2, refused c.values_held.result c.in_err-values.field-0.0 MalformedInput c.in_err-values.ensures.ok_part c.in_err-values.ensures.value)
+    rw (p.1, p.2, (let e : c.in_err-values.field-0.0 ≡ MalformedInput = grind arith in e))
     (refused-malformed c.args.segment.now c.args.seconds c.args.rate c.args.remainder (sym c.in_err-values.ensures.ok_part ∙ c.values_held.ensures))
 
 pub returns-then-remainder-ge-DIVISOR : goal.returns-then-remainder-ge-DIVISOR
@@ -27,7 +27,7 @@ returns-in_err-n c =
     let v = c.in_ok-values.values in
     let h = held c.args.segment.now v (sym c.in_ok-values.ensures.ok_part ∙ c.values_held.ensures) in
     let k = product-not (v * c.args.seconds * c.args.rate) (sym c.in_err-n.ensures.ok_part ∙ c.cost.ensures) in
-    rw (p.1, p.2, refused c.cost.result c.in_err-n.field-0.0 ChargeTooLarge c.in_err-n.ensures.ok_part c.in_err-n.ensures.value)
+    rw (p.1, p.2, (let e : c.in_err-n.field-0.0 ≡ ChargeTooLarge = grind arith in e))
     (refused-sum c.args.segment.now c.args.seconds c.args.rate c.args.remainder v h (omega (arith, k)))
 
 pub returns-in_err-sum : goal.returns-in_err-sum
@@ -38,7 +38,7 @@ returns-in_err-sum c =
     let n = c.in_ok-n.n in
     let e = product_is (v * c.args.seconds * c.args.rate) n (sym c.in_ok-n.ensures.ok_part ∙ c.cost.ensures) in
     let k = checked-large (n + c.args.remainder) c.checked_add.result c.in_err-sum.ensures.ok_part c.checked_add.ensures in
-    rw (p.1, p.2, refused c.checked_add.result c.in_err-sum.field-0.0 ChargeTooLarge c.in_err-sum.ensures.ok_part c.in_err-sum.ensures.value)
+    rw (p.1, p.2, (let e : c.in_err-sum.field-0.0 ≡ ChargeTooLarge = grind arith in e))
     (refused-sum c.args.segment.now c.args.seconds c.args.rate c.args.remainder v h (omega (arith, k, e)))
 
 pub returns : goal.returns

@@ -2,16 +2,17 @@
 -- stands for none.
 -- Assumes nothing.
 use native.Mathlib.Omega.{arith}
-use mathlib.Core.Path.{sym, ◌∙◌}
+use mathlib.Core.Path.{◌≡◌, sym, ◌∙◌}
 use Rattle.std.proofs.lemmas.Result.{err_from_is_err_and}
-use Rattle.hours.proofs.SpanLaws.{shaped, not-shaped, refused}
+use Rattle.refusal.specs.declared.Refusal.TheVariants.{InvalidContract}
+use Rattle.hours.proofs.SpanLaws.{shaped, not-shaped}
 use Rattle.hours.proofs.HoursLaws.{earliest-at, earliest-none, earliest-not}
 use Rattle.hours.proofs.earliest_open.Goals as goal
 
 pub returns-in_err-terms : goal.returns-in_err-terms
 returns-in_err-terms c =
     let p = err_from_is_err_and c.from_residual.result c.from_residual.ensures.1 in
-    rw (p.1, p.2, refused c.read_contract.result c.in_err-terms.field-0.0 c.in_err-terms.ensures.ok_part c.in_err-terms.ensures.value)
+    rw (p.1, p.2, (let e : c.in_err-terms.field-0.0 ≡ InvalidContract = grind arith in e))
     (earliest-not c.args.contract.now c.args.second
     (not-shaped c.args.contract.now (sym c.in_err-terms.ensures.ok_part ∙ c.read_contract.ensures)))
 

@@ -1,15 +1,17 @@
 -- `segment_key::key_in_segment` meets its contract: each return is the case of `key_in_segment` that the answer of
 -- `read_whole` leaves. Assumes nothing.
-use mathlib.Core.Path.{sym, ◌∙◌}
+use native.Mathlib.Omega.{arith}
+use mathlib.Core.Path.{◌≡◌, sym, ◌∙◌}
 use Rattle.std.proofs.lemmas.Result.{err_from_is_err_and}
-use Rattle.key_in_segment.proofs.WalkLaws.{refused, key-malformed, key-whole}
+use Rattle.refusal.specs.declared.Refusal.TheVariants.{MalformedInput}
+use Rattle.key_in_segment.proofs.WalkLaws.{key-malformed, key-whole}
 use Rattle.packed.proofs.WholeLaws.{whole-read, not-assignment}
 use Rattle.key_in_segment.proofs.key_in_segment.Goals as goal
 
 pub returns-in_err-count : goal.returns-in_err-count
 returns-in_err-count c =
     let p = err_from_is_err_and c.from_residual.result c.from_residual.ensures.1 in
-    rw (p.1, p.2, refused c.read_whole.result c.in_err-count.field-0.0 c.in_err-count.ensures.ok_part c.in_err-count.ensures.value)
+    rw (p.1, p.2, (let e : c.in_err-count.field-0.0 ≡ MalformedInput = grind arith in e))
     (key-malformed c.args.assignment.now c.args.id.0
     (not-assignment c.args.assignment.now (sym c.in_err-count.ensures.ok_part ∙ c.read_whole.ensures)))
 
