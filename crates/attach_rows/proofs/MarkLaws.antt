@@ -3,7 +3,7 @@
 -- In order: the one place of a number in a rising row (`position`); one beyond its ends (`lacks-none`, `lacks-low`,
 -- `lacks-high`, `mark-lacks`); its mark set, or none (`mark-hit`, `mark-miss`); an
 -- entry of either kind (`mark-detach` to `mark-no-attach`); entry after entry (`Marking`: `marking-start`,
--- `marking-turn`, `marking-next`, `marking-all`, `marking-end`); all marks (`set-none`, `set-further`, `set-end`); a row whose ids are all marked
+-- `marking-turn`, `marking-next`, `marking-all`, `marking-end`); all marks (`set-all`, `set-none`); a row whose ids are all marked
 -- (`marked_all`).
 -- Assumes nothing.
 use Prim.Native.Nat.{ℕ, zero, suc, ◌+◌, ◌-◌, ◌*◌, ◌≤◌, ◌<◌}
@@ -12,8 +12,8 @@ use native.Mathlib.Omega.{arith}
 use mathlib.Core.Path.{◌≡◌, refl, sym, ap, ◌∙◌, subst}
 use mathlib.Core.Bool.{Bool, true, false, ◌&&◌, ◌||◌, or-false}
 use mathlib.Core.List.{List, [], ◌∷◌, map}
-use lib.ListN.{length, take, drop, get_or, set, replicate, drop_of_length-le}
-use lib.Seq.{drop-cons, get_or-set_same, get_or-set_other}
+use lib.ListN.{length, take, drop, get_or, set, replicate}
+use lib.Seq.{get_or-set_same, get_or-set_other}
 use lib.Dec.{eqb, ltb}
 use borrow.Author.Tests.{ltb-true, ltb-false, eqb-true, eq-eqb, ne_eqb}
 use Rattle.intake_repeats.specs.Repeats.{rises_from, rises, below}
@@ -171,22 +171,17 @@ module _ (attach : Bool) (log : List ℕ) (at n : ℕ) (ids : List ℕ) (m : Lis
 
 -- ---- all marks
 
-module _ (m : List Bool) (i : ℕ) where
-  pub set-none : i < length m → get_or m i false ≡ false → all_set (drop i m) ≡ false
-  unfolding all_set
-  set-none h e = ap all_set (drop-cons m i false h) ∙ ap (λ (t : Bool). t && all_set (drop (suc i) m)) e
+pub set-all : (m : List Bool) → ((k : ℕ) → k < length m → get_or m k false ≡ true) → all_set m ≡ true
+unfolding all_set
+set-all [] h = refl
+set-all (x ∷ m) h = simp (h 0 (omega arith), set-all m (λ k l. h (suc k) (omega (arith, l))))
 
-  pub set-further : i < length m → get_or m i false ≡ true → all_set (drop i m) ≡ all_set (drop (i + 1) m)
-  unfolding all_set
-  set-further h e =
-      let s : suc i ≡ i + 1 = omega arith in
-      ap all_set (drop-cons m i false h)
-      ∙ ap (λ (t : Bool). t && all_set (drop (suc i) m)) e
-      ∙ ap (λ (j : ℕ). all_set (drop j m)) s
-
-  pub set-end : length m ≤ i → all_set (drop i m) ≡ true
-  unfolding all_set
-  set-end h = ap all_set (drop_of_length-le m h)
+pub set-none : (m : List Bool) (k : ℕ) → k < length m → get_or m k false ≡ false → all_set m ≡ false
+unfolding all_set
+set-none [] k l e = absurd (omega (arith, l))
+set-none (x ∷ m) zero l e = simp e
+set-none (true ∷ m) (suc k) l e = set-none m k (omega (arith, l)) e
+set-none (false ∷ m) (suc k) l e = refl
 
 -- ---- a row whose ids are all marked
 

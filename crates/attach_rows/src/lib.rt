@@ -125,14 +125,7 @@ fn mark_entries(log: &[u8], at: usize, n: usize, attach: bool, ids: &[u64], mark
 fn all_set(marks: &[bool]) -> bool
     ensures { result ≡ all_set marks.now }
 {
-    let mut i: usize = 0;
-    while i < marks.len() {
-        if !marks[i] {
-            return false;
-        }
-        i += 1;
-    }
-    true
+    marks.iter().all(|set| *set)
 }
 
 // Each id of a rising row is attached, or detached, among the n entries from a place on.
