@@ -1,8 +1,8 @@
 -- Laws of what is looked for in a row of fields.
 --
 -- In order: a mark with one more value, or with one more list (`mark`, `present-append`), messages that may come again (`all-step`, `all_append`), that a number is
--- there (`number-found`); a segment's walk (`SegmentLeft`), a walk over one part of an assignment (`PartLeft`), the walk over its parts (`PartsLeft`), each with its
--- start, its steps and its end.
+-- there (`number-found`); a range's walk (`RangeLeft`), a segment's (`SegmentLeft`), a walk over one part of an assignment (`PartLeft`), the walk over its parts
+-- (`PartsLeft`), each with its start, its steps and its end.
 -- Assumes nothing.
 use Rattle.std.specs.Prelude.{Option, Some, None}
 use Prim.Native.Nat.{ℕ, ◌+◌, ◌-◌}
@@ -20,7 +20,7 @@ use Rattle.wire_values.proofs.FrontLaws.{numbers_from, parts_from, NumberAt, Par
 use Rattle.wire_schema.specs.declared.MessageKind.{MessageKind}
 use Rattle.wire_schema.specs.declared.MessageKind.TheVariants.{ScalableConsumerAssignment, ScalableAssignedSegment, IntRange}
 use Rattle.wire_schema.specs.Required.{all_complete, complete_within, is_complete}
-use Rattle.wire_schema.proofs.RequiredLaws.{segment-is, assignment-is}
+use Rattle.wire_schema.proofs.RequiredLaws.{range-is, segment-is, assignment-is}
 
 -- ---- what is there
 
@@ -59,6 +59,48 @@ found-present (x ∷ l) = found_after x l
 -- the last of the numbers tells whether there is one
 pub number-found : (n : ℕ) (s : List ℕ) (x : Option ℕ) → x ≡ last_of (numbers_of n (fields_of s)) → is_found x ≡ present (numbers_of n (fields_of s))
 number-found n s x e = ap is_found e ∙ found-present (numbers_of n (fields_of s))
+
+-- ---- a range
+
+-- what is found before a place of the range, with what is left, is all
+pub record RangeLeft (s : List ℕ) (at : ℕ) (start end : Bool) : Type 0 where
+  start-there : (start || present (numbers_from 1 s at)) ≡ present (numbers_of 1 (fields_of s))
+  end-there : (end || present (numbers_from 2 s at)) ≡ present (numbers_of 2 (fields_of s))
+
+pub range-start : (s : List ℕ) → RangeLeft s 0 false false
+range-start s = record { start-there = refl; end-there = refl }
+
+module _ {s : List ℕ} {at : ℕ} {start end : Bool} (i : RangeLeft s at start end) where
+  pub range-number : {f v size : ℕ} {start' end' : Bool} → NumberAt s at f v size → start' ≡ (start || eqb f 1) → end' ≡ (end || eqb f 2)
+      → RangeLeft s (at + size) start' end'
+  range-number {f} {v} {size} q a b =
+      record {
+        start-there = rw a (more 1 start ∙ i.start-there);
+        end-there = rw b (more 2 end ∙ i.end-there);
+      }
+    where
+      more : (n : ℕ) (b : Bool) → ((b || eqb f n) || present (numbers_from n s (at + size))) ≡ (b || present (numbers_from n s at))
+      more n b = mark b (eqb f n) v (numbers_from n s (at + size)) ∙ ap (λ (l : List ℕ). b || present l) (sym (q.numbers n))
+
+  pub range-fixed : {size : ℕ} → FixedAt s at size → RangeLeft s (at + size) start end
+  range-fixed q =
+      record {
+        start-there = ap (λ (l : List ℕ). start || present l) (sym (q.numbers 1)) ∙ i.start-there;
+        end-there = ap (λ (l : List ℕ). end || present l) (sym (q.numbers 2)) ∙ i.end-there;
+      }
+
+  pub range-part : {f from len : ℕ} → PartAt s at f from len → RangeLeft s (at + from + len) start end
+  range-part q =
+      record {
+        start-there = ap (λ (l : List ℕ). start || present l) (sym (q.numbers 1)) ∙ i.start-there;
+        end-there = ap (λ (l : List ℕ). end || present l) (sym (q.numbers 2)) ∙ i.end-there;
+      }
+
+  pub range-done : ((n : ℕ) → numbers_from n s at ≡ []) → (start && end) ≡ complete_within 1 IntRange (fields_of s)
+  range-done e =
+      let a : present (numbers_of 1 (fields_of s)) ≡ start = sym i.start-there ∙ rw (e 1) (or-false start) in
+      let b : present (numbers_of 2 (fields_of s)) ≡ end = sym i.end-there ∙ rw (e 2) (or-false end) in
+      sym (range-is 0 (fields_of s) ∙ rw (a, b))
 
 -- ---- a segment
 

@@ -1,7 +1,7 @@
 // The required fields of a message, looked for in the message as it is when its parts are merged.
 //
 // Everything is said of the message's row of fields and asks nothing of an earlier pass: see specs/Required of the crate schema. An assignment's fields are looked
-// for in all its parts; a segment, and a bucket range, is looked at by itself. A segment is gone over once.
+// for in all its parts; a segment, and a bucket range, is looked at by itself. Each of these is gone over once.
 #![tactic(auto)]
 
 ghost use Rattle.std.specs.Prelude.{◌≡◌, true, cond, not, ◌&&◌, ◌||◌, eqb};
@@ -40,8 +40,24 @@ fn has_number(s: &[u8], n: u64) -> bool
 fn range_complete(p: &[u8]) -> bool
     ensures { result ≡ complete_within 1 MessageKind.IntRange (fields_of p.now) }
 {
-    let start = has_number(p, 1);
-    let end = has_number(p, 2);
+    let mut start = false;
+    let mut end = false;
+    let mut at: usize = 0;
+    while at < p.len() {
+        match wire_values::read_front(&p[at..]) {
+            None => return both(start, end),
+            Some(Front::Number(f, _, size)) => {
+                start = either(start, f == 1);
+                end = either(end, f == 2);
+                at += size;
+            }
+            Some(Front::Part(_, from, len)) => {
+                let begin = at + from;
+                at = begin + len;
+            }
+            Some(Front::Fixed(size)) => at += size,
+        }
+    }
     both(start, end)
 }
 
