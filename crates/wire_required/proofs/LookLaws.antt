@@ -1,8 +1,8 @@
 -- Laws of what is looked for in a row of fields.
 --
 -- In order: a mark with one more value, or with one more list (`mark`, `present-append`), messages that may come again (`all-step`, `all_append`), that a number is
--- there (`number-found`); a range's walk (`RangeLeft`), a segment's (`SegmentLeft`), a walk over one part of an assignment (`PartLeft`), the walk over its parts
--- (`PartsLeft`), each with its start, its steps and its end.
+-- there (`number-found`), or at a place (`number-there`); a range's walk (`RangeLeft`), a segment's (`SegmentLeft`), a walk over one part of an assignment
+-- (`PartLeft`), the walk over its parts (`PartsLeft`), each with its start, its steps and its end.
 -- Assumes nothing.
 use Rattle.std.specs.Prelude.{Option, Some, None}
 use Prim.Native.Nat.{ℕ, ◌+◌, ◌-◌}
@@ -60,6 +60,12 @@ found-present (x ∷ l) = found_after x l
 pub number-found : (n : ℕ) (s : List ℕ) (x : Option ℕ) → x ≡ last_of (numbers_of n (fields_of s)) → is_found x ≡ present (numbers_of n (fields_of s))
 number-found n s x e = ap is_found e ∙ found-present (numbers_of n (fields_of s))
 
+-- the number at a place is one of field n, or none
+number-there : {s : List ℕ} {at f v size : ℕ} → NumberAt s at f v size → (n : ℕ) (b : Bool)
+    → ((b || eqb f n) || present (numbers_from n s (at + size))) ≡ (b || present (numbers_from n s at))
+number-there {s} {at} {f} {v} {size} q n b =
+    mark b (eqb f n) v (numbers_from n s (at + size)) ∙ ap (λ (l : List ℕ). b || present l) (sym (q.numbers n))
+
 -- ---- a range
 
 -- what is found before a place of the range, with what is left, is all
@@ -73,27 +79,18 @@ range-start s = record { start-there = refl; end-there = refl }
 module _ {s : List ℕ} {at : ℕ} {start end : Bool} (i : RangeLeft s at start end) where
   pub range-number : {f v size : ℕ} {start' end' : Bool} → NumberAt s at f v size → start' ≡ (start || eqb f 1) → end' ≡ (end || eqb f 2)
       → RangeLeft s (at + size) start' end'
-  range-number {f} {v} {size} q a b =
+  range-number q a b =
       record {
-        start-there = rw a (more 1 start ∙ i.start-there);
-        end-there = rw b (more 2 end ∙ i.end-there);
-      }
-    where
-      more : (n : ℕ) (b : Bool) → ((b || eqb f n) || present (numbers_from n s (at + size))) ≡ (b || present (numbers_from n s at))
-      more n b = mark b (eqb f n) v (numbers_from n s (at + size)) ∙ ap (λ (l : List ℕ). b || present l) (sym (q.numbers n))
-
-  pub range-fixed : {size : ℕ} → FixedAt s at size → RangeLeft s (at + size) start end
-  range-fixed q =
-      record {
-        start-there = ap (λ (l : List ℕ). start || present l) (sym (q.numbers 1)) ∙ i.start-there;
-        end-there = ap (λ (l : List ℕ). end || present l) (sym (q.numbers 2)) ∙ i.end-there;
+        start-there = rw a (number-there q 1 start ∙ i.start-there);
+        end-there = rw b (number-there q 2 end ∙ i.end-there);
       }
 
-  pub range-part : {f from len : ℕ} → PartAt s at f from len → RangeLeft s (at + from + len) start end
-  range-part q =
+  -- at a field that holds no number
+  pub range-passed : {behind : ℕ} → ((n : ℕ) → numbers_from n s at ≡ numbers_from n s behind) → RangeLeft s behind start end
+  range-passed e =
       record {
-        start-there = ap (λ (l : List ℕ). start || present l) (sym (q.numbers 1)) ∙ i.start-there;
-        end-there = ap (λ (l : List ℕ). end || present l) (sym (q.numbers 2)) ∙ i.end-there;
+        start-there = ap (λ (l : List ℕ). start || present l) (sym (e 1)) ∙ i.start-there;
+        end-there = ap (λ (l : List ℕ). end || present l) (sym (e 2)) ∙ i.end-there;
       }
 
   pub range-done : ((n : ℕ) → numbers_from n s at ≡ []) → (start && end) ≡ complete_within 1 IntRange (fields_of s)
@@ -121,17 +118,14 @@ segment-start s = record { id-there = refl; start-there = refl; end-there = refl
 module _ {s : List ℕ} {at : ℕ} {id start end topic : Bool} (i : SegmentLeft s at id start end topic) where
   pub segment-number : {f v size : ℕ} {id' start' end' : Bool} → NumberAt s at f v size → id' ≡ (id || eqb f 1) → start' ≡ (start || eqb f 2)
       → end' ≡ (end || eqb f 3) → SegmentLeft s (at + size) id' start' end' topic
-  segment-number {f} {v} {size} q a b c =
+  segment-number q a b c =
       record {
-        id-there = rw a (more 1 id ∙ i.id-there);
-        start-there = rw b (more 2 start ∙ i.start-there);
-        end-there = rw c (more 3 end ∙ i.end-there);
+        id-there = rw a (number-there q 1 id ∙ i.id-there);
+        start-there = rw b (number-there q 2 start ∙ i.start-there);
+        end-there = rw c (number-there q 3 end ∙ i.end-there);
         topic-there = ap (λ (l : List (List ℕ)). topic || present l) (sym (q.parts 4)) ∙ i.topic-there;
         ranges = ap ranges_in (sym (q.parts 5)) ∙ i.ranges;
       }
-    where
-      more : (n : ℕ) (b : Bool) → ((b || eqb f n) || present (numbers_from n s (at + size))) ≡ (b || present (numbers_from n s at))
-      more n b = mark b (eqb f n) v (numbers_from n s (at + size)) ∙ ap (λ (l : List ℕ). b || present l) (sym (q.numbers n))
 
   pub segment-fixed : {size : ℕ} → FixedAt s at size → SegmentLeft s (at + size) id start end topic
   segment-fixed q =
@@ -209,13 +203,9 @@ part-start s epoch segments = record { epoch-there = refl; segments-there = refl
 module _ {s : List ℕ} {at : ℕ} {epoch₀ segments₀ epoch segments : Bool} (i : PartLeft s at epoch₀ segments₀ epoch segments) where
   pub part-number : {f v size : ℕ} {epoch' : Bool} → NumberAt s at f v size → epoch' ≡ (epoch || eqb f 1)
       → PartLeft s (at + size) epoch₀ segments₀ epoch' segments
-  part-number {f} {v} {size} q e =
+  part-number q e =
       record {
-        epoch-there =
-            rw e
-            (mark epoch (eqb f 1) v (numbers_from 1 s (at + size))
-            ∙ ap (λ (l : List ℕ). epoch || present l) (sym (q.numbers 1))
-            ∙ i.epoch-there);
+        epoch-there = rw e (number-there q 1 epoch ∙ i.epoch-there);
         segments-there = ap (λ (l : List (List ℕ)). segments && segments_in l) (sym (q.parts 2)) ∙ i.segments-there;
       }
 

@@ -6,11 +6,26 @@
 
 ghost use Rattle.std.specs.Prelude.{◌≡◌, true, cond, not, ◌&&◌, ◌||◌, eqb};
 ghost use Rattle.wire.specs.Fields.{fields_of};
+ghost use Rattle.wire_values.specs.Places.{front_of};
 ghost use Rattle.wire_values.specs.Values.{numbers_of, parts_of, present, merged_fields};
 ghost use Rattle.wire_schema.specs.Required.{all_complete, complete_within, is_complete};
 
+use wire::Body;
 use wire_schema::MessageKind;
 use wire_values::Front;
+
+// `wire_values::read_front`, inlined into the walks below, which are made for each field of a message that is not in the usual form.
+#[inline(always)]
+fn read_front(s: &[u8]) -> Option<Front>
+    ensures { result ≡ front_of s.now }
+{
+    let (f, w, n) = wire::read_key(s)?;
+    match wire::read_body(w, &s[n..])? {
+        Body::Number(v, m) => Some(Front::Number(f, v, n + m)),
+        Body::Part(m, len) => Some(Front::Part(f, n + m, len)),
+        Body::Fixed(m) => Some(Front::Fixed(n + m)),
+    }
+}
 
 fn both(a: bool, b: bool) -> bool
     ensures { result ≡ (a && b) }
@@ -44,7 +59,7 @@ fn range_complete(p: &[u8]) -> bool
     let mut end = false;
     let mut at: usize = 0;
     while at < p.len() {
-        match wire_values::read_front(&p[at..]) {
+        match read_front(&p[at..]) {
             None => return both(start, end),
             Some(Front::Number(f, _, size)) => {
                 start = either(start, f == 1);
@@ -77,7 +92,7 @@ fn segment_complete(s: &[u8]) -> bool
     let mut topic = false;
     let mut at: usize = 0;
     while at < s.len() {
-        match wire_values::read_front(&s[at..]) {
+        match read_front(&s[at..]) {
             None => return all_four(id, start, end, topic),
             Some(Front::Number(f, _, size)) => {
                 id = either(id, f == 1);
@@ -122,7 +137,7 @@ fn look(s: &[u8], before: Found) -> Found
     let mut segments = before.segments;
     let mut at: usize = 0;
     while at < s.len() {
-        match wire_values::read_front(&s[at..]) {
+        match read_front(&s[at..]) {
             None => return Found { epoch, segments },
             Some(Front::Number(f, _, size)) => {
                 epoch = either(epoch, f == 1);

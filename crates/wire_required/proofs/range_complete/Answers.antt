@@ -5,7 +5,7 @@ use native.Mathlib.Omega.{arith}
 use mathlib.Core.Path.{◌≡◌, sym, ap, ◌∙◌}
 use Rattle.wire_values.specs.declared.Front.{Front}
 use Rattle.wire_values.proofs.FrontLaws.{PartAt, FrontAt, front_at, numbers-end}
-use Rattle.wire_required.proofs.LookLaws.{range-start, range-number, range-fixed, range-part, range-done}
+use Rattle.wire_required.proofs.LookLaws.{range-start, range-number, range-passed, range-done}
 use Rattle.wire_required.proofs.range_complete.Goals.{After-read_front}
 use Rattle.wire_required.proofs.range_complete.Goals as goal
 
@@ -49,7 +49,7 @@ loop-at-smaller-in-Some-Part c =
 pub loop-at-preserved-in-Some-Part : goal.loop-at-preserved-in-Some-Part
 loop-at-preserved-in-Some-Part c =
     let q = (let it : (PartAt (c.args.p.now) (c.loop-at.at) c.in-Some-Part.field-0-0 c.in-Some-Part.from c.in-Some-Part.len) = front (goal.at.loop-at-preserved-in-Some-Part c).After-read_front _ (c.in-Some-Part.is ∙ ap Some c.in-Some-Part.field-0-is) in it) in
-    range-part c.loop-at.invariant q
+    range-passed c.loop-at.invariant q.numbers
 
 pub overflow_add-at-in-Some-Fixed : goal.overflow_add-at-in-Some-Fixed
 overflow_add-at-in-Some-Fixed c =
@@ -62,7 +62,7 @@ loop-at-smaller c =
 pub loop-at-preserved : goal.loop-at-preserved
 loop-at-preserved c =
     let q = front (goal.at.loop-at-preserved c).After-read_front _ (c.in-Some-Fixed.is ∙ ap Some c.in-Some-Fixed.field-0-is) in
-    range-fixed c.loop-at.invariant q
+    range-passed c.loop-at.invariant q.numbers
 
 pub returns : goal.returns
 returns c = let l = c.loop-at in
