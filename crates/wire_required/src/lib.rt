@@ -14,7 +14,7 @@ use wire::Body;
 use wire_schema::MessageKind;
 use wire_values::Front;
 
-// `wire_values::read_front`, inlined into the walks below, which are made for each field of a message that is not in the usual form.
+// `wire_values::read_front` once more, inlined: the walks below call it for each field of a message that is not in the usual form.
 #[inline(always)]
 fn read_front(s: &[u8]) -> Option<Front>
     ensures { result ≡ front_of s.now }
